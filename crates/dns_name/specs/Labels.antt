@@ -1,0 +1,30 @@
+-- A name is a list of labels, each a list of bytes (RFC 1034, section 3.1).
+use Rattle.std.specs.Prelude.{◌≡◌, ℕ, ◌≤◌, List, [], ◌∷◌, ◌++◌, length, map}
+use Rattle.std.specs.List.{flat_map, AllByRecursion}
+use Rattle.std.specs.Char.{to_ascii_lowercase}
+
+-- a label has 1 to 63 bytes (RFC 1035, section 2.3.4)
+pub record IsLabel (label : List ℕ) : Type 0 where
+  pub not_empty : 1 ≤ length label
+  pub short : length label ≤ 63
+
+-- a label as it is written: its length and its bytes
+abbrev pub label_octets : List ℕ → List ℕ
+label_octets label = length label ∷ label
+
+-- a name as it is written: its labels, and a zero
+abbrev pub name_octets : List (List ℕ) → List ℕ
+name_octets labels = flat_map label_octets labels ++ 0 ∷ []
+
+-- a name is written in at most 255 bytes, its zero counted
+pub record IsName (name : List (List ℕ)) : Type 0 where
+  pub labels : AllByRecursion IsLabel name
+  pub short : length (name_octets name) ≤ 255
+
+-- the name with small letters in place of ASCII's capitals
+abbrev pub lowered : List (List ℕ) → List (List ℕ)
+lowered name = map (λ label. map to_ascii_lowercase label) name
+
+-- the name is the zone, with labels before it or none; capitals count as small letters
+abbrev pub IsUnder : List (List ℕ) → List (List ℕ) → Type 0
+IsUnder name zone = (front : List (List ℕ)) × (lowered name ≡ front ++ lowered zone)

@@ -1,0 +1,5 @@
+pub mod Labels
+pub mod Wire
+pub mod Standing
+pub mod Reading
+pub mod Item

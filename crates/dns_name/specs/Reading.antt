@@ -1,0 +1,62 @@
+-- Which name stands at a place of a message, or which fault does (RFC 1035, sections 3.1 and 4.1.4).
+use Rattle.std.specs.Prelude.{◌≡◌, ℕ, zero, suc, nat_lt, ◌==◌, if◌then◌else◌, ◌+◌, List, [], ◌∷◌, ◌++◌, length, take, drop, Result, Ok, Err}
+use Rattle.dns_name.specs.declared.fault.NameFault.{NameFault}
+use Rattle.dns_name.specs.declared.fault.NameFault.TheVariants.{Short, LabelType, Pointer, TooLong}
+use Rattle.dns_name.specs.declared.fault.NameError.{NameError}
+use Rattle.dns_name.specs.declared.fault.NameError.TheVariants as errors
+
+-- what a name goes on with
+pub data Piece : Type 0 where
+  end : Piece
+  label : List ℕ → Piece
+
+-- a pointer, of which the first byte is read: none is taken
+abbrev pub pointer_at : List ℕ → Result Piece NameFault
+pointer_at [] = Err Short
+pointer_at (low ∷ rest) = Err Pointer
+
+-- the piece that the bytes begin with, in a name of which `used` bytes are read, or the first fault
+abbrev pub piece_at : ℕ → List ℕ → Result Piece NameFault
+piece_at used [] = Err Short
+piece_at used (n ∷ rest) =
+    if n == 0 then Ok end
+    else (if nat_lt n 64 then (if nat_lt (length rest) n then Err Short else (if nat_lt 255 (used + n + 2) then Err TooLong else Ok (label (take n rest))))
+    else (if nat_lt n 192 then Err LabelType else pointer_at rest))
+
+-- what follows a result, which ends at the first fault
+infixl 10 ◌>>=◌
+abbrev pub ◌>>=◌ : {E A B : Type 0} → Result A E → (A → Result B E) → Result B E
+(Ok x) >>= f = f x
+(Err e) >>= f = Err e
+
+-- a name and the place after it, or a fault
+abbrev pub Outcome : Type 0
+Outcome = Result (List (List ℕ) × ℕ) NameFault
+
+-- labels before what is read
+abbrev pub with_labels : List (List ℕ) → Outcome → Outcome
+with_labels front (Ok (labels, after)) = Ok (front ++ labels, after)
+with_labels front (Err fault) = Err fault
+
+-- what follows a piece
+abbrev pub follow : (ℕ → ℕ → Outcome) → ℕ → ℕ → Piece → Outcome
+follow go used place end = Ok ([], place + 1)
+follow go used place (label first) = with_labels (first ∷ []) (go (used + length first + 1) (place + length first + 1))
+
+-- the name from a place on, in at most so many pieces
+unfoldable pub name_from : ℕ → List ℕ → ℕ → ℕ → Outcome
+name_from zero message used place = Err Short
+name_from (suc pieces) message used place = piece_at used (drop place message) >>= follow (name_from pieces message) used place
+
+-- The name at a place of a message and the place after it, or the fault. It has at most 127 labels.
+unfoldable pub name_at : List ℕ → ℕ → Outcome
+name_at message at = name_from 256 message 0 at
+
+-- What a function returned, seen by view, is what reading gives, unless memory ran out.
+abbrev pub Fails : {Y : Type 0} → NameError → Result Y NameFault → Type 0
+Fails errors.OutOfMemory read = Unit {0}
+Fails (errors.Fault f) read = read ≡ Err f
+
+abbrev pub Gives : {X Y : Type 0} → (X → Y) → Result X NameError → Result Y NameFault → Type 0
+Gives view (Ok x) read = read ≡ Ok (view x)
+Gives view (Err e) read = Fails e read

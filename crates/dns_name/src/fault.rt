@@ -1,0 +1,51 @@
+//! Why a name could not be read.
+
+ghost use Rattle.std.specs.Prelude.{◌≡◌};
+ghost use Rattle.dns_name.specs.declared.fault.NameError.TheVariants.{OutOfMemory, Fault as AFault};
+
+use std::alloc::{AllocError, AllocFailed};
+
+/// What is wrong with a name in a message, told at the first byte that shows it. Where one byte shows
+/// several faults, the first of this list is told.
+#[derive(Clone, Copy, Debug, PartialEq, Eq)]
+pub enum NameFault {
+    /// A length byte, a label or a pointer reaches past the end of the message.
+    Short,
+    /// A length byte begins with the bits 01 or 10 (RFC 1035, section 4.1.4).
+    LabelType,
+    /// A compression pointer that is not taken. No pointer is taken yet.
+    Pointer,
+    /// The name would be longer than 255 bytes, its closing zero counted (RFC 1035, section 2.3.4).
+    TooLong,
+}
+
+/// Why a name could not be read: a fault of the bytes, or want of memory.
+#[derive(Clone, Copy, Debug, PartialEq, Eq)]
+pub enum NameError {
+    OutOfMemory,
+    Fault(NameFault),
+}
+
+impl From<AllocError> for NameError {
+    ghost from_gives = { λ _ e. e ≡ OutOfMemory };
+
+    fn from(_e: AllocError) -> NameError {
+        NameError::OutOfMemory
+    }
+}
+
+impl<T: Drop> From<AllocFailed<T>> for NameError {
+    ghost from_gives = { λ _ e. e ≡ OutOfMemory };
+
+    fn from(_e: AllocFailed<T>) -> NameError {
+        NameError::OutOfMemory
+    }
+}
+
+impl From<NameFault> for NameError {
+    ghost from_gives = { λ fault e. e ≡ AFault fault };
+
+    fn from(fault: NameFault) -> NameError {
+        NameError::Fault(fault)
+    }
+}

@@ -1,0 +1,42 @@
+//! One label of a name in a message.
+
+ghost use Rattle.std.specs.Prelude.{◌≡◌, ◌≤◌, MatchResult, IfOk, drop, Ok, Err};
+ghost use Rattle.dns_name.specs.Reading.{piece_at};
+ghost use Rattle.dns_name.specs.Item.{piece_of, IsWithin};
+
+use crate::fault::NameFault;
+
+/// What a name goes on with.
+#[derive(Clone, Copy, Debug)]
+pub enum Item<'a> {
+    End,
+    Label(&'a [u8]),
+}
+
+/// The item at a place of a message, in a name of which `used` bytes are read.
+pub fn item_at(message: &[u8], place: usize, used: usize) -> Result<Item<'_>, NameFault>
+    requires { used ≤ 254 }
+    ensures item { MatchResult result (λ item. piece_at used (drop place message.now) ≡ Ok (piece_of item)) (λ fault. piece_at used (drop place message.now) ≡ Err fault) }
+    ensures within { IfOk result (IsWithin used) }
+{
+    if place >= message.len() {
+        return Err(NameFault::Short);
+    }
+    match &message[place..] {
+        [] => Err(NameFault::Short),
+        [0, ..] => Ok(Item::End),
+        [64..=191, ..] => Err(NameFault::LabelType),
+        [192..=255] => Err(NameFault::Short),
+        [192..=255, _, ..] => Err(NameFault::Pointer),
+        [len, rest @ ..] => {
+            let len = *len as usize;
+            if rest.len() < len {
+                return Err(NameFault::Short);
+            }
+            if used + len + 2 > 255 {
+                return Err(NameFault::TooLong);
+            }
+            Ok(Item::Label(&rest[..len]))
+        }
+    }
+}

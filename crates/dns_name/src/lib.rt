@@ -1,0 +1,16 @@
+//! Domain names: lists of labels, their form in messages (RFC 1035, section 3.1) and as text.
+//!
+//! A name is one buffer that holds it as it is written in a message. Contracts see the list of its labels.
+#![tactic(auto)]
+
+mod cursor;
+mod fault;
+mod item;
+pub mod laws;
+mod name;
+mod octets;
+
+pub use cursor::Labels;
+pub use fault::{NameError, NameFault};
+pub use name::Name;
+pub use octets::Octets;

@@ -1,0 +1,142 @@
+//! A domain name in one buffer.
+
+ghost use Rattle.std.specs.Prelude.{◌≡◌, ℕ, List, [], ◌∷◌, ◌++◌, length, IfOk, OnOk, OnErr, IsTrue, ◌↔◌};
+ghost use Rattle.dns_name.specs.Labels.{IsName, name_octets, lowered, IsUnder};
+ghost use Rattle.dns_name.specs.Reading.{Gives, name_at};
+
+use crate::cursor::Labels;
+use crate::fault::NameError;
+use crate::item::{Item, item_at};
+use crate::octets::Octets;
+use std::alloc::{AllocError, Global};
+use std::marker::Model;
+
+/// A domain name: labels of 1 to 63 bytes, which are written in at most 255 bytes with their length
+/// bytes and the zero at the end (RFC 1035, sections 2.3.4 and 3.1). The letters of ASCII are kept as
+/// they came, and compare without case.
+///
+/// It lies in memory as it is written, in one allocation.
+#[derive(Clone, Debug, Drop)]
+pub struct Name {
+    wire: Vec<u8>,
+}
+
+impl Model for Name {
+    ghost use Rattle.std.specs.Prelude.{ℕ, List};
+    ghost use Rattle.dns_name.specs.Wire.{labels_in, IsWire};
+
+    ghost Value = { List (List ℕ) };
+
+    ghost view = { λ n. labels_in n.wire.items };
+
+    ghost invariant = { λ n. IsWire n.wire.items };
+}
+
+impl Name {
+    /// The root, which has no label.
+    pub fn root(alloc: Global) -> Result<Self, AllocError>
+        ensures { IfOk result (λ name. name ≡ []) }
+    {
+        Ok(Name {
+            wire: Vec::from_slice(alloc, &[0])?,
+        })
+    }
+
+    /// The labels, from the first on.
+    pub fn labels(&self) -> Labels<'_>
+        ensures labels { result ≡ self.now }
+        ensures name { IsName self.now }
+    {
+        Labels::new(&self.wire)
+    }
+
+    /// The name as it is written in a message, in full.
+    pub fn octets(&self) -> &[u8]
+        ensures octets { result.now ≡ name_octets self.now }
+        ensures name { IsName self.now }
+    {
+        &self.wire
+    }
+
+    /// How many labels there are, the root's none not counted.
+    pub fn label_count(&self) -> usize
+        ensures count { result ≡ length self.now }
+        ensures name { IsName self.now }
+    {
+        let mut labels = self.labels();
+        let mut count = 0;
+        while let Some(_label) = labels.next_label() {
+            count += 1;
+        }
+        count
+    }
+
+    fn walk(alloc: Global, message: &[u8], at: usize) -> Result<(Name, usize), NameError>
+        ensures { Gives (λ x. x) result (name_at message.now at) }
+    {
+        let mut wire = Vec::with_capacity(alloc, 32)?;
+        let mut used = 0usize;
+        let mut place = at;
+        loop {
+            match item_at(message, place, used)? {
+                Item::End => {
+                    wire.push(0)?;
+                    return Ok((Name { wire }, place + 1));
+                }
+                Item::Label(label) => {
+                    wire.push(label.len() as u8)?;
+                    wire.extend_from_slice(label)?;
+                    used += label.len() + 1;
+                    place += label.len() + 1;
+                }
+            }
+        }
+    }
+
+    /// The name at a place of a message, and the place after it, or the first fault. Only a name in full
+    /// is read so far: a compression pointer is a fault.
+    pub fn read(alloc: Global, bytes: &[u8], at: usize) -> Result<(Name, usize), NameError>
+        ensures exact { Gives (λ x. x) result (name_at bytes.now at) }
+        ensures name { IfOk result (λ x. IsName x.0) }
+    {
+        Name::walk(alloc, bytes, at)
+    }
+
+    /// Writes the name in full at the end. An `Err` leaves what was written before.
+    pub fn write(&self, out: &mut Octets) -> Result<(), AllocError>
+        ensures ok { OnOk result (out.new ≡ out.old ++ name_octets self.now) }
+        ensures err { OnErr result (out.new ≡ out.old) }
+        ensures name { IsName self.now }
+    {
+        out.append(&self.wire)
+    }
+
+    /// The name with small letters in place of ASCII's capitals.
+    pub fn lower(&self, alloc: Global) -> Result<Name, AllocError>
+        ensures { IfOk result (λ name. name ≡ lowered self.now) }
+    {
+        let mut wire = Vec::from_slice(alloc, &self.wire)?;
+        wire.make_ascii_lowercase();
+        Ok(Name { wire })
+    }
+
+    /// Whether the names are alike. Capitals of ASCII count as small letters.
+    pub fn is_same(&self, other: &Name) -> bool
+        ensures { IsTrue result ↔ (lowered self.now ≡ lowered other.now) }
+    {
+        self.octets().eq_ignore_ascii_case(other.octets())
+    }
+
+    /// Whether the name is the other or lies below it: its last labels are the other's. Capitals of ASCII
+    /// count as small letters.
+    pub fn is_under(&self, other: &Name) -> bool
+        ensures { IsTrue result ↔ IsUnder self.now other.now }
+    {
+        let zone = other.octets();
+        let mut labels = self.labels();
+        while labels.octets().len() > zone.len() {
+            let _label = labels.next_label();
+        }
+        labels.octets().eq_ignore_ascii_case(zone)
+    }
+}
