@@ -1,0 +1,4 @@
+pub mod Parts
+pub mod Writing
+pub mod Numbers
+pub mod Data

@@ -1,0 +1,6 @@
+-- What is written in several steps, one after another.
+use Rattle.std.proofs.Common.{◌≡◌, ℕ, List, ◌++◌, sym, ap, ◌∙◌, append_assoc}
+
+-- six pieces after what stands before them
+pub regrouped : (before a b c d e f : List ℕ) → (((((before ++ a) ++ b) ++ c) ++ d) ++ e) ++ f ≡ before ++ (((((a ++ b) ++ c) ++ d) ++ e) ++ f)
+regrouped before a b c d e f = simp append_assoc

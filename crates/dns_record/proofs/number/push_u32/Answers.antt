@@ -1,0 +1,7 @@
+use Rattle.std.proofs.Common.{rules}
+use Rattle.dns_record.specs.Number.{number_octets}
+use Rattle.dns_record.proofs.number.push_u32.Goals as goal
+
+pub returns-clause-ok : goal.returns-clause-ok
+unfolding number_octets
+returns-clause-ok c = rw c.write_u32.ensures at c.append.ensures.ok

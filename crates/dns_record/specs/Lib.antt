@@ -1,0 +1,6 @@
+pub mod Number
+pub mod Part
+pub mod Record
+pub mod Becomes
+pub mod Reading
+pub mod Soa

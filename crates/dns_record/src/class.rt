@@ -1,0 +1,4 @@
+//! Classes of records (RFC 1035, section 3.2.4).
+
+/// The Internet.
+pub const IN: u16 = 1;

@@ -1,0 +1,63 @@
+//! Why a record could not be read.
+
+ghost use Rattle.std.specs.Prelude.{◌≡◌};
+ghost use Rattle.dns_record.specs.declared.fault.RecordError.TheVariants.{OutOfMemory, Fault as AFault};
+ghost use Rattle.dns_record.specs.Becomes.{Becomes};
+
+use dns_name::{NameError, NameFault};
+use std::alloc::{AllocError, AllocFailed};
+
+/// What is wrong with a record in a message.
+#[derive(Clone, Copy, Debug, PartialEq, Eq)]
+pub enum RecordFault {
+    /// The owner is no name.
+    Name(NameFault),
+    /// The record reaches past the end of the message.
+    Short,
+    /// The data is not such as the type has, or does not fill its length, or the type or the class is
+    /// one that is not read yet.
+    Data,
+}
+
+/// Why a record could not be read: a fault of the bytes, or want of memory.
+#[derive(Clone, Copy, Debug, PartialEq, Eq)]
+pub enum RecordError {
+    OutOfMemory,
+    Fault(RecordFault),
+}
+
+impl From<AllocError> for RecordError {
+    ghost from_gives = { λ _ e. e ≡ OutOfMemory };
+
+    fn from(_e: AllocError) -> RecordError {
+        RecordError::OutOfMemory
+    }
+}
+
+impl<T: Drop> From<AllocFailed<T>> for RecordError {
+    ghost from_gives = { λ _ e. e ≡ OutOfMemory };
+
+    fn from(_e: AllocFailed<T>) -> RecordError {
+        RecordError::OutOfMemory
+    }
+}
+
+impl From<RecordFault> for RecordError {
+    ghost from_gives = { λ fault e. e ≡ AFault fault };
+
+    fn from(fault: RecordFault) -> RecordError {
+        RecordError::Fault(fault)
+    }
+}
+
+/// An error of a name is the error of the owner.
+impl From<NameError> for RecordError {
+    ghost from_gives = { Becomes };
+
+    fn from(error: NameError) -> RecordError {
+        match error {
+            NameError::OutOfMemory => RecordError::OutOfMemory,
+            NameError::Fault(fault) => RecordError::Fault(RecordFault::Name(fault)),
+        }
+    }
+}

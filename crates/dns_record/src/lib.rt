@@ -1,0 +1,23 @@
+//! Resource records (RFC 1035, section 3.2.1), read from messages and written with their names in full.
+//!
+//! Read so far: records of the types CNAME and SOA in class IN.
+#![tactic(auto)]
+
+pub mod class;
+mod fault;
+pub mod laws;
+pub mod number;
+mod part;
+mod reading;
+mod record;
+mod records;
+pub mod rtype;
+mod soa;
+mod soa_reading;
+
+pub use fault::{RecordError, RecordFault};
+pub use reading::read_record;
+pub use record::Record;
+pub use records::Records;
+pub use soa::Soa;
+pub use soa_reading::soa_of;
