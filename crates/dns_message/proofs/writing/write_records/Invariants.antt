@@ -1,0 +1,6 @@
+use Rattle.std.proofs.Common.{◌≡◌, ◌++◌, take}
+use Rattle.dns_message.specs.Spelling.{records_octets}
+use Rattle.dns_message.proofs.writing.write_records.Given as goal
+
+abbrev pub invariant-loop-rr : goal.invariant-loop-rr
+invariant-loop-rr l = l.out ≡ l.initial.out ++ records_octets (take l.rr-index l.records)

@@ -1,0 +1,86 @@
+-- Which message the bytes are, or which is their first fault (RFC 1035, section 4.1).
+use Rattle.std.specs.Prelude.{◌≡◌, ℕ, zero, suc, ◌+◌, ◌/◌, ◌%◌, ◌==◌, Bool, nat_lt, if◌then◌else◌, List, [], ◌∷◌, length, slice_index, Option, Some, None, Result, Ok, Err}
+use Rattle.dns_name.specs.Reading.{◌>>=◌, name_at}
+use Rattle.dns_record.specs.Number.{number_at}
+use Rattle.dns_record.specs.Reading.{record_at}
+use Rattle.dns_record.specs.Record.{PlainRecord}
+use Rattle.dns_message.specs.declared.fault.MessageFault.{MessageFault}
+use Rattle.dns_message.specs.declared.fault.MessageFault.TheVariants.{Short, Question as Questions, Trailing}
+use Rattle.dns_message.specs.declared.fault.MessageError.{MessageError}
+use Rattle.dns_message.specs.declared.fault.MessageError.TheVariants as errors
+use Rattle.dns_message.specs.declared.header.Header.{Header}
+use Rattle.dns_message.specs.declared.message.Message.{Message}
+use Rattle.dns_message.specs.declared.question.Question.{Question}
+use Rattle.dns_message.specs.Becomes.{as_record, as_question}
+
+-- whether the bit of this value is 1
+abbrev pub is_set : ℕ → ℕ → Bool
+is_set value octet = octet / value % 2 == 1
+
+-- the header of a message of at least 12 octets, but for its counts and the bits Z
+unfoldable pub header_in : List ℕ → Header
+header_in bytes =
+    let first = slice_index bytes 2 in
+    let second = slice_index bytes 3 in
+    record {
+      id = number_at 2 bytes 0;
+      qr = is_set 128 first;
+      opcode = first / 8 % 16;
+      aa = is_set 4 first;
+      tc = is_set 2 first;
+      rd = is_set 1 first;
+      ra = is_set 128 second;
+      rcode = second % 16;
+    }
+
+-- the place after so many octets, which the message must have
+abbrev pub end_at : List ℕ → ℕ → ℕ → Result ℕ MessageFault
+end_at bytes place count = if nat_lt (length bytes) (place + count) then Err Short else Ok (place + count)
+
+-- the question at a place, and the place after it
+unfoldable pub question_at : List ℕ → ℕ → Result (Question × ℕ) MessageFault
+question_at bytes place = do
+  name ← as_question (name_at bytes place)
+  after ← end_at bytes name.1 4
+  Ok (record { name = name.0; qtype = number_at 2 bytes name.1; qclass = number_at 2 bytes (name.1 + 2) }, after)
+
+abbrev pub some_question : Question × ℕ → Result (Option Question × ℕ) MessageFault
+some_question read = Ok (Some read.0, read.1)
+
+-- no question or one behind the header, and the place after it
+unfoldable pub questions_at : ℕ → List ℕ → Result (Option Question × ℕ) MessageFault
+questions_at count bytes = if count == 0 then Ok (None, 12) else (if count == 1 then question_at bytes 12 >>= some_question else Err Questions)
+
+-- so many records from a place on, and the place after them
+unfoldable pub records_at : ℕ → List ℕ → ℕ → Result (List PlainRecord × ℕ) MessageFault
+records_at zero bytes place = Ok ([], place)
+records_at (suc count) bytes place = do
+  first ← as_record (record_at bytes place)
+  others ← records_at count bytes first.1
+  Ok (first.0 ∷ others.0, others.1)
+
+-- a message that ends at this place
+abbrev pub ended : List ℕ → ℕ → Message → Result Message MessageFault
+ended bytes place message = if nat_lt place (length bytes) then Err Trailing else Ok message
+
+-- the message after its header
+unfoldable pub sections_of : List ℕ → Result Message MessageFault
+sections_of bytes = do
+  question ← questions_at (number_at 2 bytes 4) bytes
+  answer ← records_at (number_at 2 bytes 6) bytes question.1
+  authority ← records_at (number_at 2 bytes 8) bytes answer.1
+  additional ← records_at (number_at 2 bytes 10) bytes authority.1
+  ended bytes additional.1 (record { header = header_in bytes; question = question.0; answer = answer.0; authority = authority.0; additional = additional.0 })
+
+-- The message that the bytes are, or the first fault.
+unfoldable pub message_of : List ℕ → Result Message MessageFault
+message_of bytes = if nat_lt (length bytes) 12 then Err Short else sections_of bytes
+
+-- What a function returned, seen by view, is what reading gives, unless memory ran out.
+abbrev pub Fails : {Y : Type 0} → MessageError → Result Y MessageFault → Type 0
+Fails errors.OutOfMemory read = Unit {0}
+Fails (errors.Fault f) read = read ≡ Err f
+
+abbrev pub Gives : {X Y : Type 0} → (X → Y) → Result X MessageError → Result Y MessageFault → Type 0
+Gives view (Ok x) read = read ≡ Ok (view x)
+Gives view (Err e) read = Fails e read

@@ -1,0 +1,1 @@
+//! Laws of messages. Each function is its clauses, and does nothing.

@@ -1,0 +1,135 @@
+//! Writes a message, its names in full.
+
+ghost use Rattle.std.specs.Prelude.{◌≡◌, ◌≤◌, ◌++◌, length, take, option_copied, IfOk, OnOk, OnErr};
+ghost use Rattle.dns_record.specs.Number.{number_octets};
+ghost use Rattle.dns_message.specs.Spelling.{first_flags as flags_first, second_flags as flags_second, question_octets, records_octets, header_octets, parts_octets, spelled};
+
+use crate::header::Header;
+use crate::message::Message;
+use crate::question::Question;
+use dns_name::Octets;
+use dns_record::Record;
+use dns_record::number::push_u16;
+use std::alloc::{AllocError, Global};
+
+/// The bytes of the message, its names in full and the bits Z 0. The limit is 512 to 65,535 bytes; no
+/// message is truncated to it yet.
+pub fn write_message(alloc: Global, message: &Message, limit: usize) -> Result<Octets, AllocError>
+    requires low { 512 ≤ limit }
+    requires high { limit ≤ 65535 }
+    ensures { IfOk result (λ octets. octets ≡ spelled message.now) }
+{
+    let mut out = Octets::with_capacity(alloc, 512)?;
+    write_parts(
+        &mut out,
+        &message.header,
+        message.question.as_ref(),
+        message.answer.as_slice(),
+        message.authority.as_slice(),
+        message.additional.as_slice(),
+    )?;
+    Ok(out)
+}
+
+/// Writes the message of these parts at the end, its names in full and the bits Z 0. An `Err` leaves
+/// what was written before, and maybe a part of the message behind it.
+#[tactic(auto, unfolding(crate::specs::Spelling::parts_octets), using(crate::proofs::Pieces::regrouped))]
+pub fn write_parts(
+    out: &mut Octets,
+    header: &Header,
+    question: Option<&Question>,
+    answer: &[Record],
+    authority: &[Record],
+    additional: &[Record],
+) -> Result<(), AllocError>
+    ensures ok { OnOk result (out.new ≡ out.old ++ parts_octets 0 header.now (option_copied question.entry) answer.now authority.now additional.now) }
+    ensures begins { take (length out.old) out.new ≡ out.old }
+{
+    write_header(
+        out,
+        header,
+        usize::from(question.is_some()),
+        answer.len(),
+        authority.len(),
+        additional.len(),
+    )?;
+    write_question(out, question)?;
+    write_records(out, answer)?;
+    write_records(out, authority)?;
+    write_records(out, additional)
+}
+
+// Writes the header, its bits Z 0.
+#[tactic(auto, unfolding(crate::specs::Spelling::header_octets, crate::specs::Spelling::count_octets))]
+fn write_header(
+    out: &mut Octets,
+    header: &Header,
+    questions: usize,
+    answers: usize,
+    authorities: usize,
+    additionals: usize,
+) -> Result<(), AllocError>
+    ensures ok { OnOk result (out.new ≡ out.old ++ header_octets 0 header.now questions answers authorities additionals) }
+    ensures begins { take (length out.old) out.new ≡ out.old }
+{
+    push_u16(out, header.id)?;
+    out.push(first_flags(header))?;
+    out.push(second_flags(header))?;
+    push_count(out, questions)?;
+    push_count(out, answers)?;
+    push_count(out, authorities)?;
+    push_count(out, additionals)
+}
+
+// The third byte of the header.
+fn first_flags(header: &Header) -> u8
+    ensures { result ≡ flags_first header.now }
+{
+    u8::from(header.qr) * 128
+        + header.opcode % 16 * 8
+        + u8::from(header.aa) * 4
+        + u8::from(header.tc) * 2
+        + u8::from(header.rd)
+}
+
+// The fourth byte of the header, its bits Z 0.
+fn second_flags(header: &Header) -> u8
+    ensures { result ≡ flags_second 0 header.now }
+{
+    u8::from(header.ra) * 128 + header.rcode % 16
+}
+
+// Writes the lowest 16 bits of a count.
+fn push_count(out: &mut Octets, count: usize) -> Result<(), AllocError>
+    ensures ok { OnOk result (out.new ≡ out.old ++ number_octets 2 count) }
+    ensures err { OnErr result (out.new ≡ out.old) }
+{
+    push_u16(out, (count % 65536) as u16)
+}
+
+// Writes the question, where there is one.
+#[tactic(auto, unfolding(crate::specs::Spelling::question_octets))]
+fn write_question(out: &mut Octets, question: Option<&Question>) -> Result<(), AllocError>
+    ensures ok { OnOk result (out.new ≡ out.old ++ question_octets (option_copied question.entry)) }
+    ensures begins { take (length out.old) out.new ≡ out.old }
+{
+    match question {
+        None => Ok(()),
+        Some(question) => {
+            question.name.write(out)?;
+            push_u16(out, question.qtype)?;
+            push_u16(out, question.qclass)
+        }
+    }
+}
+
+// Writes records one after another.
+fn write_records(out: &mut Octets, records: &[Record]) -> Result<(), AllocError>
+    ensures ok { OnOk result (out.new ≡ out.old ++ records_octets records.now) }
+    ensures begins { take (length out.old) out.new ≡ out.old }
+{
+    for rr in records {
+        rr.write(out)?;
+    }
+    Ok(())
+}
