@@ -1,3 +1,5 @@
 pub mod Loop
 pub mod WireLemmas
 pub mod Standing
+pub mod TextLemmas
+pub mod TextLaw

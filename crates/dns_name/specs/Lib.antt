@@ -3,3 +3,4 @@ pub mod Wire
 pub mod Standing
 pub mod Reading
 pub mod Item
+pub mod Text

@@ -1,7 +1,8 @@
-//! Why a name could not be read.
+//! Why a name could not be read, from a message or from text.
 
 ghost use Rattle.std.specs.Prelude.{◌≡◌};
 ghost use Rattle.dns_name.specs.declared.fault.NameError.TheVariants.{OutOfMemory, Fault as AFault};
+ghost use Rattle.dns_name.specs.declared.fault.TextError.TheVariants.{OutOfMemory as NoMemory, Fault as AText};
 
 use std::alloc::{AllocError, AllocFailed};
 
@@ -47,5 +48,50 @@ impl From<NameFault> for NameError {
 
     fn from(fault: NameFault) -> NameError {
         NameError::Fault(fault)
+    }
+}
+
+/// What is wrong with a name as text. Where there are several faults, the first in the order `Empty`,
+/// `Char`, `Label`, `TooLong` is told.
+#[derive(Clone, Copy, Debug, PartialEq, Eq)]
+pub enum TextFault {
+    /// There is no label: the text is empty, or one dot.
+    Empty,
+    /// A label is empty, or has more than 63 bytes (RFC 1035, section 2.3.4).
+    Label,
+    /// A byte is no ASCII letter, no digit and none of `-`, `_`, `*` and the dot.
+    Char,
+    /// The name would be written in more than 255 bytes (RFC 1035, section 2.3.4).
+    TooLong,
+}
+
+/// Why a text is no name: a fault of the text, or want of memory.
+#[derive(Clone, Copy, Debug, PartialEq, Eq)]
+pub enum TextError {
+    OutOfMemory,
+    Fault(TextFault),
+}
+
+impl From<AllocError> for TextError {
+    ghost from_gives = { λ _ e. e ≡ NoMemory };
+
+    fn from(_e: AllocError) -> TextError {
+        TextError::OutOfMemory
+    }
+}
+
+impl<T: Drop> From<AllocFailed<T>> for TextError {
+    ghost from_gives = { λ _ e. e ≡ NoMemory };
+
+    fn from(_e: AllocFailed<T>) -> TextError {
+        TextError::OutOfMemory
+    }
+}
+
+impl From<TextFault> for TextError {
+    ghost from_gives = { λ fault e. e ≡ AText fault };
+
+    fn from(fault: TextFault) -> TextError {
+        TextError::Fault(fault)
     }
 }

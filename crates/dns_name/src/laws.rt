@@ -1,9 +1,10 @@
 //! Laws of names in messages. Each function is its clauses, and does nothing.
 
-ghost use Rattle.std.specs.Prelude.{◌≡◌, ℕ, ◌+◌, List, ◌++◌, length, Ok};
+ghost use Rattle.std.specs.Prelude.{◌≡◌, ◌≢◌, ℕ, ◌+◌, List, [], ◌++◌, length, Ok, IsTrue};
 ghost use Rattle.dns_name.specs.Labels.{IsName, name_octets};
 ghost use Rattle.dns_name.specs.Reading.{name_at};
 ghost use Rattle.dns_name.specs.Standing.{Stands};
+ghost use Rattle.dns_name.specs.Text.{has_label_bytes, text_of, text_name};
 
 /// What is written as a name is read as that name, wherever it stands in a message, and nothing else is
 /// read as a name.
@@ -23,4 +24,10 @@ pub fn what_stands_in_two_parts()
     ensures both { (first second message : List ℕ) (at middle after : ℕ) → Stands first message at middle → Stands second message middle after → Stands (first ++ second) message at after }
     ensures first { (first second message : List ℕ) (at after : ℕ) → Stands (first ++ second) message at after → Stands first message at (at + length first) }
     ensures second { (first second message : List ℕ) (at after : ℕ) → Stands (first ++ second) message at after → Stands second message (at + length first) after }
+{}
+
+/// A name other than the root, of letters, digits, `-`, `_` and `*` only, is read back from the text of its
+/// labels with dots between them.
+pub fn a_name_is_read_from_its_text()
+    ensures { (name : List (List ℕ)) → IsName name → name ≢ [] → IsTrue (has_label_bytes name) → text_name (text_of name) ≡ Ok name }
 {}

@@ -9,8 +9,11 @@ mod item;
 pub mod laws;
 mod name;
 mod octets;
+#[cfg(test)]
+mod tests;
+mod text;
 
 pub use cursor::Labels;
-pub use fault::{NameError, NameFault};
+pub use fault::{NameError, NameFault, TextError, TextFault};
 pub use name::Name;
 pub use octets::Octets;

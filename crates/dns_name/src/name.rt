@@ -3,6 +3,7 @@
 ghost use Rattle.std.specs.Prelude.{◌≡◌, ℕ, List, [], ◌∷◌, ◌++◌, length, IfOk, OnOk, OnErr, IsTrue, ◌↔◌};
 ghost use Rattle.dns_name.specs.Labels.{IsName, name_octets, lowered, IsUnder};
 ghost use Rattle.dns_name.specs.Reading.{Gives, name_at};
+ghost use Rattle.dns_name.specs.Wire.{labels_in, IsWire};
 
 use crate::cursor::Labels;
 use crate::fault::NameError;
@@ -33,6 +34,14 @@ impl Model for Name {
 }
 
 impl Name {
+    /// The name that is written so.
+    pub(crate) fn from_wire(wire: Vec<u8>) -> Self
+        requires { IsWire wire.items }
+        ensures { result ≡ labels_in wire.items }
+    {
+        Name { wire }
+    }
+
     /// The root, which has no label.
     pub fn root(alloc: Global) -> Result<Self, AllocError>
         ensures { IfOk result (λ name. name ≡ []) }

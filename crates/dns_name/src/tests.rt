@@ -1,0 +1,170 @@
+use super::*;
+use std::test::*;
+
+// A name as it is written, with labels of so many letters each.
+fn written(rt: &HostRuntime, lens: &[u8]) -> Result<Vec<u8>, Fail> {
+    let mut wire = Vec::new(rt.alloc());
+    for len in lens {
+        wire.push(*len)?;
+        for _i in 0..*len {
+            wire.push(b'a')?;
+        }
+    }
+    wire.push(0)?;
+    Ok(wire)
+}
+
+// Such a name as text, with a dot behind each label.
+fn spelled(rt: &HostRuntime, lens: &[u8]) -> Result<Vec<u8>, Fail> {
+    let mut text = Vec::new(rt.alloc());
+    for len in lens {
+        for _i in 0..*len {
+            text.push(b'a')?;
+        }
+        text.push(b'.')?;
+    }
+    Ok(text)
+}
+
+fn fault_of(rt: &HostRuntime, bytes: &[u8]) -> Option<NameError> {
+    Name::read(rt.alloc(), bytes, 0).err()
+}
+
+fn text_fault_of(rt: &HostRuntime, text: &[u8]) -> Option<TextError> {
+    Name::from_text(rt.alloc(), text).err()
+}
+
+// The names of RFC 1035, section 4.1.4, written in full.
+#[test]
+fn names_are_read(rt: HostRuntime) -> Result<(), Fail> {
+    let message = b"\x01F\x03ISI\x04ARPA\x00\x03FOO\x01F\x03ISI\x04ARPA\x00";
+    let (isi, after) = Name::read(rt.alloc(), message, 0)?;
+    assert_eq!(rt; after, 12);
+    assert_eq!(rt; isi.octets(), b"\x01F\x03ISI\x04ARPA\x00".as_slice());
+    let (foo, end) = Name::read(rt.alloc(), message, after)?;
+    assert_eq!(rt; end, 28);
+    assert_eq!(rt; foo.label_count(), 4);
+    assert!(rt; foo.is_under(&isi) && !isi.is_under(&foo));
+    let small = foo.lower(rt.alloc())?;
+    assert_eq!(rt;
+        small.octets(),
+        b"\x03foo\x01f\x03isi\x04arpa\x00".as_slice()
+    );
+    assert!(rt; small.is_same(&foo) && !small.is_same(&isi));
+    let mut labels = foo.labels();
+    labels.skip(2);
+    assert_eq!(rt; labels.octets(), b"\x03ISI\x04ARPA\x00".as_slice());
+    assert_eq!(rt; labels.next_label().ok_or("label")?, b"ISI".as_slice());
+    let root = Name::root(rt.alloc())?;
+    assert!(rt; foo.is_under(&root) && !root.is_under(&foo));
+    assert_eq!(rt; root.octets(), b"\x00".as_slice());
+    Ok(())
+}
+
+#[test]
+fn names_are_refused(rt: HostRuntime) -> Result<(), Fail> {
+    let cases = [
+        (b"".as_slice(), NameFault::Short),
+        (b"\x01a".as_slice(), NameFault::Short),
+        (b"\x03ab".as_slice(), NameFault::Short),
+        (b"\x01a\xc0".as_slice(), NameFault::Short),
+        (b"\x40".as_slice(), NameFault::LabelType),
+        (b"\x01a\x80\x00".as_slice(), NameFault::LabelType),
+        (b"\xc0\x00".as_slice(), NameFault::Pointer),
+    ];
+    for (bytes, fault) in cases {
+        assert_eq!(rt;
+            fault_of(&rt, bytes),
+            Some(NameError::Fault(fault)),
+            "{bytes:?}"
+        );
+    }
+    let too_long = Some(NameError::Fault(NameFault::TooLong));
+    let mut long = written(&rt, &[63, 63, 63, 63])?;
+    assert_eq!(rt; fault_of(&rt, &long), too_long);
+    long.truncate(255);
+    assert_eq!(rt;
+        fault_of(&rt, &long),
+        Some(NameError::Fault(NameFault::Short))
+    );
+    assert_eq!(rt; fault_of(&rt, &written(&rt, &[63, 63, 63, 62])?), too_long);
+    let longest = written(&rt, &[63, 63, 63, 61])?;
+    assert_eq!(rt; longest.len(), 255);
+    let (name, after) = Name::read(rt.alloc(), &longest, 0)?;
+    assert_eq!(rt; after, 255);
+    assert_eq!(rt; name.octets(), longest.as_slice());
+    Ok(())
+}
+
+#[test]
+fn texts_are_read(rt: HostRuntime) -> Result<(), Fail> {
+    let cases = [
+        (
+            b"F.ISI.ARPA".as_slice(),
+            b"\x01F\x03ISI\x04ARPA\x00".as_slice(),
+        ),
+        (b"a-Z.".as_slice(), b"\x03a-Z\x00".as_slice()),
+        (b"*._09".as_slice(), b"\x01*\x03_09\x00".as_slice()),
+    ];
+    for (text, octets) in cases {
+        let name = Name::from_text(rt.alloc(), text)?;
+        assert_eq!(rt; name.octets(), octets, "{text:?}");
+    }
+    let faults = [
+        (b"".as_slice(), TextFault::Empty),
+        (b".".as_slice(), TextFault::Empty),
+        (b"a b".as_slice(), TextFault::Char),
+        (b"..\xc3".as_slice(), TextFault::Char),
+        (b"..".as_slice(), TextFault::Label),
+        (b".a".as_slice(), TextFault::Label),
+        (b"a..".as_slice(), TextFault::Label),
+    ];
+    for (text, fault) in faults {
+        assert_eq!(rt;
+            text_fault_of(&rt, text),
+            Some(TextError::Fault(fault)),
+            "{text:?}"
+        );
+    }
+    let label = Some(TextError::Fault(TextFault::Label));
+    assert_eq!(rt; text_fault_of(&rt, &spelled(&rt, &[64])?), label);
+    assert_eq!(rt;
+        text_fault_of(&rt, &spelled(&rt, &[63, 63, 63, 64])?),
+        label
+    );
+    let too_long = Some(TextError::Fault(TextFault::TooLong));
+    assert_eq!(rt;
+        text_fault_of(&rt, &spelled(&rt, &[63, 63, 63, 62])?),
+        too_long
+    );
+    let longest = Name::from_text(rt.alloc(), &spelled(&rt, &[63, 63, 63, 61])?)?;
+    assert_eq!(rt;
+        longest.octets(),
+        written(&rt, &[63, 63, 63, 61])?.as_slice()
+    );
+    Ok(())
+}
+
+#[test]
+fn octets_are_written(rt: HostRuntime) -> Result<(), Fail> {
+    let mut out = Octets::new(rt.alloc());
+    out.push(7)?;
+    Name::from_text(rt.alloc(), b"a.B")?.write(&mut out)?;
+    out.append(b"\x08\x09")?;
+    assert_eq!(rt; out.as_slice(), b"\x07\x01a\x01B\x00\x08\x09".as_slice());
+    assert_eq!(rt; out.len(), 8);
+    out.truncate(3);
+    assert_eq!(rt; out.as_slice(), b"\x07\x01a".as_slice());
+    out.clear();
+    assert_eq!(rt; out.len(), 0);
+    assert_eq!(rt; Octets::with_capacity(rt.alloc(), 9)?.len(), 0);
+    assert_eq!(rt;
+        Octets::from_slice(rt.alloc(), b"ab")?.as_slice(),
+        b"ab".as_slice()
+    );
+    let bytes = Vec::from_slice(rt.alloc(), b"cd")?;
+    assert_eq!(rt; Octets::from_vec(bytes).as_slice(), b"cd".as_slice());
+    let name = Name::from_text(rt.alloc(), b"a")?;
+    assert!(rt; name.clone()?.is_same(&name));
+    Ok(())
+}
