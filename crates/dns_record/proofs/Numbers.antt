@@ -1,8 +1,8 @@
 -- Numbers where they stand in a message.
-use Rattle.std.proofs.Common.{◌≡◌, ℕ, suc, ◌+◌, ◌*◌, ◌-◌, ◌/◌, ◌%◌, ◌^◌, ◌<◌, ◌≤◌, List, [], ◌∷◌, ◌++◌, length, take, drop, get_or, refl, sym, ap, subst, ◌∙◌, arith}
+use Rattle.std.proofs.Common.{◌≡◌, ℕ, ◌+◌, ◌*◌, ◌/◌, ◌%◌, ◌^◌, ◌<◌, ◌≤◌, List, [], ◌∷◌, ◌++◌, length, take, drop, refl, sym, ap, subst, ◌∙◌, arith}
 use Rattle.std.proofs.lemmas.List.{take-append-drop, length-drop, get_or-drop}
 use Rattle.byteorder.specs.Endian.{big_number, big_bytes}
-use Rattle.byteorder.specs.Numbers.{big_number-reads_back, length-bytes_high_first}
+use Rattle.byteorder.specs.Numbers.{big_number-reads_back, length-bytes_high_first, big_from-lt}
 use Rattle.dns_name.specs.Standing.{Stands}
 use Rattle.dns_record.specs.Number.{number_at, number_octets, AreOctets}
 
@@ -64,3 +64,8 @@ u32_stands message at octets long = record {
   begins = four (drop at message) (omega (arith, length-drop at message)) (octets_from message at octets);
   ends = refl;
 }
+
+-- a number of octets fits as many
+pub number_fits : (count : ℕ) (message : List ℕ) (at : ℕ) → AreOctets message → number_at count message at < 256 ^ count
+unfolding number_at
+number_fits count message at octets = big_from-lt 0 count (drop at message) (octets_from message at octets)

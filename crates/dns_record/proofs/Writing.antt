@@ -1,5 +1,5 @@
 -- What is written in several steps, one after another.
-use Rattle.std.proofs.Common.{◌≡◌, ℕ, List, ◌++◌, sym, ap, ◌∙◌, append_assoc}
+use Rattle.std.proofs.Common.{◌≡◌, ℕ, List, ◌++◌, append_assoc}
 
 -- six pieces after what stands before them
 pub regrouped : (before a b c d e f : List ℕ) → (((((before ++ a) ++ b) ++ c) ++ d) ++ e) ++ f ≡ before ++ (((((a ++ b) ++ c) ++ d) ++ e) ++ f)

@@ -1,5 +1,5 @@
 -- The start of a zone of authority (RFC 1035, section 3.3.13).
-use Rattle.std.specs.Prelude.{◌≡◌, ℕ, ◌+◌, ◌==◌, if◌then◌else◌, List, ◌++◌, Option, Some, None, Result, Ok, Err}
+use Rattle.std.specs.Prelude.{◌≡◌, ℕ, ◌+◌, List, ◌++◌, Result, Ok}
 use Rattle.dns_name.specs.Labels.{name_octets}
 use Rattle.dns_name.specs.Reading.{◌>>=◌, name_at}
 use Rattle.dns_name.specs.declared.fault.NameFault.{NameFault}

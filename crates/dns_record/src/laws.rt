@@ -1,1 +1,26 @@
-//! Laws of records in messages. Each function is its clauses, and does nothing.
+//! Laws of numbers and records in messages. Each function is its clauses, and does nothing.
+
+ghost use Rattle.std.specs.Prelude.{◌≡◌, ℕ, ◌+◌, ◌<◌, ◌≤◌, ◌^◌, List, length, Ok};
+ghost use Rattle.dns_name.specs.Standing.{Stands};
+ghost use Rattle.dns_record.specs.Number.{number_at, number_octets, AreOctets};
+ghost use Rattle.dns_record.specs.Reading.{record_at};
+ghost use Rattle.dns_record.specs.Record.{PlainRecord, IsRecord, record_octets};
+
+/// What is written as a number is read as that number, and what is read as a number of 16 or 32 bits
+/// stands there.
+pub fn a_number_is_read_where_it_stands()
+    ensures written { (count number : ℕ) (message : List ℕ) (at after : ℕ) → number < 256 ^ count → Stands (number_octets count number) message at after → number_at count message at ≡ number }
+    ensures short { (message : List ℕ) (at : ℕ) → AreOctets message → at + 2 ≤ length message → Stands (number_octets 2 (number_at 2 message at)) message at (at + 2) }
+    ensures long { (message : List ℕ) (at : ℕ) → AreOctets message → at + 4 ≤ length message → Stands (number_octets 4 (number_at 4 message at)) message at (at + 4) }
+    ensures short_fits { (message : List ℕ) (at : ℕ) → AreOctets message → number_at 2 message at < 2 ^ 16 }
+    ensures long_fits { (message : List ℕ) (at : ℕ) → AreOctets message → number_at 4 message at < 2 ^ 32 }
+    ensures count { (count number : ℕ) → length (number_octets count number) ≡ count }
+{}
+
+/// What is written as a record is read as that record, wherever it stands in a message, and nothing else
+/// is read as a record.
+pub fn a_record_is_read_where_it_stands()
+    ensures written { (r : PlainRecord) (message : List ℕ) (at after : ℕ) → IsRecord r → Stands (record_octets r) message at after → record_at message at ≡ Ok (r, after) }
+    ensures only { (r : PlainRecord) (message : List ℕ) (at after : ℕ) → AreOctets message → record_at message at ≡ Ok (r, after) → Stands (record_octets r) message at after }
+    ensures is_record { (r : PlainRecord) (message : List ℕ) (at after : ℕ) → AreOctets message → record_at message at ≡ Ok (r, after) → IsRecord r }
+{}

@@ -21,3 +21,6 @@ pub use record::Record;
 pub use records::Records;
 pub use soa::Soa;
 pub use soa_reading::soa_of;
+
+#[cfg(test)]
+mod tests;

@@ -1,4 +1,3 @@
-use Rattle.std.proofs.Common.{rules}
 use Rattle.dns_record.specs.Number.{number_octets}
 use Rattle.dns_record.proofs.number.push_u16.Goals as goal
 

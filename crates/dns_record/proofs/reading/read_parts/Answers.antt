@@ -1,4 +1,3 @@
-use Rattle.std.proofs.Common.{◌≡◌, ◌∙◌, ap, drop, arith}
 use Rattle.std.proofs.lemmas.Result.{err_from_is_err_and}
 use Rattle.dns_record.proofs.Parts.{with_octets-nil, part_more, part_fails, parts_end}
 use Rattle.dns_record.proofs.reading.read_parts.Goals as goal

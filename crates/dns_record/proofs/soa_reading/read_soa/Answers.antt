@@ -1,4 +1,4 @@
-use Rattle.std.proofs.Common.{◌≡◌, ◌+◌, length, arith, Ok}
+use Rattle.std.proofs.Common.{◌≡◌, ◌+◌, length, arith}
 use Rattle.dns_record.specs.declared.soa.Soa.{Soa}
 use Rattle.dns_record.specs.Number.{AreOctets}
 use Rattle.dns_record.proofs.Data.{first_name_is, second_name_is, soa_numbers_at, soa_read, soa_spelled}
