@@ -2,7 +2,6 @@
 use Rattle.std.proofs.Common.{◌≡◌, ℕ, suc, ◌-◌, ◌+◌, ◌≤◌, ◌<◌, List, [], ◌∷◌, ◌++◌, Result, Ok, Err, refl, sym, ap, ◌∙◌, append_assoc, arith}
 use Rattle.std.proofs.lemmas.List.{append-nil}
 use Rattle.dns_name.specs.Reading.{◌>>=◌}
-use Rattle.dns_record.specs.declared.fault.RecordFault.{RecordFault}
 use Rattle.dns_record.specs.declared.fault.RecordError.{RecordError}
 use Rattle.dns_record.specs.declared.fault.RecordError.TheVariants as of_record
 use Rattle.dns_record.specs.Reading as reading
@@ -11,7 +10,6 @@ use Rattle.dns_record.specs.Record.{PlainRecord}
 use Rattle.dns_message.specs.Becomes.{Becomes, as_record}
 use Rattle.dns_message.specs.declared.fault.MessageFault.{MessageFault}
 use Rattle.dns_message.specs.declared.fault.MessageError.{MessageError}
-use Rattle.dns_message.specs.declared.fault.MessageError.TheVariants as errors
 use Rattle.dns_message.specs.Reading.{Fails, records_at}
 
 abbrev Outcome : Type 0

@@ -17,3 +17,6 @@ pub use message::Message;
 pub use question::Question;
 pub use reading::read_message;
 pub use writing::{write_message, write_parts};
+
+#[cfg(test)]
+mod tests;

@@ -1,4 +1,3 @@
-use Rattle.std.proofs.Common.{◌≡◌, ◌∙◌, ap, arith}
 use Rattle.std.proofs.lemmas.Result.{err_from_is_err_and}
 use Rattle.dns_message.specs.Reading.{records_at}
 use Rattle.dns_message.proofs.Loop.{starts, goes_on, stops, is_done}
