@@ -1,0 +1,63 @@
+-- Runs of lines, one after another.
+use Rattle.std.proofs.Common.{◌≡◌, ℕ, ◌+◌, ◌<◌, ◌≤◌, List, [], ◌∷◌, ◌++◌, Ok, Err, Result, refl, sym, ◌∙◌, ap, append_assoc, length, nat_lt, true, false, arith}
+use Rattle.std.specs.Prelude.{Bool, if◌then◌else◌}
+use Rattle.std.proofs.lemmas.Bool.Decides.{nat_tests}
+use Rattle.rpz_program.specs.Fold.{Ran, ran, ran_on, judged, unread}
+
+module _ {M W : Type 0} where
+  -- what is output before goes before
+  abbrev pub after : List ℕ → Ran M W → Ran M W
+  after written run = (written ++ run.0, run.1)
+
+  -- no line after it is taken
+  abbrev refused : W → Result ((ℕ × M) × List ℕ) W
+  refused why = Err why
+
+  after-after : (first next : List ℕ) (run : Ran M W) → after first (after next run) ≡ after (first ++ next) run
+  after-after first next run = ap (λ (l : List ℕ). (l, run.1)) (sym (append_assoc first next run.0))
+
+module _ {M W : Type 0} (too_many too_long : W) (step : M → List ℕ → Result (M × List ℕ) W) where
+  on-append : (number : ℕ) (stepped : Result ((ℕ × M) × List ℕ) W) (lines more : List (List ℕ)) (new : ℕ × M) (written : List ℕ)
+      → ((old : ℕ × M) (w : List ℕ) → ran too_many too_long step old lines ≡ (w, Ok new) → ran too_many too_long step old (lines ++ more) ≡ after w (ran too_many too_long step new more))
+      → ran_on number stepped (λ next. ran too_many too_long step next lines) ≡ (written, Ok new)
+      → ran_on number stepped (λ next. ran too_many too_long step next (lines ++ more)) ≡ after written (ran too_many too_long step new more)
+  on-append number (Ok next) lines more new written goes is =
+      let w : List ℕ = (ran too_many too_long step next.0 lines).0 in
+      let end : ran too_many too_long step next.0 lines ≡ (w, Ok new) = ap (λ (v : Result (ℕ × M) (ℕ × W)). (w, v)) (ap (λ (r : Ran M W). r.1) is) in
+      ap (λ (r : Ran M W). after next.1 r) (goes next.0 w end) ∙ after-after next.1 w (ran too_many too_long step new more) ∙ ap (λ (l : List ℕ). after l (ran too_many too_long step new more)) (ap (λ (r : Ran M W). r.0) is)
+  on-append number (Err why) lines more new written goes is =
+      let refused : Result (ℕ × M) (ℕ × W) = Err (number, why) in
+      let clash : refused ≡ Ok new = ap (λ (r : Ran M W). r.1) is in
+      absurd (cc)
+
+  -- a run goes on where its first lines left it
+  pub ran-append : (lines more : List (List ℕ)) (old new : ℕ × M) (written : List ℕ) → ran too_many too_long step old lines ≡ (written, Ok new) → ran too_many too_long step old (lines ++ more) ≡ after written (ran too_many too_long step new more)
+  ran-append [] more old new written is =
+      let was : Result (ℕ × M) (ℕ × W) = Ok old in
+      let end : was ≡ Ok new = ap (λ (r : Ran M W). r.1) is in
+      let same : old ≡ new = cc in
+      let none : [] ≡ written = ap (λ (r : Ran M W). r.0) is in
+      ap (λ (s : ℕ × M). ran too_many too_long step s more) same ∙ ap (λ (l : List ℕ). after l (ran too_many too_long step new more)) none
+  ran-append (line ∷ lines) more old new written is =
+      on-append old.0 (judged too_many too_long step old line) lines more new written (λ o w e. ran-append lines more o new w e) is
+
+  pub ran-refused : (old : ℕ × M) (line : List ℕ) (lines : List (List ℕ)) (why : W) → judged too_many too_long step old line ≡ Err why → ran too_many too_long step old (line ∷ lines) ≡ ([], Err (old.0, why))
+  ran-refused old line lines why is = ap (λ (s : Result ((ℕ × M) × List ℕ) W). ran_on old.0 s (λ next. ran too_many too_long step next lines)) is
+
+  pub ran-taken : (old new : ℕ × M) (line written : List ℕ) (lines : List (List ℕ)) → judged too_many too_long step old line ≡ Ok (new, written) → ran too_many too_long step old (line ∷ lines) ≡ after written (ran too_many too_long step new lines)
+  ran-taken old new line written lines is = ap (λ (s : Result ((ℕ × M) × List ℕ) W). ran_on old.0 s (λ next. ran too_many too_long step next lines)) is
+
+  -- a line that no bound refuses is the machine's
+  pub judged-taken : (number : ℕ) (old new : M) (line written : List ℕ) → number ≤ 4294967295 → length line ≤ 200000 → step old line ≡ Ok (new, written) → judged too_many too_long step (number, old) line ≡ Ok ((number + 1, new), written)
+  judged-taken number old new line written few short is =
+      let not_many : nat_lt 4294967295 number ≡ false = grind (arith, nat_tests) in
+      let not_long : nat_lt 200000 (length line) ≡ false = grind (arith, nat_tests) in
+      rw (not_many, not_long, is) refl
+
+  unread-is : (many : Bool) → (if many then Err too_many else Err too_long) ≡ refused {M = M} (if many then too_many else too_long)
+  unread-is true = refl
+  unread-is false = refl
+
+  -- a line that is too long is refused, first for its number
+  pub judged-long : (old : ℕ × M) (line : List ℕ) → 200000 < length line → judged too_many too_long step old line ≡ Err (unread too_many too_long old.0)
+  judged-long old line long = let test : nat_lt 200000 (length line) ≡ true = grind (arith, nat_tests) in rw test (unread-is (nat_lt 4294967295 old.0))

@@ -1,0 +1,225 @@
+-- How far a replay has come, and what it has done where it ends.
+use Rattle.std.proofs.Common.{◌≡◌, ◌≢◌, ℕ, ◌+◌, ◌<◌, List, [], ◌∷◌, ◌++◌, Option, Some, None, Ok, Err, Result, IfSome, take, drop, refl, sym, ◌∙◌, ap, subst, arith, append_assoc, length}
+use Rattle.std.specs.List.{AllByRecursion}
+use Rattle.std.proofs.lemmas.List.{append-nil, take-append-drop}
+use Rattle.std.proofs.lemmas.List.Elements.{recursion_from_All}
+use Rattle.edge_io.specs.Edge.{prepended, appended, IsAtEnd}
+use Rattle.edge_io.proofs.Edges.{prepended-prepended, prepended-nil, appended-appended, appended-nil}
+use Rattle.rpz_program.specs.declared.script.Stop.{Stop}
+use Rattle.rpz_program.specs.declared.script.Stop.TheVariants.{BadLine, ReadFault, WriteFault, OutOfMemory}
+use Rattle.rpz_program.specs.declared.reader.ReadError.{ReadError}
+use Rattle.rpz_program.specs.declared.reader.ReadError.TheVariants.{ReadFault as Fault, OutOfMemory as Memory}
+use Rattle.rpz_program.specs.Reader.{Reads}
+use Rattle.rpz_program.specs.Lines.{NoFeed, lines_of, ended_lines}
+use Rattle.rpz_program.specs.Fold.{Ran, ran, judged, unread, transcript, verdict}
+use Rattle.rpz_program.specs.Replay.{IsPrefix, Moved, BeginsTranscript, Answers, Ends, Took, StopsAt}
+use Rattle.rpz_program.proofs.Lines.{Feedless, bytes_of, bytes_of-push, each-push, lines_of-ended, lines_of-one, lines_of-bytes_of, ended_lines-bytes_of, ended_lines-part, first_line}
+use Rattle.rpz_program.proofs.Folds.{after, ran-append, ran-refused, ran-taken, judged-long}
+
+-- these lines were read, and answered
+pub record Progress {M W : Type 0} (too_many too_long : W) (step : M → List ℕ → Result (M × List ℕ) W) (first : M) (left_before left_now held_before held_now : Option (List ℕ)) (held : List ℕ) (here : ℕ × M) : Type 0 where
+  pub lines : List (List ℕ)
+  pub written : List ℕ
+  pub each : AllByRecursion Feedless lines
+  pub answered : ran too_many too_long step (1, first) lines ≡ (written, Ok here)
+  pub from_source : left_before ≡ prepended (bytes_of lines ++ held) left_now
+  pub to_sink : held_now ≡ appended held_before written
+
+if_some : {X : Type 0} (o : Option X) (P : X → Type 0) → ((x : X) → o ≡ Some x → P x) → IfSome o P
+if_some None P each = tt
+if_some (Some x) P each = each x refl
+
+-- where the source tells, what is left is the rest of the script
+record Rest (left : Option (List ℕ)) (read script : List ℕ) : Type 0 where
+  pub rest : List ℕ
+  pub known : left ≡ Some rest
+  pub split : script ≡ read ++ rest
+
+rest_of : (left : Option (List ℕ)) (read script : List ℕ) → Some script ≡ prepended read left → Rest left read script
+rest_of None read script is = absurd (cc)
+rest_of (Some rest) read script is = record { rest = rest; known = refl; split = cc }
+
+at_end : (rest : List ℕ) (left : Option (List ℕ)) → left ≡ Some rest → IsAtEnd left → rest ≡ []
+at_end rest left known end = subst IsAtEnd known end
+
+module _ {M W : Type 0} {too_many too_long : W} {step : M → List ℕ → Result (M × List ℕ) W} {first : M} {left_before left_now held_before held_now : Option (List ℕ)} {held : List ℕ} {here : ℕ × M} (so : Progress too_many too_long step first left_before left_now held_before held_now held here) where
+  -- more was read: x is what is held, and what came
+  read_on : (x : List ℕ) (left : Option (List ℕ)) → prepended held left_now ≡ prepended x left → left_before ≡ prepended (bytes_of so.lines ++ x) left
+  read_on x left came =
+      so.from_source
+      ∙ sym (prepended-prepended left_now (bytes_of so.lines) held)
+      ∙ ap (λ (o : Option (List ℕ)). prepended (bytes_of so.lines) o) came
+      ∙ prepended-prepended left (bytes_of so.lines) x
+
+  -- the run over all that was read
+  run_of : (x : List ℕ) → ran too_many too_long step (1, first) (lines_of (bytes_of so.lines ++ x)) ≡ after so.written (ran too_many too_long step here (lines_of x))
+  run_of x = ap (λ (l : List (List ℕ)). ran too_many too_long step (1, first) l) (lines_of-bytes_of so.lines x so.each) ∙ ran-append too_many too_long step so.lines (lines_of x) (1, first) here so.written so.answered
+
+  wrote_on : (out : List ℕ) (held_after : Option (List ℕ)) → held_after ≡ appended held_now out → held_after ≡ appended held_before (so.written ++ out)
+  wrote_on out held_after is = is ∙ ap (λ (o : Option (List ℕ)). appended o out) so.to_sink ∙ appended-appended held_before so.written out
+
+  -- what was written begins the transcript
+  pub begins : (x out : List ℕ) (left held_after : Option (List ℕ)) → prepended held left_now ≡ prepended x left → held_after ≡ appended held_now out → IsPrefix out (ran too_many too_long step here (lines_of x)).0
+      → Moved left_before left held_before held_after (BeginsTranscript too_many too_long step first)
+  begins x out left held_after came gone front = record {
+    read = bytes_of so.lines ++ x;
+    written = so.written ++ out;
+    from_source = read_on x left came;
+    to_sink = wrote_on out held_after gone;
+    have = (front.0, ap (λ (r : Ran M W). r.0) (run_of x) ∙ ap (λ (l : List ℕ). so.written ++ l) front.1 ∙ sym (append_assoc so.written out front.0));
+  }
+
+  -- nothing was written since
+  pub begins_same : (x : List ℕ) (left held_after : Option (List ℕ)) → prepended held left_now ≡ prepended x left → held_after ≡ held_now → Moved left_before left held_before held_after (BeginsTranscript too_many too_long step first)
+  begins_same x left held_after came same = begins x [] left held_after came (same ∙ sym (appended-nil held_now)) ((ran too_many too_long step here (lines_of x)).0, refl)
+
+  -- the run over the whole script, where the source tells
+  script_runs : (x out : List ℕ) (left : Option (List ℕ)) (end : Result (ℕ × M) (ℕ × W)) (script : List ℕ) → left_before ≡ Some script → prepended held left_now ≡ prepended x left
+      → ((rest : List ℕ) → left ≡ Some rest → ran too_many too_long step here (lines_of (x ++ rest)) ≡ (out, end))
+      → ran too_many too_long step (1, first) (lines_of script) ≡ (so.written ++ out, end)
+  script_runs x out left end script known came ends =
+      let r = rest_of left (bytes_of so.lines ++ x) script (sym known ∙ read_on x left came) in
+      ap (λ (l : List ℕ). ran too_many too_long step (1, first) (lines_of l)) (r.split ∙ append_assoc (bytes_of so.lines) x r.rest)
+      ∙ run_of (x ++ r.rest)
+      ∙ ap (after so.written) (ends r.rest r.known)
+
+  -- a line is refused
+  pub ends_bad : (last : M) (x : List ℕ) (left held_after : Option (List ℕ)) (number : ℕ) (why : W) → prepended held left_now ≡ prepended x left → held_after ≡ held_now
+      → ((rest : List ℕ) → left ≡ Some rest → ran too_many too_long step here (lines_of (x ++ rest)) ≡ ([], Err (number, why)))
+      → Ends too_many too_long step (Err (BadLine number why)) first last left_before left held_before held_after
+  ends_bad last x left held_after number why came same ends = if_some left_before _ (λ script known.
+      let all = script_runs x [] left (Err (number, why)) script known came ends in
+      let out : so.written ++ [] ≡ transcript too_many too_long step first script = sym (ap (λ (r : Ran M W). r.0) all) in (
+        ap (λ (r : Ran M W). r.1) all,
+        wrote_on [] held_after (same ∙ sym (appended-nil held_now)) ∙ ap (λ (l : List ℕ). appended held_before l) out,
+      ))
+
+  -- the script is done
+  pub ends_done : (x out : List ℕ) (left held_after : Option (List ℕ)) (new : ℕ × M) → prepended held left_now ≡ prepended x left → IsAtEnd left → held_after ≡ appended held_now out → ran too_many too_long step here (lines_of x) ≡ (out, Ok new)
+      → Ends too_many too_long step (Ok tt) first new.1 left_before left held_before held_after
+  ends_done x out left held_after new came end gone runs = if_some left_before _ (λ script known.
+      let ends = λ (rest : List ℕ) (is : left ≡ Some rest). ap (λ (l : List ℕ). ran too_many too_long step here (lines_of l)) (ap (λ (l : List ℕ). x ++ l) (at_end rest left is end) ∙ append-nil x) ∙ runs in
+      let all = script_runs x out left (Ok new) script known came ends in
+      let r = rest_of left (bytes_of so.lines ++ x) script (sym known ∙ read_on x left came) in
+      let verdict_is : verdict too_many too_long step first script ≡ Ok new = ap (λ (r : Ran M W). r.1) all in
+      let out_is : so.written ++ out ≡ transcript too_many too_long step first script = sym (ap (λ (r : Ran M W). r.0) all) in (
+        r.known ∙ ap (λ (l : List ℕ). Some l) (at_end r.rest left r.known end),
+        rw verdict_is refl,
+        wrote_on out held_after gone ∙ ap (λ (l : List ℕ). appended held_before l) out_is,
+      ))
+
+  -- the source failed within a line
+  pub ends_fault : (last : M) (line : List ℕ) (left held_after : Option (List ℕ)) → NoFeed line → prepended held left_now ≡ prepended line left → held_after ≡ held_now
+      → Ends too_many too_long step (Err ReadFault) first last left_before left held_before held_after
+  ends_fault last line left held_after no_feed came same = record {
+    read = bytes_of so.lines ++ line;
+    written = so.written ++ [];
+    from_source = read_on line left came;
+    to_sink = wrote_on [] held_after (same ∙ sym (appended-nil held_now));
+    have =
+        let none : ended_lines line ≡ [] = ended_lines-part line (recursion_from_All _ line no_feed) in
+        let all : ended_lines (bytes_of so.lines ++ line) ≡ so.lines ++ [] = ended_lines-bytes_of so.lines line so.each ∙ ap (λ (l : List (List ℕ)). so.lines ++ l) none in
+        (here, ap (λ (l : List (List ℕ)). ran too_many too_long step (1, first) l) all ∙ ran-append too_many too_long step so.lines [] (1, first) here so.written so.answered);
+  }
+
+  -- a whole line was answered
+  pub goes_on : (line held_next : List ℕ) (left held_after : Option (List ℕ)) (new : M) → NoFeed line → prepended held left_now ≡ prepended (line ++ 10 ∷ held_next) left → Took too_many too_long step here line (here.0 + 1, new) held_now held_after
+      → Progress too_many too_long step first left_before left held_before held_after held_next (here.0 + 1, new)
+  goes_on line held_next left held_after new no_feed came took = record {
+    lines = so.lines ++ line ∷ [];
+    written = so.written ++ took.written;
+    each = each-push so.lines line so.each (recursion_from_All _ line no_feed);
+    answered =
+        ran-append too_many too_long step so.lines (line ∷ []) (1, first) here so.written so.answered
+        ∙ ap (λ (r : Ran M W). after so.written r) (ran-taken too_many too_long step here (here.0 + 1, new) line took.written [] took.does)
+        ∙ ap (λ (l : List ℕ). (so.written ++ l, Ok (here.0 + 1, new))) (append-nil took.written);
+    from_source = read_on (line ++ 10 ∷ held_next) left came ∙ ap (λ (l : List ℕ). prepended l left) (sym (bytes_of-push so.lines line held_next));
+    to_sink = wrote_on took.written held_after took.to_sink;
+  }
+
+  runs_on : (x line written : List ℕ) (others : List (List ℕ)) (new : ℕ × M) → lines_of x ≡ line ∷ others → judged too_many too_long step here line ≡ Ok (new, written) → ran too_many too_long step here (lines_of x) ≡ after written (ran too_many too_long step new others)
+  runs_on x line written others new first does = ap (λ (l : List (List ℕ)). ran too_many too_long step here l) first ∙ ran-taken too_many too_long step here new line written others does
+
+  -- whatever an answer did, what was written begins the transcript
+  pub answered_prefix : (result : Result (Unit {0}) (Stop W)) (line x : List ℕ) (others : List (List ℕ)) (new : M) (left held_after : Option (List ℕ)) → prepended held left_now ≡ prepended x left → lines_of x ≡ line ∷ others
+      → Answers too_many too_long step result here.0 here.1 line new held_now held_after → Moved left_before left held_before held_after (BeginsTranscript too_many too_long step first)
+  answered_prefix (Ok u) line x others new left held_after came one took =
+      begins x took.written left held_after came took.to_sink ((ran too_many too_long step (here.0 + 1, new) others).0, ap (λ (r : Ran M W). r.0) (runs_on x line took.written others (here.0 + 1, new) one took.does))
+  answered_prefix (Err (BadLine number why)) line x others new left held_after came one told = begins_same x left held_after came told.2
+  answered_prefix (Err ReadFault) line x others new left held_after came one told = absurd told
+  answered_prefix (Err WriteFault) line x others new left held_after came one took =
+      let more : List ℕ = (ran too_many too_long step took.next others).0 in
+      begins x (take took.count took.written) left held_after came took.to_sink (
+        drop took.count took.written ++ more,
+        ap (λ (r : Ran M W). r.0) (runs_on x line took.written others took.next one took.does)
+            ∙ ap (λ (l : List ℕ). l ++ more) (sym (take-append-drop took.count took.written))
+            ∙ append_assoc (take took.count took.written) (drop took.count took.written) more,
+      )
+  answered_prefix (Err OutOfMemory) line x others new left held_after came one same = begins_same x left held_after came same
+
+  -- the last line was answered, which has no line feed
+  pub answered_last : (result : Result (Unit {0}) (Stop W)) (line : List ℕ) (new : M) (left held_after : Option (List ℕ)) → NoFeed line → line ≢ [] → prepended held left_now ≡ prepended line left → IsAtEnd left
+      → Answers too_many too_long step result here.0 here.1 line new held_now held_after → Ends too_many too_long step result first new left_before left held_before held_after
+  answered_last (Ok u) line new left held_after no_feed some came end took =
+      let one = lines_of-one line (recursion_from_All _ line no_feed) some in
+      ends_done line took.written left held_after (here.0 + 1, new) came end took.to_sink (runs_on line line took.written [] (here.0 + 1, new) one took.does ∙ ap (λ (l : List ℕ). (l, Ok (here.0 + 1, new))) (append-nil took.written))
+  answered_last (Err (BadLine number why)) line new left held_after no_feed some came end told =
+      let one = lines_of-one line (recursion_from_All _ line no_feed) some in
+      ends_bad new line left held_after number why came told.2 (λ rest known.
+      ap (λ (l : List ℕ). ran too_many too_long step here (lines_of l)) (ap (λ (l : List ℕ). line ++ l) (at_end rest left known end) ∙ append-nil line)
+      ∙ ap (λ (l : List (List ℕ)). ran too_many too_long step here l) one
+      ∙ ran-refused too_many too_long step here line [] why told.1
+      ∙ ap (λ (n : ℕ). ([], Err (n, why))) (sym told.0))
+  answered_last (Err ReadFault) line new left held_after no_feed some came end told = absurd told
+  answered_last (Err WriteFault) line new left held_after no_feed some came end told = tt
+  answered_last (Err OutOfMemory) line new left held_after no_feed some came end told = tt
+
+  -- a whole line stopped the replay
+  pub answered_whole : (stop : Stop W) (line held_next : List ℕ) (new : M) (left held_after : Option (List ℕ)) → NoFeed line → prepended held left_now ≡ prepended (line ++ 10 ∷ held_next) left
+      → Answers too_many too_long step (Err stop) here.0 here.1 line new held_now held_after → Ends too_many too_long step (Err stop) first new left_before left held_before held_after
+  answered_whole (BadLine number why) line held_next new left held_after no_feed came told =
+      ends_bad new (line ++ 10 ∷ held_next) left held_after number why came told.2 (λ rest known.
+      ap (λ (l : List ℕ). ran too_many too_long step here (lines_of l)) (append_assoc line (10 ∷ held_next) rest)
+      ∙ ap (λ (l : List (List ℕ)). ran too_many too_long step here l) (lines_of-ended line (held_next ++ rest) (recursion_from_All _ line no_feed))
+      ∙ ran-refused too_many too_long step here line (lines_of (held_next ++ rest)) why told.1
+      ∙ ap (λ (n : ℕ). ([], Err (n, why))) (sym told.0))
+  answered_whole ReadFault line held_next new left held_after no_feed came told = absurd told
+  answered_whole WriteFault line held_next new left held_after no_feed came told = tt
+  answered_whole OutOfMemory line held_next new left held_after no_feed came told = tt
+
+  -- a line is longer than a line may be
+  pub cut_short : (last : M) (line held_next : List ℕ) (left : Option (List ℕ)) → NoFeed line → 200000 < length line → prepended held left_now ≡ prepended (line ++ held_next) left
+      → Ends too_many too_long step (Err (BadLine here.0 (unread too_many too_long here.0))) first last left_before left held_before held_now
+  cut_short last [] held_next left no_feed long came = absurd (omega arith)
+  cut_short last (b ∷ part) held_next left no_feed long came =
+      ends_bad last ((b ∷ part) ++ held_next) left held_now here.0 (unread too_many too_long here.0) came refl (λ rest known.
+      let found = first_line b part (held_next ++ rest) (recursion_from_All _ (b ∷ part) no_feed) in
+      ap (λ (l : List ℕ). ran too_many too_long step here (lines_of l)) (append_assoc (b ∷ part) held_next rest)
+      ∙ ap (λ (l : List (List ℕ)). ran too_many too_long step here l) found.first
+      ∙ ran-refused too_many too_long step here found.line found.lines (unread too_many too_long here.0) (judged-long too_many too_long step here found.line (omega (arith, found.longer, long))))
+
+  -- the source failed, or memory ran out, while a line was read
+  pub stopped_reading : (last : M) (error : ReadError) (stop : Stop W) (line held_next : List ℕ) (left : Option (List ℕ)) → NoFeed line → StopsAt error stop → Reads (Err error) (prepended held left_now) line held_next left
+      → Ends too_many too_long step (Err stop) first last left_before left held_before held_now
+  stopped_reading last Fault stop line held_next left no_feed is came =
+      subst (λ (s : Stop W). Ends too_many too_long step (Err s) first last left_before left held_before held_now) (sym is) (ends_fault last line left held_now no_feed came refl)
+  stopped_reading last Memory stop line held_next left no_feed is came = subst (λ (s : Stop W). Ends too_many too_long step (Err s) first last left_before left held_before held_now) (sym is) tt
+
+  pub stopped_prefix : (error : ReadError) (line held_next : List ℕ) (left : Option (List ℕ)) → Reads (Err error) (prepended held left_now) line held_next left → Moved left_before left held_before held_now (BeginsTranscript too_many too_long step first)
+  stopped_prefix Fault line held_next left came = begins_same line left held_now came refl
+  stopped_prefix Memory line held_next left came = begins_same (line ++ held_next) left held_now came refl
+
+  -- nothing is left
+  pub done : (line : List ℕ) (left : Option (List ℕ)) → line ≡ [] → prepended held left_now ≡ prepended line left → IsAtEnd left → Ends too_many too_long step (Ok tt) first here.1 left_before left held_before held_now
+  done line left none came end = ends_done [] [] left held_now here (came ∙ ap (λ (l : List ℕ). prepended l left) none) end (sym (appended-nil held_now)) refl
+
+-- before the first line
+pub started : {M W : Type 0} (too_many too_long : W) (step : M → List ℕ → Result (M × List ℕ) W) (first : M) (left held_now : Option (List ℕ)) (held : List ℕ) → held ≡ [] → Progress too_many too_long step first left left held_now held_now held (1, first)
+started too_many too_long step first left held_now held none = record {
+  lines = [];
+  written = [];
+  each = tt;
+  answered = refl;
+  from_source = sym (prepended-nil left) ∙ ap (λ (l : List ℕ). prepended l left) (sym none);
+  to_sink = sym (appended-nil held_now);
+}

@@ -1,0 +1,14 @@
+pub mod Lines
+pub mod Reader
+pub mod Fold
+pub mod Abstraction
+pub mod Replay
+pub mod NameSet
+pub mod Policy
+pub mod Reading
+pub mod Answer
+pub mod Line
+pub mod World
+pub mod Indexed
+pub mod CoreSteps
+pub mod Run

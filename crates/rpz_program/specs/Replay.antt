@@ -1,0 +1,89 @@
+-- What a replay reads, writes and answers.
+use Rattle.std.specs.Prelude.{◌≡◌, ℕ, ◌+◌, List, [], ◌++◌, Option, Some, Result, Ok, Err, take, IfSome, IsOkAnd, ⊤}
+use Rattle.edge_io.specs.Edge.{prepended, appended}
+use Rattle.rpz_program.specs.declared.script.AnswerError.{AnswerError}
+use Rattle.rpz_program.specs.declared.script.AnswerError.TheVariants.{Refused, OutOfMemory as NoMemory}
+use Rattle.rpz_program.specs.declared.reader.ReadError.{ReadError}
+use Rattle.rpz_program.specs.declared.reader.ReadError.TheVariants.{ReadFault as Fault, OutOfMemory as Memory}
+use Rattle.rpz_program.specs.declared.script.Stop.{Stop}
+use Rattle.rpz_program.specs.declared.script.Stop.TheVariants.{BadLine, ReadFault, WriteFault, OutOfMemory}
+use Rattle.rpz_program.specs.Lines.{ended_lines}
+use Rattle.rpz_program.specs.Fold.{judged, ran, transcript, verdict}
+
+-- what an answer to a line did to a machine, by what its step gives
+abbrev pub Steps : {M W : Type 0} → Result (M × List ℕ) W → Result (Unit {0}) (AnswerError W) → M → List ℕ → Type 0
+Steps gives (Ok u) new reply = gives ≡ Ok (new, reply)
+Steps gives (Err (Refused why)) new reply = gives ≡ Err why
+Steps gives (Err NoMemory) new reply = ⊤
+
+-- the first of them
+abbrev pub IsPrefix : List ℕ → List ℕ → Type 0
+IsPrefix first all = (rest : List ℕ) × (all ≡ first ++ rest)
+
+-- These bytes were read, those were written, and they have P.
+pub record Moved (left_before left_after held_before held_after : Option (List ℕ)) (P : List ℕ → List ℕ → Type 0) : Type 0 where
+  pub read : List ℕ
+  pub written : List ℕ
+  pub from_source : left_before ≡ prepended read left_after
+  pub to_sink : held_after ≡ appended held_before written
+  pub have : P read written
+
+-- the fault that the error tells has happened
+abbrev pub Blames : {W : Type 0} → Stop W → Type 0 → Type 0 → Type 0
+Blames ReadFault source sink = source
+Blames WriteFault source sink = sink
+Blames OutOfMemory source sink = ⊤
+Blames (BadLine line why) source sink = ⊤
+
+-- what stops a script where no line can be read
+abbrev pub StopsAt : {W : Type 0} → ReadError → Stop W → Type 0
+StopsAt Fault stop = stop ≡ ReadFault
+StopsAt Memory stop = stop ≡ OutOfMemory
+
+-- the error is the sink's only where this holds
+abbrev pub BlamesSink : {W : Type 0} → Stop W → Type 0 → Type 0
+BlamesSink WriteFault blame = blame
+BlamesSink OutOfMemory blame = ⊤
+BlamesSink ReadFault blame = ⊥
+BlamesSink (BadLine line why) blame = ⊤
+
+module _ {M W : Type 0} (too_many too_long : W) (step : M → List ℕ → Result (M × List ℕ) W) where
+  -- the line took this state to that, and what it outputs went out
+  pub record Took (old : ℕ × M) (line : List ℕ) (new : ℕ × M) (before after : Option (List ℕ)) : Type 0 where
+    pub written : List ℕ
+    pub does : judged too_many too_long step old line ≡ Ok (new, written)
+    pub to_sink : after ≡ appended before written
+
+  -- the first of what the line outputs went out
+  pub record TookPart (old : ℕ × M) (line : List ℕ) (before after : Option (List ℕ)) : Type 0 where
+    pub next : ℕ × M
+    pub written : List ℕ
+    pub count : ℕ
+    pub does : judged too_many too_long step old line ≡ Ok (next, written)
+    pub to_sink : after ≡ appended before (take count written)
+
+  -- what an answer to one line did
+  abbrev pub Answers : Result (Unit {0}) (Stop W) → ℕ → M → List ℕ → M → Option (List ℕ) → Option (List ℕ) → Type 0
+  Answers (Ok u) number old line new before after = Took (number, old) line (number + 1, new) before after
+  Answers (Err (BadLine bad why)) number old line new before after = (bad ≡ number) × (judged too_many too_long step (number, old) line ≡ Err why) × (after ≡ before)
+  Answers (Err WriteFault) number old line new before after = TookPart (number, old) line before after
+  Answers (Err OutOfMemory) number old line new before after = after ≡ before
+  Answers (Err ReadFault) number old line new before after = ⊥
+
+  -- each line whose line feed was read is answered, and none is refused
+  abbrev pub AnswersEnded : M → List ℕ → List ℕ → Type 0
+  AnswersEnded machine read written = (end : ℕ × M) × (ran too_many too_long step (1, machine) (ended_lines read) ≡ (written, Ok end))
+
+  -- what was written begins the transcript of what was read
+  abbrev pub BeginsTranscript : M → List ℕ → List ℕ → Type 0
+  BeginsTranscript machine read written = IsPrefix written (transcript too_many too_long step machine read)
+
+  -- how a replay ends
+  abbrev pub Ends : Result (Unit {0}) (Stop W) → M → M → Option (List ℕ) → Option (List ℕ) → Option (List ℕ) → Option (List ℕ) → Type 0
+  Ends (Ok u) old new left_before left_after held_before held_after =
+      IfSome left_before (λ script. (left_after ≡ Some []) × IsOkAnd (verdict too_many too_long step old script) (λ end. end.1 ≡ new) × (held_after ≡ appended held_before (transcript too_many too_long step old script)))
+  Ends (Err (BadLine line why)) old new left_before left_after held_before held_after =
+      IfSome left_before (λ script. (verdict too_many too_long step old script ≡ Err (line, why)) × (held_after ≡ appended held_before (transcript too_many too_long step old script)))
+  Ends (Err ReadFault) old new left_before left_after held_before held_after = Moved left_before left_after held_before held_after (AnswersEnded old)
+  Ends (Err WriteFault) old new left_before left_after held_before held_after = ⊤
+  Ends (Err OutOfMemory) old new left_before left_after held_before held_after = ⊤

@@ -1,0 +1,41 @@
+//! `rpz`: answers the queries of a script by a response policy zone (draft-vixie-dnsop-dns-rpz).
+#![tactic(auto)]
+
+mod field;
+mod line;
+mod line_reading;
+mod name_set;
+mod output;
+mod output_text;
+mod policy_core;
+mod policy_zone;
+mod query;
+mod query_reading;
+mod reader;
+mod row;
+mod rows;
+mod run;
+mod script;
+mod status;
+#[cfg(test)]
+mod tests;
+mod transfer;
+mod transfer_reading;
+mod why;
+
+use crate::run::run;
+use edge_io::{ReaderSource, WriterSink};
+use std::process::ExitCode;
+use std::{env, io};
+
+fn main(rt: HostRuntime) -> io::Result<ExitCode> {
+    let alloc = rt.alloc();
+    let words: Vec<String> = env::args(&rt)?.skip(1).collect(alloc)?;
+    let mut script = ReaderSource::new(rt.reader());
+    let mut out = WriterSink::new(io::writer(&rt));
+    let status = run(alloc, &words, &mut script, &mut out);
+    if let Some(text) = status.text(alloc)? {
+        eprintln!(rt; "{text}")?;
+    }
+    Ok(ExitCode::from(status.code()))
+}

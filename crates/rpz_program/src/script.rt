@@ -1,0 +1,174 @@
+// A script is read, and each line is answered before the next is read.
+ghost use Rattle.std.specs.Prelude.{◌≡◌, ◌+◌, ◌-◌, ◌<◌, ◌≤◌, ◌^◌, ℕ, List, [], Result, Ok, Err, IfErr, OnOk};
+ghost use Rattle.edge_io.specs.Edge.{Rose};
+ghost use Rattle.rpz_program.specs.declared.script.AnswerError.TheVariants.{OutOfMemory as NoMemory};
+ghost use Rattle.rpz_program.specs.Fold.{unread};
+ghost use Rattle.rpz_program.specs.Replay.{Steps, Moved, Answers, AnswersEnded, BeginsTranscript, Ends, Blames, BlamesSink, StopsAt};
+
+use crate::reader::{LONGEST, LineReader, Next, ReadError};
+use edge_io::{Sink, Source, write_all};
+use std::alloc::{AllocError, Global};
+
+/// A script has at most this many lines. Line 1 is the first.
+pub const LINES: u64 = 4_294_967_295;
+
+/// Why a line has no answer.
+#[derive(Clone, Copy, Debug, PartialEq, Eq)]
+pub enum AnswerError<W> {
+    /// The machine refuses the line.
+    Refused(W),
+    /// There is no memory for the answer.
+    OutOfMemory,
+}
+
+impl<W> From<AllocError> for AnswerError<W> {
+    ghost from_gives = { λ _ e. e ≡ NoMemory };
+
+    fn from(_: AllocError) -> Self {
+        AnswerError::OutOfMemory
+    }
+}
+
+/// What answers the lines of a script.
+pub trait Machine {
+    /// Why a line is refused.
+    type Why: Drop;
+
+    /// The machine after a line and what the line outputs, or why it is refused.
+    ghost step: { Self → List ℕ → Result (Self × List ℕ) Self.Why };
+
+    /// Why a line past the last that a script may have is refused.
+    ghost too_many: { Self.Why };
+
+    /// Why a line that is longer than a line may be is refused.
+    ghost too_long: { Self.Why };
+
+    /// Why a line past line 4,294,967,295 is refused.
+    fn too_many() -> Self::Why
+        ensures { result ≡ too_many };
+
+    /// Why a line of more than 200,000 bytes is refused.
+    fn too_long() -> Self::Why
+        ensures { result ≡ too_long };
+
+    /// Answers a line, which comes without its line feed. After an error the machine isn't used
+    /// again.
+    fn answer(
+        &mut self,
+        alloc: Global,
+        line: &[u8],
+        reply: &mut Vec<u8>,
+    ) -> Result<(), AnswerError<Self::Why>>
+        requires { reply.old.items ≡ [] }
+        ensures { Steps (step self.old line.now) result self.new reply.new.items };
+}
+
+/// What stops a script before its end.
+#[derive(Clone, Copy, Debug, PartialEq, Eq)]
+pub enum Stop<W> {
+    /// The first line that is refused, by its number, and why. Line 1 is the first.
+    BadLine { line: u64, why: W },
+    /// A read of the script has failed.
+    ReadFault,
+    /// A write of the output has failed.
+    WriteFault,
+    /// There is no memory for a line or its answer.
+    OutOfMemory,
+}
+
+impl<W> From<ReadError> for Stop<W> {
+    ghost from_gives = { λ error stop. StopsAt error stop };
+
+    fn from(error: ReadError) -> Self {
+        match error {
+            ReadError::ReadFault => Stop::ReadFault,
+            ReadError::OutOfMemory => Stop::OutOfMemory,
+        }
+    }
+}
+
+/// Answers the lines of a script in turn.
+///
+/// A line is refused first for its number, over 4,294,967,295, then for its length, over 200,000
+/// bytes without the line feed, and then by the machine. The first line that is refused stops the
+/// script, so at most 4,294,967,296 lines are read.
+///
+/// Each line is answered before the source is read again. What was read and isn't answered is at
+/// most one line and the 8,192 bytes of one read.
+pub fn replay<M: Machine, S: Source, K: Sink>(
+    alloc: Global,
+    machine: &mut M,
+    script: &mut S,
+    out: &mut K,
+) -> Result<(), Stop<M::Why>>
+    // What it reads and writes, by how it ends.
+    ensures ends { Ends M.too_many M.too_long M.step result machine.old machine.new
+        (S.left script.old) (S.left script.new) (K.held out.old) (K.held out.new) }
+
+    // However it ends, what was written begins the transcript of what was read.
+    ensures prefix { Moved (S.left script.old) (S.left script.new) (K.held out.old) (K.held out.new)
+        (BeginsTranscript M.too_many M.too_long M.step machine.old) }
+
+    // It tells a fault of the source or the sink only where its count rose in this call.
+    ensures fault { IfErr result (λ stop. Blames stop
+        (Rose (S.faults script.old) (S.faults script.new))
+        (Rose (K.faults out.old) (K.faults out.new))) }
+{
+    let mut reader = LineReader::new();
+    let mut line = Vec::new(alloc);
+    let mut reply = Vec::new(alloc);
+    let mut number = 1;
+    loop {
+        match reader.next(script, &mut line)? {
+            Next::Cut => return Err(refused_unread::<M>(number)),
+            Next::Last if line.is_empty() => return Ok(()),
+            Next::Last => return answer(alloc, machine, number, &line, &mut reply, out),
+            Next::Whole => {
+                answer(alloc, machine, number, &line, &mut reply, out)?;
+                number += 1;
+            }
+        }
+    }
+}
+
+// Answers one line.
+fn answer<M: Machine, K: Sink>(
+    alloc: Global,
+    machine: &mut M,
+    number: u64,
+    line: &[u8],
+    reply: &mut Vec<u8>,
+    out: &mut K,
+) -> Result<(), Stop<M::Why>>
+    ensures answers { Answers M.too_many M.too_long M.step result number machine.old line.now
+        machine.new (K.held out.old) (K.held out.new) }
+    ensures fault { IfErr result (λ stop. BlamesSink stop
+        (Rose (K.faults out.old) (K.faults out.new))) }
+    ensures count { K.faults out.old ≤ K.faults out.new }
+    ensures more { OnOk result (number < 2 ^ 32) }
+{
+    if number > LINES || line.len() > LONGEST {
+        return Err(refused_unread::<M>(number));
+    }
+    reply.clear();
+    match machine.answer(alloc, line, reply) {
+        Ok(()) => match write_all(out, reply) {
+            Ok(()) => Ok(()),
+            Err(_) => Err(Stop::WriteFault),
+        },
+        Err(AnswerError::Refused(why)) => Err(Stop::BadLine { line: number, why }),
+        Err(AnswerError::OutOfMemory) => Err(Stop::OutOfMemory),
+    }
+}
+
+// Refuses a line whatever it says, for its number or else for its length.
+fn refused_unread<M: Machine>(number: u64) -> Stop<M::Why>
+    ensures { result ≡ Stop.BadLine number (unread M.too_many M.too_long number) }
+{
+    let why = if number > LINES {
+        M::too_many()
+    } else {
+        M::too_long()
+    };
+    Stop::BadLine { line: number, why }
+}

@@ -1,0 +1,49 @@
+//! What a run ends with.
+
+use crate::why::Why;
+use std::alloc::{AllocError, Global};
+
+/// What a run ends with.
+#[derive(Clone, Copy, Debug, PartialEq, Eq)]
+pub enum Status {
+    /// The script was read to its end.
+    Done,
+    /// The words of the command line are none that the program takes.
+    Usage,
+    /// The first line that is refused, by its number, and why. Line 1 is the first.
+    BadLine { line: u64, why: Why },
+    /// A read of the script has failed.
+    ReadFault,
+    /// A write of the output has failed.
+    WriteFault,
+    /// There was no memory.
+    OutOfMemory,
+}
+
+impl Status {
+    /// The number that the process ends with.
+    pub fn code(self) -> u8 {
+        match self {
+            Status::Done => 0,
+            Status::Usage => 2,
+            Status::BadLine { .. } => 3,
+            Status::ReadFault => 4,
+            Status::WriteFault => 5,
+            Status::OutOfMemory => 9,
+        }
+    }
+
+    /// What is told on standard error; nothing where the run is done.
+    pub fn text(self, alloc: Global) -> Result<Option<String>, AllocError> {
+        match self {
+            Status::Done => Ok(None),
+            Status::Usage => Ok(Some(String::from_str(alloc, "rpz: usage")?)),
+            Status::BadLine { line, why } => {
+                Ok(Some(format!(in alloc; "rpz: line {line}: {why}")?))
+            }
+            Status::ReadFault => Ok(Some(String::from_str(alloc, "rpz: read fault")?)),
+            Status::WriteFault => Ok(Some(String::from_str(alloc, "rpz: write fault")?)),
+            Status::OutOfMemory => Ok(Some(String::from_str(alloc, "rpz: out of memory")?)),
+        }
+    }
+}
