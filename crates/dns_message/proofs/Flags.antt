@@ -1,9 +1,7 @@
--- The two octets of flags, between a header and its spelling.
-use Rattle.std.proofs.Common.{◌≡◌, ℕ, ◌+◌, ◌*◌, ◌/◌, ◌%◌, ◌<◌, ◌≤◌, ◌^◌, Bool, true, false, eqb, List, [], ◌∷◌, length, take, drop, get_or, refl, sym, ap, ◌∙◌, arith}
+-- The two octets of flags, from a header's spelling to the header.
+use Rattle.std.proofs.Common.{◌≡◌, ℕ, ◌+◌, ◌*◌, ◌/◌, ◌%◌, ◌<◌, ◌^◌, Bool, true, false, eqb, List, [], ◌∷◌, take, drop, get_or, refl, sym, ap, ◌∙◌, arith}
 use Rattle.std.specs.Prelude.{slice_index}
-use Rattle.std.proofs.lemmas.Bool.{eqb-true, eqb-false}
-use Rattle.std.proofs.lemmas.List.{length-drop, get_or-drop}
-use Rattle.dns_name.specs.Standing.{Stands}
+use Rattle.std.proofs.lemmas.List.{get_or-drop}
 use Rattle.dns_record.specs.Number.{number_at, AreOctets}
 use Rattle.dns_record.proofs.Numbers.{number_fits}
 use Rattle.dns_message.specs.declared.header.Header.{Header}
@@ -19,15 +17,6 @@ bit_small true = omega arith
 bit_read : (b : Bool) → eqb (bit b) 1 ≡ b
 bit_read false = refl
 bit_read true = refl
-
-bit_tells : (n : ℕ) (b : Bool) → n < 2 → eqb n 1 ≡ b → bit b ≡ n
-bit_tells n false lt e =
-    let apart : n ≡ 1 → ⊥ = eqb-false n 1 e in
-    omega (arith, apart)
-bit_tells n true lt e = sym (eqb-true n 1 e)
-
-bit_of : (n : ℕ) → n < 2 → bit (eqb n 1) ≡ n
-bit_of n lt = bit_tells n (eqb n 1) lt refl
 
 -- the header of these numbers
 abbrev header_of : ℕ → ℕ → ℕ → Header
@@ -59,9 +48,6 @@ record AreParts (octet qr opcode aa tc rd : ℕ) : Type 0 where
 parts_are : (qr opcode aa tc rd : ℕ) → qr < 2 → opcode < 16 → aa < 2 → tc < 2 → rd < 2 → AreParts (128 * qr + 8 * (opcode % 16) + 4 * aa + 2 * tc + rd) qr opcode aa tc rd
 parts_are qr opcode aa tc rd a b c d e = record { qr_is = omega arith; opcode_is = omega arith; aa_is = omega arith; tc_is = omega arith; rd_is = omega arith }
 
-parts_sum : (n : ℕ) → n < 256 → 128 * (n / 128 % 2) + 8 * (n / 8 % 16 % 16) + 4 * (n / 4 % 2) + 2 * (n / 2 % 2) + n / 1 % 2 ≡ n
-parts_sum n lt = omega arith
-
 -- the fourth octet
 
 record AreLowParts (octet ra rcode : ℕ) : Type 0 where
@@ -70,9 +56,6 @@ record AreLowParts (octet ra rcode : ℕ) : Type 0 where
 
 low_parts_are : (ra z rcode : ℕ) → ra < 2 → z < 8 → rcode < 16 → AreLowParts (128 * ra + 16 * z + rcode % 16) ra rcode
 low_parts_are ra z rcode a b c = record { ra_is = omega arith; rcode_is = omega arith }
-
-low_parts_sum : (n : ℕ) → n < 256 → 128 * (n / 128 % 2) + 16 * (n / 16 % 8) + n % 16 % 16 ≡ n
-low_parts_sum n lt = omega arith
 
 -- the two octets in a message
 
@@ -84,11 +67,6 @@ two_read : (octets : List ℕ) (x y : ℕ) → take 2 octets ≡ x ∷ y ∷ [] 
 two_read [] x y e = absurd cc
 two_read (a ∷ []) x y e = absurd cc
 two_read (a ∷ b ∷ rest) x y e = record { first = cc; second = cc }
-
-two_taken : (octets : List ℕ) → 2 ≤ length octets → take 2 octets ≡ get_or octets 0 0 ∷ get_or octets 1 0 ∷ []
-two_taken [] long = absurd (omega arith)
-two_taken (a ∷ []) long = absurd (omega arith)
-two_taken (a ∷ b ∷ rest) long = refl
 
 -- the header that is read of these numbers
 header_from : (id first second z : ℕ) (h : Header) → id ≡ h.id → first ≡ first_flags h → second ≡ second_flags z h → h.opcode < 16 → h.rcode < 16 → z < 8 → header_of id first second ≡ h
@@ -112,30 +90,6 @@ header_read bytes z h id opcode_fits rcode_fits z_fits e =
     let second : slice_index bytes 3 ≡ second_flags z h = sym (get_or-drop 2 bytes 1 0) ∙ two.second in
     header_parts bytes ∙ header_from (number_at 2 bytes 0) (slice_index bytes 2) (slice_index bytes 3) z h id first second opcode_fits rcode_fits z_fits
 
-first_is : (n id second : ℕ) → n < 256 → first_flags (header_of id n second) ≡ n
-first_is n id second lt =
-    let qr = bit_of (n / 128 % 2) (omega arith) in
-    let aa = bit_of (n / 4 % 2) (omega arith) in
-    let tc = bit_of (n / 2 % 2) (omega arith) in
-    let rd = bit_of (n / 1 % 2) (omega arith) in
-    rw (qr, aa, tc, rd) (parts_sum n lt)
-
-second_is : (n id first : ℕ) → n < 256 → second_flags (n / 16 % 8) (header_of id first n) ≡ n
-second_is n id first lt =
-    let ra = bit_of (n / 128 % 2) (omega arith) in
-    rw ra (low_parts_sum n lt)
-
--- what is read as the header's flags stands there
-pub flags_stand : (bytes : List ℕ) → AreOctets bytes → 4 ≤ length bytes → Stands (first_flags (header_in bytes) ∷ second_flags (slice_index bytes 3 / 16 % 8) (header_in bytes) ∷ []) bytes 2 4
-flags_stand bytes octets long =
-    let first = slice_index bytes 2 in
-    let second = slice_index bytes 3 in
-    let id = number_at 2 bytes 0 in
-    let e1 : first_flags (header_in bytes) ≡ first = ap (λ h. first_flags h) (header_parts bytes) ∙ first_is first id second (octets 2) in
-    let e2 : second_flags (second / 16 % 8) (header_in bytes) ≡ second = ap (λ h. second_flags (second / 16 % 8) h) (header_parts bytes) ∙ second_is second id first (octets 3) in
-    let taken : take 2 (drop 2 bytes) ≡ first ∷ second ∷ [] = two_taken (drop 2 bytes) (omega (arith, length-drop 2 bytes)) ∙ ap (λ (k : ℕ). k ∷ get_or (drop 2 bytes) 1 0 ∷ []) (get_or-drop 2 bytes 0 0) ∙ ap (λ (k : ℕ). first ∷ k ∷ []) (get_or-drop 2 bytes 1 0) in
-    rw (e1, e2) (record { begins = taken; ends = refl })
-
 -- how large the parts of a header are that is read
 pub record IsSmall (h : Header) : Type 0 where
   pub id_fits : h.id < 2 ^ 16
@@ -145,7 +99,3 @@ pub record IsSmall (h : Header) : Type 0 where
 pub header_small : (bytes : List ℕ) → AreOctets bytes → IsSmall (header_in bytes)
 unfolding header_in
 header_small bytes octets = record { id_fits = number_fits 2 bytes 0 octets; opcode_fits = omega arith; rcode_fits = omega arith }
-
-pub header_id : (bytes : List ℕ) → number_at 2 bytes 0 ≡ (header_in bytes).id
-unfolding header_in
-header_id bytes = refl

@@ -1,6 +1,12 @@
 pub mod Loop
 pub mod Pieces
 pub mod Flags
-pub mod QuestionStanding
-pub mod RecordsStanding
+pub mod RecordsGrammar
+pub mod AdditionalLoop
+pub mod AdditionalGrammar
+pub mod QuestionGrammar
+pub mod MessageReads
+pub mod MessageGrammar
+pub mod OptSpelling
 pub mod Standing
+pub mod MessageIs

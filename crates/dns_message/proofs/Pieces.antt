@@ -29,6 +29,6 @@ pub none_written : (before : List ℕ) (records : List PlainRecord) → before �
 unfolding records_octets
 none_written before records = sym (append-nil before)
 
--- five pieces after what stands before them
-pub regrouped : (before a b c d e : List ℕ) → ((((before ++ a) ++ b) ++ c) ++ d) ++ e ≡ before ++ ((((a ++ b) ++ c) ++ d) ++ e)
-regrouped before a b c d e = simp append_assoc
+-- six pieces after what stands before them
+pub regrouped : (before a b c d e f : List ℕ) → (((((before ++ a) ++ b) ++ c) ++ d) ++ e) ++ f ≡ before ++ (((((a ++ b) ++ c) ++ d) ++ e) ++ f)
+regrouped before a b c d e f = simp append_assoc

@@ -1,11 +1,12 @@
 -- Which message the bytes are, or which is their first fault (RFC 1035, section 4.1).
-use Rattle.std.specs.Prelude.{◌≡◌, ℕ, zero, suc, ◌+◌, ◌/◌, ◌%◌, ◌==◌, Bool, nat_lt, if◌then◌else◌, List, [], ◌∷◌, length, slice_index, Option, Some, None, Result, Ok, Err}
+use Rattle.std.specs.Prelude.{◌≡◌, ℕ, zero, suc, ◌+◌, ◌/◌, ◌%◌, ◌==◌, Bool, ◌&&◌, nat_lt, if◌then◌else◌, List, [], ◌∷◌, ◌++◌, length, slice_index, Option, Some, None, Result, Ok, Err}
 use Rattle.dns_name.specs.Reading.{◌>>=◌, name_at}
 use Rattle.dns_record.specs.Number.{number_at}
 use Rattle.dns_record.specs.Reading.{record_at}
 use Rattle.dns_record.specs.Record.{PlainRecord}
+use Rattle.dns_message.specs.declared.edns.Edns.{Edns}
 use Rattle.dns_message.specs.declared.fault.MessageFault.{MessageFault}
-use Rattle.dns_message.specs.declared.fault.MessageFault.TheVariants.{Short, Question as Questions, Trailing}
+use Rattle.dns_message.specs.declared.fault.MessageFault.TheVariants.{Short, Question as Questions, Trailing, TwoOpts}
 use Rattle.dns_message.specs.declared.fault.MessageError.{MessageError}
 use Rattle.dns_message.specs.declared.fault.MessageError.TheVariants as errors
 use Rattle.dns_message.specs.declared.header.Header.{Header}
@@ -59,6 +60,39 @@ records_at (suc count) bytes place = do
   others ← records_at count bytes first.1
   Ok (first.0 ∷ others.0, others.1)
 
+-- an OPT record (RFC 6891, section 6.1.2): the type 41, owned by the root
+abbrev pub is_opt : PlainRecord → Bool
+is_opt r = r.rtype == 41 && length r.owner == 0
+
+-- what an OPT record says (RFC 6891, section 6.1.3), but for its flags and its options
+abbrev pub edns_of : PlainRecord → Edns
+edns_of r = record { payload = r.class; version = r.ttl / 65536 % 256; extended = r.ttl / 16777216 % 256 }
+
+-- an OPT record where this one was read before, or none
+abbrev pub only_opt : Option Edns → PlainRecord → Result (Option Edns) MessageFault
+only_opt None r = Ok (Some (edns_of r))
+only_opt (Some before) r = Err TwoOpts
+
+-- what is kept of a record behind these: the record, or what it says if it is an OPT record
+abbrev pub kept : List PlainRecord → Option Edns → PlainRecord → Result (List PlainRecord × Option Edns) MessageFault
+kept records edns r = if is_opt r then (only_opt edns r >>= λ now. Ok (records, now)) else Ok (records ++ r ∷ [], edns)
+
+-- the records of the additional section that are no OPT, what the OPT record says, and the place after them
+abbrev pub Additional : Type 0
+Additional = List PlainRecord × Option Edns × ℕ
+
+-- a record before what is read
+abbrev pub with_record : PlainRecord → Result Additional MessageFault → Result Additional MessageFault
+with_record r read = read >>= λ others. Ok (r ∷ others.0, others.1, others.2)
+
+-- So many records of the additional section from a place on, and the place after them. What an OPT record
+-- says is told apart from the other records; a second one is a fault, whatever stands behind it.
+unfoldable pub additional_at : ℕ → List ℕ → ℕ → Option Edns → Result Additional MessageFault
+additional_at zero bytes place edns = Ok ([], edns, place)
+additional_at (suc count) bytes place edns = do
+  first ← as_record (record_at bytes place)
+  if is_opt first.0 then (only_opt edns first.0 >>= λ now. additional_at count bytes first.1 now) else with_record first.0 (additional_at count bytes first.1 edns)
+
 -- a message that ends at this place
 abbrev pub ended : List ℕ → ℕ → Message → Result Message MessageFault
 ended bytes place message = if nat_lt place (length bytes) then Err Trailing else Ok message
@@ -69,8 +103,8 @@ sections_of bytes = do
   question ← questions_at (number_at 2 bytes 4) bytes
   answer ← records_at (number_at 2 bytes 6) bytes question.1
   authority ← records_at (number_at 2 bytes 8) bytes answer.1
-  additional ← records_at (number_at 2 bytes 10) bytes authority.1
-  ended bytes additional.1 (record { header = header_in bytes; question = question.0; answer = answer.0; authority = authority.0; additional = additional.0 })
+  additional ← additional_at (number_at 2 bytes 10) bytes authority.1 None
+  ended bytes additional.2 (record { header = header_in bytes; question = question.0; answer = answer.0; authority = authority.0; additional = additional.0; edns = additional.1 })
 
 -- The message that the bytes are, or the first fault.
 unfoldable pub message_of : List ℕ → Result Message MessageFault

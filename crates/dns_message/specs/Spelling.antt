@@ -4,9 +4,11 @@ use Rattle.std.specs.List.{flat_map, AllByRecursion}
 use Rattle.dns_name.specs.Labels.{IsName, name_octets}
 use Rattle.dns_record.specs.Number.{number_octets}
 use Rattle.dns_record.specs.Record.{PlainRecord, IsRecord, record_octets}
+use Rattle.dns_message.specs.declared.edns.Edns.{Edns}
 use Rattle.dns_message.specs.declared.header.Header.{Header}
 use Rattle.dns_message.specs.declared.message.Message.{Message}
 use Rattle.dns_message.specs.declared.question.Question.{Question}
+use Rattle.dns_message.specs.Reading.{is_opt}
 
 -- a bit as a number
 abbrev pub bit : Bool → ℕ
@@ -41,14 +43,24 @@ header_octets z h questions answers authorities additionals = number_octets 2 h.
 unfoldable pub records_octets : List PlainRecord → List ℕ
 records_octets records = flat_map record_octets records
 
--- a message of these parts, with these bits Z
-unfoldable pub parts_octets : ℕ → Header → Option Question → List PlainRecord → List PlainRecord → List PlainRecord → List ℕ
-parts_octets z h question answer authority additional =
-    header_octets z h (question_count question) (length answer) (length authority) (length additional)
-    ++ question_octets question ++ records_octets answer ++ records_octets authority ++ records_octets additional
+abbrev pub opt_count : Option Edns → ℕ
+opt_count None = 0
+opt_count (Some edns) = 1
+
+-- An OPT record (RFC 6891, section 6.1.2): the root, the type 41, the size for the class, the higher bits of
+-- the response code, the version and no flags for the time to live, and no options.
+unfoldable pub opt_octets : Option Edns → List ℕ
+opt_octets None = []
+opt_octets (Some edns) = 0 ∷ [] ++ number_octets 2 41 ++ number_octets 2 edns.payload ++ (edns.extended ∷ edns.version ∷ 0 ∷ 0 ∷ []) ++ number_octets 2 0
+
+-- a message of these parts, with these bits Z; the OPT record stands last
+unfoldable pub parts_octets : ℕ → Header → Option Question → List PlainRecord → List PlainRecord → List PlainRecord → Option Edns → List ℕ
+parts_octets z h question answer authority additional edns =
+    header_octets z h (question_count question) (length answer) (length authority) (length additional + opt_count edns)
+    ++ question_octets question ++ records_octets answer ++ records_octets authority ++ records_octets additional ++ opt_octets edns
 
 abbrev pub message_octets : ℕ → Message → List ℕ
-message_octets z m = parts_octets z m.header m.question m.answer m.authority m.additional
+message_octets z m = parts_octets z m.header m.question m.answer m.authority m.additional m.edns
 
 -- the one spelling: the bits Z are 0
 abbrev pub spelled : Message → List ℕ
@@ -58,6 +70,11 @@ pub record IsQuestion (question : Question) : Type 0 where
   pub is_name : IsName question.name
   pub type_fits : question.qtype < 2 ^ 16
   pub class_fits : question.qclass < 2 ^ 16
+
+pub record IsEdns (edns : Edns) : Type 0 where
+  pub payload_fits : edns.payload < 2 ^ 16
+  pub version_fits : edns.version < 256
+  pub extended_fits : edns.extended < 256
 
 -- such a message can be read
 pub record IsMessage (m : Message) : Type 0 where
@@ -70,11 +87,6 @@ pub record IsMessage (m : Message) : Type 0 where
   pub are_additionals : AllByRecursion IsRecord m.additional
   pub answers_fit : length m.answer < 2 ^ 16
   pub authorities_fit : length m.authority < 2 ^ 16
-  pub additionals_fit : length m.additional < 2 ^ 16
-
--- The octets are the message: a header with any bits Z, the question and the records one after another, and nothing behind them.
-pub record Decodes (bytes : List ℕ) (m : Message) : Type 0 where
-  pub is_message : IsMessage m
-  pub z : ℕ
-  pub z_fits : z < 8
-  pub octets : bytes ≡ message_octets z m
+  pub additionals_fit : length m.additional + opt_count m.edns < 2 ^ 16
+  pub plain_additionals : AllByRecursion (λ r. is_opt r ≡ false) m.additional
+  pub are_edns : IfSome m.edns IsEdns

@@ -18,6 +18,8 @@ pub enum MessageFault {
     Record(RecordFault),
     /// Bytes stand behind the last record.
     Trailing,
+    /// A second OPT record stands in the additional section (RFC 6891, section 6.1.1).
+    TwoOpts,
 }
 
 /// Why a message could not be read: a fault of the bytes, or want of memory.

@@ -3,6 +3,7 @@
 ghost use Rattle.std.specs.Prelude.{◌≡◌, ◌+◌, ◌/◌, ◌%◌, ◌<◌, ◌≤◌, length, slice_index, IfOk};
 ghost use Rattle.dns_message.specs.Reading.{Gives, is_set as bit_is_set, header_in, end_at, question_at, questions_at, records_at, sections_of, message_of};
 
+use crate::additional_reading::read_additional;
 use crate::fault::{MessageError, MessageFault};
 use crate::header::Header;
 use crate::message::Message;
@@ -12,7 +13,8 @@ use dns_record::number::u16_at;
 use dns_record::{Records, read_record};
 use std::alloc::Global;
 
-/// The message that the bytes are, or the first fault. The three bits Z of the header are ignored.
+/// The message that the bytes are, or the first fault. The three bits Z of the header are ignored, and so
+/// are the flags and the options of the OPT record (RFC 6891, section 6.1.2).
 #[tactic(auto, unfolding(crate::specs::Reading::message_of))]
 pub fn read_message(alloc: Global, bytes: &[u8]) -> Result<Message, MessageError>
     ensures { Gives (λ x. x) result (message_of bytes.now) }
@@ -32,7 +34,7 @@ fn read_sections(alloc: Global, bytes: &[u8]) -> Result<Message, MessageError>
     let (question, place) = read_questions(alloc, u16_at(bytes, 4), bytes)?;
     let (answer, place) = read_records(alloc, u16_at(bytes, 6), bytes, place)?;
     let (authority, place) = read_records(alloc, u16_at(bytes, 8), bytes, place)?;
-    let (additional, place) = read_records(alloc, u16_at(bytes, 10), bytes, place)?;
+    let (additional, edns, place) = read_additional(alloc, u16_at(bytes, 10), bytes, place)?;
     if place < bytes.len() {
         return Err(MessageError::Fault(MessageFault::Trailing));
     }
@@ -42,12 +44,13 @@ fn read_sections(alloc: Global, bytes: &[u8]) -> Result<Message, MessageError>
         answer,
         authority,
         additional,
+        edns,
     })
 }
 
 // What the header says, but for its counts.
 #[tactic(auto, unfolding(crate::specs::Reading::header_in))]
-fn read_header(bytes: &[u8]) -> Header
+pub(crate) fn read_header(bytes: &[u8]) -> Header
     requires { 12 ≤ length bytes.now }
     ensures { result ≡ header_in bytes.now }
 {

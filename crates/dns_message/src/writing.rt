@@ -2,14 +2,15 @@
 
 ghost use Rattle.std.specs.Prelude.{◌≡◌, ◌≤◌, ◌++◌, length, take, option_copied, IfOk, OnOk, OnErr};
 ghost use Rattle.dns_record.specs.Number.{number_octets};
-ghost use Rattle.dns_message.specs.Spelling.{first_flags as flags_first, second_flags as flags_second, question_octets, records_octets, header_octets, parts_octets, spelled};
+ghost use Rattle.dns_message.specs.Spelling.{first_flags as flags_first, second_flags as flags_second, question_octets, records_octets, opt_octets, header_octets, parts_octets, spelled};
 
+use crate::edns::Edns;
 use crate::header::Header;
 use crate::message::Message;
 use crate::question::Question;
 use dns_name::Octets;
-use dns_record::Record;
 use dns_record::number::push_u16;
+use dns_record::{Record, rtype};
 use std::alloc::{AllocError, Global};
 
 /// The bytes of the message, its names in full and the bits Z 0. The limit is 512 to 65,535 bytes; no
@@ -27,11 +28,13 @@ pub fn write_message(alloc: Global, message: &Message, limit: usize) -> Result<O
         message.answer.as_slice(),
         message.authority.as_slice(),
         message.additional.as_slice(),
+        message.edns.as_ref(),
     )?;
     Ok(out)
 }
 
-/// Writes the message of these parts at the end, its names in full and the bits Z 0. An `Err` leaves
+/// Writes the message of these parts at the end, its names in full and the bits Z 0; the OPT record, which is
+/// counted with the additional ones, stands last. An `Err` leaves
 /// what was written before, and maybe a part of the message behind it.
 #[tactic(auto, unfolding(crate::specs::Spelling::parts_octets), using(crate::proofs::Pieces::regrouped))]
 pub fn write_parts(
@@ -41,8 +44,9 @@ pub fn write_parts(
     answer: &[Record],
     authority: &[Record],
     additional: &[Record],
+    edns: Option<&Edns>,
 ) -> Result<(), AllocError>
-    ensures ok { OnOk result (out.new ≡ out.old ++ parts_octets 0 header.now (option_copied question.entry) answer.now authority.now additional.now) }
+    ensures ok { OnOk result (out.new ≡ out.old ++ parts_octets 0 header.now (option_copied question.entry) answer.now authority.now additional.now (option_copied edns.entry)) }
     ensures begins { take (length out.old) out.new ≡ out.old }
 {
     write_header(
@@ -51,12 +55,13 @@ pub fn write_parts(
         usize::from(question.is_some()),
         answer.len(),
         authority.len(),
-        additional.len(),
+        additional.len() + usize::from(edns.is_some()),
     )?;
     write_question(out, question)?;
     write_records(out, answer)?;
     write_records(out, authority)?;
-    write_records(out, additional)
+    write_records(out, additional)?;
+    write_opt(out, edns)
 }
 
 // Writes the header, its bits Z 0.
@@ -132,4 +137,22 @@ fn write_records(out: &mut Octets, records: &[Record]) -> Result<(), AllocError>
         rr.write(out)?;
     }
     Ok(())
+}
+
+// Writes the OPT record, where there is one: no flags and no options.
+#[tactic(auto, unfolding(crate::specs::Spelling::opt_octets))]
+fn write_opt(out: &mut Octets, edns: Option<&Edns>) -> Result<(), AllocError>
+    ensures ok { OnOk result (out.new ≡ out.old ++ opt_octets (option_copied edns.entry)) }
+    ensures begins { take (length out.old) out.new ≡ out.old }
+{
+    match edns {
+        None => Ok(()),
+        Some(edns) => {
+            out.push(0)?;
+            push_u16(out, rtype::OPT)?;
+            push_u16(out, edns.payload)?;
+            out.append(&[edns.extended, edns.version, 0, 0])?;
+            push_u16(out, 0)
+        }
+    }
 }

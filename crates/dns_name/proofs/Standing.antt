@@ -1,17 +1,15 @@
 -- What stands at a place of a message, in parts, and names where they stand in full.
-use Rattle.std.proofs.Common.{◌≡◌, ℕ, zero, suc, ◌+◌, ◌-◌, ◌≤◌, true, false, cond, eqb, ltb, List, [], ◌∷◌, ◌++◌, length, take, drop, Result, Ok, Err, MatchResult, refl, sym, ap, subst, ◌∙◌, arith, length-append}
+use Rattle.std.proofs.Common.{◌≡◌, ℕ, ◌+◌, ◌≤◌, List, [], ◌∷◌, ◌++◌, length, take, drop, Ok, Err, MatchResult, refl, sym, ap, subst, ◌∙◌, arith, length-append}
 use Rattle.std.specs.Prelude.{⊤}
 use Rattle.std.specs.List.{flat_map, AllByRecursion}
 use Rattle.std.proofs.Math.Seq.{take-add}
-use Rattle.std.proofs.lemmas.Bool.{cond_both, eqb-true, eqb-false, ltb-true, ltb-false, lt-ltb, le-ltb, ne_eqb}
 use Rattle.std.proofs.lemmas.List.{length-take, take_at, drop_at, drop-drop}
-use Rattle.dns_name.specs.declared.fault.NameFault.{NameFault}
-use Rattle.dns_name.specs.declared.fault.NameFault.TheVariants.{Short, LabelType, TooLong}
+use Rattle.dns_name.specs.Grammar as grammar
+use Rattle.dns_name.specs.Grammar.{HasRoom, GoesOn}
 use Rattle.dns_name.specs.Labels.{IsLabel, IsName, label_octets, name_octets}
-use Rattle.dns_name.specs.Reading as reading
-use Rattle.dns_name.specs.Reading.{Piece, piece_at, pointer_at, Outcome, with_labels, follow, ◌>>=◌, name_from, name_at}
+use Rattle.dns_name.specs.Reading.{Outcome, with_labels, with_after, name_at}
 use Rattle.dns_name.specs.Standing.{Stands}
-use Rattle.dns_name.proofs.Loop.{one_piece}
+use Rattle.dns_name.proofs.GrammarLemmas.{name_stands, name_only}
 use Rattle.dns_name.proofs.WireLemmas.{name_octets-cons}
 
 -- two parts that stand one after the other
@@ -55,157 +53,79 @@ stands_second first second message at after h =
       ends = omega (arith, h.ends, length-append first second);
     }
 
--- the first byte that stands there, and the others
-record Head (b : ℕ) (bs : List ℕ) (x : ℕ) (xs : List ℕ) : Type 0 where
-  pub first : b ≡ x
-  pub rest : take (length xs) bs ≡ xs
-
-head : (b : ℕ) (bs : List ℕ) (x : ℕ) (xs : List ℕ) → take (length (x ∷ xs)) (b ∷ bs) ≡ x ∷ xs → Head b bs x xs
-head b bs x xs h = record { first = cc; rest = cc }
-
-end_is : (used : ℕ) (bytes : List ℕ) → take 1 bytes ≡ 0 ∷ [] → piece_at used bytes ≡ Ok reading.end
-end_is used [] h = absurd cc
-end_is used (b ∷ bs) h = rw (head b bs 0 [] h).first refl
-
-label_is : (used : ℕ) (bytes first : List ℕ) → IsLabel first → used + length first + 2 ≤ 255 → take (length (label_octets first)) bytes ≡ label_octets first → piece_at used bytes ≡ Ok (reading.label first)
-label_is used [] first is room h = absurd cc
-label_is used (b ∷ bs) first is room h =
-    let p = head b bs (length first) first h in
-    let len = p.first in
-    let low = is.not_empty in
-    let high = is.short in
-    let long : length first ≤ length bs = omega (arith, length-take (length first) bs, ap length p.rest) in
-    let e1 : eqb b 0 ≡ false = ne_eqb b 0 (λ z. omega arith) in
-    let e2 : ltb b 64 ≡ true = lt-ltb b 64 (omega arith) in
-    let e3 : ltb (length bs) b ≡ false = le-ltb (length bs) b (omega arith) in
-    let e4 : ltb 255 (used + b + 2) ≡ false = le-ltb 255 (used + b + 2) (omega arith) in
-    rw (e1, e2, e3, e4) (ap (λ (l : List ℕ). Ok (reading.label l)) (ap (λ (n : ℕ). take n bs) len ∙ p.rest))
-
--- the bytes begin with this piece
-abbrev IsPiece : ℕ → List ℕ → Piece → Type 0
-IsPiece used bytes reading.end = take 1 bytes ≡ 0 ∷ []
-IsPiece used bytes (reading.label first) = IsLabel first × (used + length first + 2 ≤ 255) × (take (length (label_octets first)) bytes ≡ label_octets first)
-
-abbrev Says : ℕ → List ℕ → Result Piece NameFault → Type 0
-Says used bytes r = MatchResult r (IsPiece used bytes) (λ fault. ⊤)
-
-label_said : (used n : ℕ) (rest : List ℕ) → 1 ≤ n → n ≤ 63 → used + n + 2 ≤ 255 → n ≤ length rest → Says used (n ∷ rest) (Ok (reading.label (take n rest)))
-label_said used n rest low high room long =
-    let len : length (take n rest) ≡ n = omega (arith, length-take n rest) in
-    (record { not_empty = omega arith; short = omega arith }, omega arith, rw len refl)
-
-room_said : (used n : ℕ) (rest : List ℕ) → 1 ≤ n → n ≤ 63 → n ≤ length rest → Says used (n ∷ rest) (cond (ltb 255 (used + n + 2)) (Err TooLong) (Ok (reading.label (take n rest))))
-room_said used n rest low high long =
-    cond_both (ltb 255 (used + n + 2)) (Err TooLong) (Ok (reading.label (take n rest))) (Says used (n ∷ rest))
-    (λ e. tt)
-    (λ e. label_said used n rest low high (ltb-false 255 (used + n + 2) e) long)
-
-small_said : (used n : ℕ) (rest : List ℕ) → 1 ≤ n → n ≤ 63 → Says used (n ∷ rest) (cond (ltb (length rest) n) (Err Short) (cond (ltb 255 (used + n + 2)) (Err TooLong) (Ok (reading.label (take n rest)))))
-small_said used n rest low high =
-    cond_both (ltb (length rest) n) (Err Short) (cond (ltb 255 (used + n + 2)) (Err TooLong) (Ok (reading.label (take n rest)))) (Says used (n ∷ rest))
-    (λ e. tt)
-    (λ e. room_said used n rest low high (ltb-false (length rest) n e))
-
-pointer_said : (used n : ℕ) (rest : List ℕ) → Says used (n ∷ rest) (pointer_at rest)
-pointer_said used n [] = tt
-pointer_said used n (low ∷ rest) = tt
-
-large_said : (used n : ℕ) (rest : List ℕ) → Says used (n ∷ rest) (cond (ltb n 192) (Err LabelType) (pointer_at rest))
-large_said used n rest =
-    cond_both (ltb n 192) (Err LabelType) (pointer_at rest) (Says used (n ∷ rest))
-    (λ e. tt)
-    (λ e. pointer_said used n rest)
-
-piece_said : (used : ℕ) (bytes : List ℕ) → Says used bytes (piece_at used bytes)
-piece_said used [] = tt
-piece_said used (n ∷ rest) =
-    let small = cond (ltb (length rest) n) (Err Short) (cond (ltb 255 (used + n + 2)) (Err TooLong) (Ok (reading.label (take n rest)))) in
-    let large = cond (ltb n 192) (Err LabelType) (pointer_at rest) in
-    cond_both (eqb n 0) (Ok reading.end) (cond (ltb n 64) small large) (Says used (n ∷ rest))
-    (λ e. ap (λ (k : ℕ). k ∷ []) (eqb-true n 0 e))
-    (λ e. let apart = eqb-false n 0 e in
-    cond_both (ltb n 64) small large (Says used (n ∷ rest))
-    (λ s. small_said used n rest (omega arith) (omega (arith, ltb-true n 64 s)))
-    (λ s. large_said used n rest))
-
--- what is written as a name is read as that name
-read_where_it_stands : (message : List ℕ) (left used place : ℕ) (labels : List (List ℕ)) (after : ℕ) → AllByRecursion IsLabel labels → used + length (flat_map label_octets labels) ≤ 254 → 256 ≤ left + used
-    → Stands (name_octets labels) message place after → name_from left message used place ≡ Ok (labels, after)
-read_where_it_stands message left used place [] after each room enough h =
-    one_piece left message used place reading.end (omega arith) (end_is used (drop place message) h.begins) ∙ ap (λ (n : ℕ). Ok ([], n)) (omega (arith, h.ends))
-read_where_it_stands message left used place (l ∷ ls) after each room enough h =
+-- what is written as a name stands there by the rules
+written_goes_on : (message : List ℕ) (run used place : ℕ) (labels : List (List ℕ)) (after : ℕ) → AllByRecursion IsLabel labels → used + length (flat_map label_octets labels) ≤ 254
+    → Stands (name_octets labels) message place after → GoesOn message run used place (Ok (labels, after))
+written_goes_on message run used place [] after each room h = subst (λ (end : ℕ). GoesOn message run used place (Ok ([], end))) (omega (arith, h.ends)) (grammar.ends run used place h.begins)
+written_goes_on message run used place (l ∷ ls) after each room h =
     let parts : name_octets (l ∷ ls) ≡ label_octets l ++ name_octets ls = name_octets-cons l ls in
     let whole : Stands (label_octets l ++ name_octets ls) message place after = rw (← parts) h in
     let first = stands_first (label_octets l) (name_octets ls) message place after whole in
     let second : Stands (name_octets ls) message (place + length l + 1) after = subst (λ (n : ℕ). Stands (name_octets ls) message n after) (omega arith) (stands_second (label_octets l) (name_octets ls) message place after whole) in
     let len = length-append (label_octets l) (flat_map label_octets ls) in
-    one_piece left message used place (reading.label l) (omega arith) (label_is used (drop place message) l each.0 (omega (arith, len)) first.begins)
-    ∙ ap (with_labels (l ∷ [])) (read_where_it_stands message (left - 1) (used + length l + 1) (place + length l + 1) ls after each.1 (omega (arith, len)) (omega arith) second)
+    let has : HasRoom used l = record { is_label = each.0; room = omega (arith, len) } in
+    grammar.label run used place l (Ok (ls, after)) has first.begins (written_goes_on message run (used + length l + 1) (place + length l + 1) ls after each.1 (omega (arith, len)) second)
 
 pub name_written : (name : List (List ℕ)) (message : List ℕ) (at after : ℕ) → IsName name → Stands (name_octets name) message at after → name_at message at ≡ Ok (name, after)
-unfolding name_at
 name_written name message at after is h =
-    read_where_it_stands message 256 0 at name after is.labels (omega (arith, is.short, length-append (flat_map label_octets name) (0 ∷ []))) (omega arith) h
+    name_only message at (Ok (name, after)) (written_goes_on message at 0 at name after is.labels (omega (arith, is.short, length-append (flat_map label_octets name) (0 ∷ []))) h)
 
--- what is read of a name: where it stands, and that it is one
-record IsRead (message : List ℕ) (used place : ℕ) (x : List (List ℕ) × ℕ) : Type 0 where
-  pub stands : Stands (name_octets x.0) message place x.1
-  pub each : AllByRecursion IsLabel x.0
-  pub room : used + length (flat_map label_octets x.0) ≤ 254
+-- what is known of each name that is read
+abbrev Of : (List (List ℕ) × ℕ → Type 0) → Outcome → Type 0
+Of is outcome = MatchResult outcome is (λ fault. ⊤)
 
 same_outcome : (o : Outcome) (x y : List (List ℕ) × ℕ) → o ≡ Ok x → o ≡ Ok y → x ≡ y
 same_outcome o x y e f = cc
 
-same_value : (x y : List (List ℕ) × ℕ) → (let o : Outcome = Ok x in o ≡ Ok y) → x ≡ y
-same_value x y e = same_outcome (Ok x) x y refl e
+of_read : (is : List (List ℕ) × ℕ → Type 0) (o : Outcome) (x : List (List ℕ) × ℕ) → Of is o → o ≡ Ok x → is x
+of_read is (Ok y) x h e = subst is (same_outcome (Ok y) y x refl e) h
+of_read is (Err fault) x h e = absurd cc
 
-label_read : (message : List ℕ) (used place : ℕ) (first : List ℕ) (ls : List (List ℕ)) (after : ℕ) → IsPiece used (drop place message) (reading.label first) → IsRead message (used + length first + 1) (place + length first + 1) (ls, after) → IsRead message used place (first ∷ ls, after)
-label_read message used place first ls after piece more =
-    let parts : name_octets (first ∷ ls) ≡ label_octets first ++ name_octets ls = name_octets-cons first ls in
-    let front : Stands (label_octets first) message place (place + length first + 1) = record { begins = piece.2; ends = omega arith } in
-    record {
-      stands = rw parts (stands_both (label_octets first) (name_octets ls) message place (place + length first + 1) after front more.stands);
-      each = (piece.0, more.each);
-      room = omega (arith, more.room, length-append (label_octets first) (flat_map label_octets ls));
-    }
+-- labels that fit into a name of which `used` bytes are read
+record Fits (used : ℕ) (x : List (List ℕ) × ℕ) : Type 0 where
+  pub each : AllByRecursion IsLabel x.0
+  pub room : used + length (flat_map label_octets x.0) ≤ 254
 
-after_label : (message : List ℕ) (used place : ℕ) (first : List ℕ) (o : Outcome) (x : List (List ℕ) × ℕ) → IsPiece used (drop place message) (reading.label first) → MatchResult o (IsRead message (used + length first + 1) (place + length first + 1)) (λ fault. ⊤)
-    → with_labels (first ∷ []) o ≡ Ok x → IsRead message used place x
-after_label message used place first (Ok (ls, after)) x piece more e = subst (IsRead message used place) (same_value (first ∷ ls, after) x e) (label_read message used place first ls after piece more)
-after_label message used place first (Err fault) x piece more e = absurd cc
+fits_more : (used : ℕ) (first : List ℕ) (o : Outcome) → HasRoom used first → Of (Fits (used + length first + 1)) o → Of (Fits used) (with_labels (first ∷ []) o)
+fits_more used first (Ok (ls, after)) has h = record { each = (has.is_label, h.each); room = omega (arith, h.room, length-append (label_octets first) (flat_map label_octets ls)) }
+fits_more used first (Err fault) has h = tt
 
-after_piece : (left : ℕ) (message : List ℕ) (used place : ℕ) (r : Result Piece NameFault) (x : List (List ℕ) × ℕ) → used ≤ 254 → Says used (drop place message) r
-    → ((used place : ℕ) → used ≤ 254 → MatchResult (name_from left message used place) (IsRead message used place) (λ fault. ⊤))
-    → r >>= follow (name_from left message) used place ≡ Ok x → IsRead message used place x
-after_piece left message used place (Err fault) x room says go e = absurd cc
-after_piece left message used place (Ok reading.end) x room says go e =
-    subst (IsRead message used place) (same_value ([], place + 1) x e) (record { stands = record { begins = says; ends = refl }; each = tt; room = omega arith })
-after_piece left message used place (Ok (reading.label first)) x room says go e =
-    after_label message used place first (name_from left message (used + length first + 1) (place + length first + 1)) x says (go (used + length first + 1) (place + length first + 1) (omega (arith, says.1))) e
+fits_after : (used after : ℕ) (o : Outcome) → Of (Fits used) o → Of (Fits used) (with_after after o)
+fits_after used after (Ok x) h = record { each = h.each; room = h.room }
+fits_after used after (Err fault) h = tt
 
-matched : (message : List ℕ) (used place : ℕ) (o : Outcome) → ((x : List (List ℕ) × ℕ) → o ≡ Ok x → IsRead message used place x) → MatchResult o (IsRead message used place) (λ fault. ⊤)
-matched message used place (Ok x) h = h x refl
-matched message used place (Err fault) h = tt
-
-read_from : (left : ℕ) (message : List ℕ) (used place : ℕ) → used ≤ 254 → MatchResult (name_from left message used place) (IsRead message used place) (λ fault. ⊤)
-unfolding name_from
-read_from zero message used place room = tt
-read_from (suc left) message used place room =
-    matched message used place (name_from (suc left) message used place)
-    (λ x e. after_piece left message used place (piece_at used (drop place message)) x room (piece_said used (drop place message)) (read_from left message) e)
-
-unmatched : (message : List ℕ) (used place : ℕ) (o : Outcome) (x : List (List ℕ) × ℕ) → MatchResult o (IsRead message used place) (λ fault. ⊤) → o ≡ Ok x → IsRead message used place x
-unmatched message used place (Ok y) x h e = subst (IsRead message used place) (same_value y x e) h
-unmatched message used place (Err fault) x h e = absurd cc
-
-name_read : (name : List (List ℕ)) (message : List ℕ) (at after : ℕ) → name_at message at ≡ Ok (name, after) → IsRead message 0 at (name, after)
-unfolding name_at
-name_read name message at after e = unmatched message 0 at (name_from 256 message 0 at) (name, after) (read_from 256 message 0 at (omega arith)) e
-
-pub name_stands : (name : List (List ℕ)) (message : List ℕ) (at after : ℕ) → name_at message at ≡ Ok (name, after) → Stands (name_octets name) message at after
-name_stands name message at after e = (name_read name message at after e).stands
+all_fits : (message : List ℕ) (run used place : ℕ) (o : Outcome) → GoesOn message run used place o → used ≤ 254 → Of (Fits used) o
+all_fits message run used place o (grammar.ends _ _ _ begins) room = record { each = tt; room = omega arith }
+all_fits message run used place o (grammar.label _ _ _ first others has begins rest) room =
+    fits_more used first others has (all_fits message run (used + length first + 1) (place + length first + 1) others rest (omega (arith, has.room)))
+all_fits message run used place o (grammar.pointer _ _ _ high low others h lt begins rest) room =
+    fits_after used (place + 2) others (all_fits message (grammar.target_of high low) used (grammar.target_of high low) others rest room)
+all_fits message run used place o (grammar.fails _ _ _ fault shows) room = tt
 
 pub name_is : (name : List (List ℕ)) (message : List ℕ) (at after : ℕ) → name_at message at ≡ Ok (name, after) → IsName name
 name_is name message at after e =
-    let h = name_read name message at after e in
+    let h = of_read (Fits 0) (name_at message at) (name, after) (all_fits message at 0 at (name_at message at) (name_stands message at) (omega arith)) e in
     record { labels = h.each; short = omega (arith, h.room, length-append (flat_map label_octets name) (0 ∷ [])) }
+
+-- a name that stands in full
+abbrev InFull : List ℕ → ℕ → List (List ℕ) × ℕ → Type 0
+InFull message place x = Stands (name_octets x.0) message place x.1
+
+full_more : (message : List ℕ) (place : ℕ) (first : List ℕ) (o : Outcome) → grammar.Begins (drop place message) (label_octets first) → Of (InFull message (place + length first + 1)) o → Of (InFull message place) (with_labels (first ∷ []) o)
+full_more message place first (Ok (ls, after)) begins h =
+    let parts : name_octets (first ∷ ls) ≡ label_octets first ++ name_octets ls = name_octets-cons first ls in
+    let front : Stands (label_octets first) message place (place + length first + 1) = record { begins = begins; ends = omega arith } in
+    rw parts (stands_both (label_octets first) (name_octets ls) message place (place + length first + 1) after front h)
+full_more message place first (Err fault) begins h = tt
+
+-- before the start of a message nothing stands that a pointer could lead to
+all_full : (message : List ℕ) (run used place : ℕ) (o : Outcome) → GoesOn message run used place o → run ≡ 0 → Of (InFull message place) o
+all_full message run used place o (grammar.ends _ _ _ begins) start = record { begins = begins; ends = refl }
+all_full message run used place o (grammar.label _ _ _ first others has begins rest) start =
+    full_more message place first others begins (all_full message run (used + length first + 1) (place + length first + 1) others rest start)
+all_full message run used place o (grammar.pointer _ _ _ high low others h lt begins rest) start = absurd (omega arith)
+all_full message run used place o (grammar.fails _ _ _ fault shows) start = tt
+
+-- what is read at the start of a message stands there in full
+pub name_in_full : (name : List (List ℕ)) (message : List ℕ) (after : ℕ) → name_at message 0 ≡ Ok (name, after) → Stands (name_octets name) message 0 after
+name_in_full name message after e = of_read (InFull message 0) (name_at message 0) (name, after) (all_full message 0 0 0 (name_at message 0) (name_stands message 0) refl) e

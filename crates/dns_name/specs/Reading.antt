@@ -1,5 +1,5 @@
 -- Which name stands at a place of a message, or which fault does (RFC 1035, sections 3.1 and 4.1.4).
-use Rattle.std.specs.Prelude.{◌≡◌, ℕ, zero, suc, nat_lt, ◌==◌, if◌then◌else◌, ◌+◌, List, [], ◌∷◌, ◌++◌, length, take, drop, Result, Ok, Err}
+use Rattle.std.specs.Prelude.{◌≡◌, ℕ, zero, suc, nat_lt, ◌==◌, if◌then◌else◌, ◌+◌, ◌-◌, ◌*◌, List, [], ◌∷◌, ◌++◌, length, take, drop, Result, Ok, Err}
 use Rattle.dns_name.specs.declared.fault.NameFault.{NameFault}
 use Rattle.dns_name.specs.declared.fault.NameFault.TheVariants.{Short, LabelType, Pointer, TooLong}
 use Rattle.dns_name.specs.declared.fault.NameError.{NameError}
@@ -9,19 +9,21 @@ use Rattle.dns_name.specs.declared.fault.NameError.TheVariants as errors
 pub data Piece : Type 0 where
   end : Piece
   label : List ℕ → Piece
+  pointer : ℕ → Piece
 
--- a pointer, of which the first byte is read: none is taken
-abbrev pub pointer_at : List ℕ → Result Piece NameFault
-pointer_at [] = Err Short
-pointer_at (low ∷ rest) = Err Pointer
+-- a pointer with this first byte, whose last 14 bits lead to a place before `run`, where the current labels began
+abbrev pub pointer_at : ℕ → ℕ → List ℕ → Result Piece NameFault
+pointer_at run high [] = Err Short
+pointer_at run high (low ∷ rest) = let target = 256 * (high - 192) + low in if nat_lt target run then Ok (pointer target) else Err Pointer
 
--- the piece that the bytes begin with, in a name of which `used` bytes are read, or the first fault
-abbrev pub piece_at : ℕ → List ℕ → Result Piece NameFault
-piece_at used [] = Err Short
-piece_at used (n ∷ rest) =
+-- The piece that the bytes begin with, or the first fault, in a name of which `used` bytes are read, and
+-- whose labels stand one after another from the place `run` on.
+abbrev pub piece_at : ℕ → ℕ → List ℕ → Result Piece NameFault
+piece_at run used [] = Err Short
+piece_at run used (n ∷ rest) =
     if n == 0 then Ok end
     else (if nat_lt n 64 then (if nat_lt (length rest) n then Err Short else (if nat_lt 255 (used + n + 2) then Err TooLong else Ok (label (take n rest))))
-    else (if nat_lt n 192 then Err LabelType else pointer_at rest))
+    else (if nat_lt n 192 then Err LabelType else pointer_at run n rest))
 
 -- what follows a result, which ends at the first fault
 infixl 10 ◌>>=◌
@@ -38,19 +40,26 @@ abbrev pub with_labels : List (List ℕ) → Outcome → Outcome
 with_labels front (Ok (labels, after)) = Ok (front ++ labels, after)
 with_labels front (Err fault) = Err fault
 
+-- the place after what is read
+abbrev pub with_after : ℕ → Outcome → Outcome
+with_after after (Ok (labels, _)) = Ok (labels, after)
+with_after after (Err fault) = Err fault
+
 -- what follows a piece
-abbrev pub follow : (ℕ → ℕ → Outcome) → ℕ → ℕ → Piece → Outcome
-follow go used place end = Ok ([], place + 1)
-follow go used place (label first) = with_labels (first ∷ []) (go (used + length first + 1) (place + length first + 1))
+abbrev pub follow : (ℕ → ℕ → ℕ → Outcome) → ℕ → ℕ → ℕ → Piece → Outcome
+follow go run used place end = Ok ([], place + 1)
+follow go run used place (label first) = with_labels (first ∷ []) (go run (used + length first + 1) (place + length first + 1))
+follow go run used place (pointer target) = with_after (place + 2) (go target used target)
 
 -- the name from a place on, in at most so many pieces
-unfoldable pub name_from : ℕ → List ℕ → ℕ → ℕ → Outcome
-name_from zero message used place = Err Short
-name_from (suc pieces) message used place = piece_at used (drop place message) >>= follow (name_from pieces message) used place
+unfoldable pub name_from : ℕ → List ℕ → ℕ → ℕ → ℕ → Outcome
+name_from zero message run used place = Err Short
+name_from (suc pieces) message run used place = piece_at run used (drop place message) >>= follow (name_from pieces message) run used place
 
--- The name at a place of a message and the place after it, or the fault. It has at most 127 labels.
+-- The name at a place of a message and the place after it, or the fault. Each pointer leads before the place
+-- of the one before it, and a name has at most 127 labels, so the number of pieces never ends the reading.
 unfoldable pub name_at : List ℕ → ℕ → Outcome
-name_at message at = name_from 256 message 0 at
+name_at message at = name_from (256 * at + 256) message at 0 at
 
 -- What a function returned, seen by view, is what reading gives, unless memory ran out.
 abbrev pub Fails : {Y : Type 0} → NameError → Result Y NameFault → Type 0

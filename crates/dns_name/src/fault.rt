@@ -14,7 +14,8 @@ pub enum NameFault {
     Short,
     /// A length byte begins with the bits 01 or 10 (RFC 1035, section 4.1.4).
     LabelType,
-    /// A compression pointer that is not taken. No pointer is taken yet.
+    /// A compression pointer does not lead before the place where the labels in front of it began, or,
+    /// where there are none, before itself (RFC 1035, section 4.1.4, speaks of a prior occurrence).
     Pointer,
     /// The name would be longer than 255 bytes, its closing zero counted (RFC 1035, section 2.3.4).
     TooLong,

@@ -1,4 +1,4 @@
-//! One label of a name in a message.
+//! One label or pointer of a name in a message.
 
 ghost use Rattle.std.specs.Prelude.{◌≡◌, ◌≤◌, MatchResult, IfOk, drop, Ok, Err};
 ghost use Rattle.dns_name.specs.Reading.{piece_at};
@@ -9,15 +9,20 @@ use crate::fault::NameFault;
 /// What a name goes on with.
 #[derive(Clone, Copy, Debug)]
 pub enum Item<'a> {
+    /// The zero at the end of a name.
     End,
+    /// The bytes of a label.
     Label(&'a [u8]),
+    /// The place where the name goes on.
+    Pointer(usize),
 }
 
-/// The item at a place of a message, in a name of which `used` bytes are read.
-pub fn item_at(message: &[u8], place: usize, used: usize) -> Result<Item<'_>, NameFault>
+/// The item at a place of a message, in a name of which `used` bytes are read, and whose labels stand one
+/// after another from the place `run` on.
+pub fn item_at(message: &[u8], run: usize, place: usize, used: usize) -> Result<Item<'_>, NameFault>
     requires { used ≤ 254 }
-    ensures item { MatchResult result (λ item. piece_at used (drop place message.now) ≡ Ok (piece_of item)) (λ fault. piece_at used (drop place message.now) ≡ Err fault) }
-    ensures within { IfOk result (IsWithin used) }
+    ensures item { MatchResult result (λ item. piece_at run used (drop place message.now) ≡ Ok (piece_of item)) (λ fault. piece_at run used (drop place message.now) ≡ Err fault) }
+    ensures within { IfOk result (IsWithin run used) }
 {
     if place >= message.len() {
         return Err(NameFault::Short);
@@ -27,7 +32,14 @@ pub fn item_at(message: &[u8], place: usize, used: usize) -> Result<Item<'_>, Na
         [0, ..] => Ok(Item::End),
         [64..=191, ..] => Err(NameFault::LabelType),
         [192..=255] => Err(NameFault::Short),
-        [192..=255, _, ..] => Err(NameFault::Pointer),
+        [high @ 192..=255, low, ..] => {
+            let target = usize::from(*high - 192) * 256 + usize::from(*low);
+            if target < run {
+                Ok(Item::Pointer(target))
+            } else {
+                Err(NameFault::Pointer)
+            }
+        }
         [len, rest @ ..] => {
             let len = *len as usize;
             if rest.len() < len {

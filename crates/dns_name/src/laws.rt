@@ -2,16 +2,23 @@
 
 ghost use Rattle.std.specs.Prelude.{◌≡◌, ◌≢◌, ℕ, ◌+◌, List, [], ◌++◌, length, Ok, IsTrue};
 ghost use Rattle.dns_name.specs.Labels.{IsName, name_octets};
-ghost use Rattle.dns_name.specs.Reading.{name_at};
+ghost use Rattle.dns_name.specs.Grammar.{NameAt};
+ghost use Rattle.dns_name.specs.Reading.{Outcome, name_at};
 ghost use Rattle.dns_name.specs.Standing.{Stands};
 ghost use Rattle.dns_name.specs.Text.{has_label_bytes, text_of, text_name};
 
-/// What is written as a name is read as that name, wherever it stands in a message, and nothing else is
-/// read as a name.
+/// By the rules of the grammar exactly what reading gives stands at a place of a message.
+pub fn reading_is_the_grammar()
+    ensures stands { (message : List ℕ) (at : ℕ) → NameAt message at (name_at message at) }
+    ensures only { (message : List ℕ) (at : ℕ) (outcome : Outcome) → NameAt message at outcome → name_at message at ≡ outcome }
+{}
+
+/// What is written as a name is read as that name, wherever it stands in a message, and what is read is a
+/// name. One that is read at the start of a message stands there in full, since no pointer leads before it.
 pub fn a_name_is_read_where_it_stands()
     ensures written { (name : List (List ℕ)) (message : List ℕ) (at after : ℕ) → IsName name → Stands (name_octets name) message at after → name_at message at ≡ Ok (name, after) }
-    ensures only { (name : List (List ℕ)) (message : List ℕ) (at after : ℕ) → name_at message at ≡ Ok (name, after) → Stands (name_octets name) message at after }
     ensures name { (name : List (List ℕ)) (message : List ℕ) (at after : ℕ) → name_at message at ≡ Ok (name, after) → IsName name }
+    ensures in_full { (name : List (List ℕ)) (message : List ℕ) (after : ℕ) → name_at message 0 ≡ Ok (name, after) → Stands (name_octets name) message 0 after }
 {}
 
 /// Two names that are written alike are one name.

@@ -1,4 +1,4 @@
-//! Domain names: lists of labels, their form in messages (RFC 1035, section 3.1) and as text.
+//! Domain names: lists of labels, their form in messages (RFC 1035, sections 3.1 and 4.1.4) and as text.
 //!
 //! A name is one buffer that holds it as it is written in a message. Contracts see the list of its labels.
 #![tactic(auto)]

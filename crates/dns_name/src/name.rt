@@ -85,12 +85,14 @@ impl Name {
     {
         let mut wire = Vec::with_capacity(alloc, 32)?;
         let mut used = 0usize;
+        let mut run = at;
         let mut place = at;
+        let mut after = None;
         loop {
-            match item_at(message, place, used)? {
+            match item_at(message, run, place, used)? {
                 Item::End => {
                     wire.push(0)?;
-                    return Ok((Name { wire }, place + 1));
+                    return Ok((Name { wire }, after.unwrap_or(place + 1)));
                 }
                 Item::Label(label) => {
                     wire.push(label.len() as u8)?;
@@ -98,12 +100,19 @@ impl Name {
                     used += label.len() + 1;
                     place += label.len() + 1;
                 }
+                Item::Pointer(target) => {
+                    after = Some(after.unwrap_or(place + 2));
+                    run = target;
+                    place = target;
+                }
             }
         }
     }
 
-    /// The name at a place of a message, and the place after it, or the first fault. Only a name in full
-    /// is read so far: a compression pointer is a fault.
+    /// The name at a place of a message, and the place after it, or the first fault. It may go on at
+    /// earlier places by compression pointers (RFC 1035, section 4.1.4), each of which leads before the
+    /// place where the labels in front of it began. The place after the name is then behind its first
+    /// pointer. The time is linear in the bytes up to the name's end.
     pub fn read(alloc: Global, bytes: &[u8], at: usize) -> Result<(Name, usize), NameError>
         ensures exact { Gives (λ x. x) result (name_at bytes.now at) }
         ensures name { IfOk result (λ x. IsName x.0) }

@@ -26,8 +26,8 @@ fn spelled(rt: &HostRuntime, lens: &[u8]) -> Result<Vec<u8>, Fail> {
     Ok(text)
 }
 
-fn fault_of(rt: &HostRuntime, bytes: &[u8]) -> Option<NameError> {
-    Name::read(rt.alloc(), bytes, 0).err()
+fn fault_at(rt: &HostRuntime, bytes: &[u8], at: usize) -> Option<NameError> {
+    Name::read(rt.alloc(), bytes, at).err()
 }
 
 fn text_fault_of(rt: &HostRuntime, text: &[u8]) -> Option<TextError> {
@@ -61,38 +61,124 @@ fn names_are_read(rt: HostRuntime) -> Result<(), Fail> {
     Ok(())
 }
 
+// Each name with the place where it is read, its form in full, and the place after it.
+#[test]
+fn pointers_are_taken(rt: HostRuntime) -> Result<(), Fail> {
+    // RFC 1035, section 4.1.4: F.ISI.ARPA at 20, FOO.F.ISI.ARPA at 40, ARPA at 64, the root at 92.
+    let standard =
+        b"....................\x01F\x03ISI\x04ARPA\x00........\x03FOO\xc0\x14..................\xc0\x1a..........................\x00".as_slice();
+    let foo = b"\x03FOO\x01F\x03ISI\x04ARPA\x00".as_slice();
+    let chain = b"\x01a\x00\x01b\xc0\x00\x01c\xc0\x03\xc0\x07\x01d".as_slice();
+    let header = b"\x12\x34\x01\x00\x00\x01\x00\x00\x00\x00\x00\x00\x01a\xc0\x02".as_slice();
+    let cases = [
+        (standard, 20, b"\x01F\x03ISI\x04ARPA\x00".as_slice(), 32),
+        (standard, 40, foo, 46),
+        (standard, 64, b"\x04ARPA\x00".as_slice(), 66),
+        (standard, 92, b"\x00".as_slice(), 93),
+        (
+            b"\x01a\x00\x01b\xc0\x00".as_slice(),
+            3,
+            b"\x01b\x01a\x00".as_slice(),
+            7,
+        ),
+        // through two pointers, and through three
+        (chain, 7, b"\x01c\x01b\x01a\x00".as_slice(), 11),
+        (chain, 11, b"\x01c\x01b\x01a\x00".as_slice(), 13),
+        // pointers alone
+        (
+            b"\x00\xc0\x00\xc0\x01\xc0\x03".as_slice(),
+            5,
+            b"\x00".as_slice(),
+            7,
+        ),
+        // on in the header, at its second pair of bytes
+        (header, 12, b"\x01a\x01\x00\x00".as_slice(), 16),
+    ];
+    for (message, at, octets, after) in cases {
+        let (name, end) = Name::read(rt.alloc(), message, at)?;
+        assert_eq!(rt; name.octets(), octets, "{message:?}, {at}");
+        assert_eq!(rt; end, after, "{message:?}, {at}");
+    }
+    Ok(())
+}
+
 #[test]
 fn names_are_refused(rt: HostRuntime) -> Result<(), Fail> {
     let cases = [
-        (b"".as_slice(), NameFault::Short),
-        (b"\x01a".as_slice(), NameFault::Short),
-        (b"\x03ab".as_slice(), NameFault::Short),
-        (b"\x01a\xc0".as_slice(), NameFault::Short),
-        (b"\x40".as_slice(), NameFault::LabelType),
-        (b"\x01a\x80\x00".as_slice(), NameFault::LabelType),
-        (b"\xc0\x00".as_slice(), NameFault::Pointer),
+        (b"".as_slice(), 0, NameFault::Short),
+        (b"\x00".as_slice(), 1, NameFault::Short),
+        (b"\x01a".as_slice(), 0, NameFault::Short),
+        (b"\x03a".as_slice(), 0, NameFault::Short),
+        (b"\x03ab".as_slice(), 0, NameFault::Short),
+        (b"\x01a\xc0".as_slice(), 0, NameFault::Short),
+        (b"\x40".as_slice(), 0, NameFault::LabelType),
+        (b"\x80".as_slice(), 0, NameFault::LabelType),
+        (b"\x01a\x80\x00".as_slice(), 0, NameFault::LabelType),
+        // to itself, and to the labels in front of it
+        (b"\xc0\x00".as_slice(), 0, NameFault::Pointer),
+        (b"\x00\xc0\x01".as_slice(), 1, NameFault::Pointer),
+        (b"\x01a\xc0\x00".as_slice(), 0, NameFault::Pointer),
+        (b"\x00\x01a\xc0\x01".as_slice(), 1, NameFault::Pointer),
+        // forward
+        (b"\xc0\x02\x00".as_slice(), 0, NameFault::Pointer),
+        (b"\x00\x00\xff\xff".as_slice(), 2, NameFault::Pointer),
+        // back, and then forward; and in a circle
+        (
+            b"\x00\xc0\x03\x00\xc0\x01".as_slice(),
+            4,
+            NameFault::Pointer,
+        ),
+        (b"\x01a\xc0\x00\xc0\x00".as_slice(), 4, NameFault::Pointer),
+        // faults behind a pointer
+        (b"\x41\xc0\x00".as_slice(), 1, NameFault::LabelType),
+        (b"\x04ab\xc0\x00".as_slice(), 3, NameFault::Short),
     ];
-    for (bytes, fault) in cases {
+    for (bytes, at, fault) in cases {
         assert_eq!(rt;
-            fault_of(&rt, bytes),
+            fault_at(&rt, bytes, at),
             Some(NameError::Fault(fault)),
-            "{bytes:?}"
+            "{bytes:?}, {at}"
         );
     }
+    Ok(())
+}
+
+#[test]
+fn long_names_are_refused(rt: HostRuntime) -> Result<(), Fail> {
     let too_long = Some(NameError::Fault(NameFault::TooLong));
     let mut long = written(&rt, &[63, 63, 63, 63])?;
-    assert_eq!(rt; fault_of(&rt, &long), too_long);
+    assert_eq!(rt; fault_at(&rt, &long, 0), too_long);
+    // a label that is cut off and too long
     long.truncate(255);
     assert_eq!(rt;
-        fault_of(&rt, &long),
+        fault_at(&rt, &long, 0),
         Some(NameError::Fault(NameFault::Short))
     );
-    assert_eq!(rt; fault_of(&rt, &written(&rt, &[63, 63, 63, 62])?), too_long);
-    let longest = written(&rt, &[63, 63, 63, 61])?;
-    assert_eq!(rt; longest.len(), 255);
-    let (name, after) = Name::read(rt.alloc(), &longest, 0)?;
-    assert_eq!(rt; after, 255);
-    assert_eq!(rt; name.octets(), longest.as_slice());
+    assert_eq!(rt;
+        fault_at(&rt, &written(&rt, &[63, 63, 63, 62])?, 0),
+        too_long
+    );
+    assert_eq!(rt; fault_at(&rt, &written(&rt, &[1; 128])?, 0), too_long);
+    for longest in [written(&rt, &[63, 63, 63, 61])?, written(&rt, &[1; 127])?] {
+        assert_eq!(rt; longest.len(), 255);
+        let (name, after) = Name::read(rt.alloc(), &longest, 0)?;
+        assert_eq!(rt; after, 255);
+        assert_eq!(rt; name.octets(), longest.as_slice());
+    }
+    // 192 bytes of labels at 0; at 193 a label and a pointer to them, at 257 a label and a pointer to that
+    let mut message = written(&rt, &[63, 63, 63])?;
+    message.push(61)?;
+    message.extend_from_slice(&[b'b'; 61])?;
+    message.extend_from_slice(b"\xc0\x00\x01c\xc0\xc1")?;
+    let (name, after) = Name::read(rt.alloc(), &message, 193)?;
+    assert_eq!(rt; after, 257);
+    assert_eq!(rt; name.octets().len(), 255);
+    assert_eq!(rt; fault_at(&rt, &message, 257), too_long);
+    // d at 261, and at 264 e and a pointer to it, which needs a bit of the first byte
+    message.extend_from_slice(b"\x01d\x00\x01e\xc1\x05")?;
+    let (name, after) = Name::read(rt.alloc(), &message, 264)?;
+    assert_eq!(rt; after, 268);
+    assert_eq!(rt; name.octets(), b"\x01e\x01d\x00".as_slice());
     Ok(())
 }
 

@@ -2,6 +2,11 @@ pub mod Parts
 pub mod Writing
 pub mod Numbers
 pub mod Data
+pub mod SoaLemmas
 pub mod Binding
 pub mod PartStanding
+pub mod PartGrammar
+pub mod DataStanding
+pub mod RecordReads
 pub mod RecordStanding
+pub mod RecordGrammar

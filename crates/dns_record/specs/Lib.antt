@@ -3,4 +3,5 @@ pub mod Part
 pub mod Record
 pub mod Becomes
 pub mod Reading
+pub mod Grammar
 pub mod Soa

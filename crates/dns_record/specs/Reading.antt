@@ -1,5 +1,5 @@
 -- Which record stands at a place of a message, or which fault does (RFC 1035, section 3.2.1).
-use Rattle.std.specs.Prelude.{◌≡◌, ℕ, ◌+◌, ◌==◌, nat_lt, if◌then◌else◌, List, [], ◌∷◌, ◌++◌, length, take, drop, Option, Some, None, Result, Ok, Err}
+use Rattle.std.specs.Prelude.{◌≡◌, ℕ, ◌+◌, ◌-◌, ◌==◌, nat_lt, if◌then◌else◌, List, [], ◌∷◌, ◌++◌, length, take, drop, Option, Some, None, Result, Ok, Err}
 use Rattle.dns_name.specs.Labels.{name_octets}
 use Rattle.dns_name.specs.Reading.{◌>>=◌, name_at}
 use Rattle.dns_record.specs.declared.fault.RecordFault.{RecordFault}
@@ -40,13 +40,14 @@ parts_at (part ∷ parts) message place = part_at part message place >>= λ firs
 abbrev pub filled : ℕ → List ℕ × ℕ → Result (List ℕ) RecordFault
 filled after read = if read.1 == after then Ok read.0 else Err Data
 
+-- the data of this layout between two places, or any octets where there is none
 abbrev pub laid_out : Option (List Part) → List ℕ → ℕ → ℕ → Result (List ℕ) RecordFault
-laid_out None message place after = Err Data
+laid_out None message place after = Ok (take (after - place) (drop place message))
 laid_out (Some layout) message place after = parts_at layout message place >>= filled after
 
 -- the data of a record of the type and class, between two places, with names in full
 unfoldable pub data_at : ℕ → ℕ → List ℕ → ℕ → ℕ → Result (List ℕ) RecordFault
-data_at rtype class message place after = if class == 1 then laid_out (layout_of rtype) message place after else Err Data
+data_at rtype class message place after = laid_out (layout_of rtype class) message place after
 
 -- The record at a place of a message and the place after it, or the first fault.
 unfoldable pub record_at : List ℕ → ℕ → Result (PlainRecord × ℕ) RecordFault

@@ -1,5 +1,5 @@
 -- A resource record (RFC 1035, section 3.2.1).
-use Rattle.std.specs.Prelude.{◌≡◌, ℕ, ◌<◌, ◌^◌, List, ◌++◌, length, MatchOption}
+use Rattle.std.specs.Prelude.{ℕ, ◌<◌, ◌^◌, List, ◌++◌, length, MatchOption, ⊤}
 use Rattle.dns_name.specs.Labels.{IsName, name_octets}
 use Rattle.dns_record.specs.Number.{number_octets}
 use Rattle.dns_record.specs.Part.{layout_of, HasParts}
@@ -11,10 +11,9 @@ pub record PlainRecord : Type 0 where
   pub ttl : ℕ
   pub rdata : List ℕ
 
--- The data is such as the type has: class IN, and the parts of the type's layout with names in full.
+-- The data is such as the type and class have: the parts of their layout with names in full, or any octets.
 pub record IsData (rtype class : ℕ) (rdata : List ℕ) : Type 0 where
-  pub internet : class ≡ 1
-  pub parts : MatchOption (layout_of rtype) ⊥ (λ layout. HasParts layout rdata)
+  pub parts : MatchOption (layout_of rtype class) ⊤ (λ layout. HasParts layout rdata)
   pub short : length rdata < 2 ^ 16
 
 pub record IsRecord (r : PlainRecord) : Type 0 where

@@ -12,10 +12,10 @@ use std::alloc::{AllocError, AllocFailed};
 pub enum RecordFault {
     /// The owner is no name.
     Name(NameFault),
-    /// The record reaches past the end of the message.
+    /// The ten bytes behind the owner, or the data, reach past the end of the message.
     Short,
-    /// The data is not such as the type has, or does not fill its length, or the type or the class is
-    /// one that is not read yet.
+    /// The data is not such as the type and class have, or does not fill its length exactly, or a name in
+    /// it is no name.
     Data,
 }
 

@@ -2,6 +2,7 @@
 
 ghost use Rattle.std.specs.Prelude.{◌≡◌, ℕ, ◌+◌, ◌<◌, ◌≤◌, ◌^◌, List, length, Ok};
 ghost use Rattle.dns_name.specs.Standing.{Stands};
+ghost use Rattle.dns_record.specs.Grammar.{RecordAt};
 ghost use Rattle.dns_record.specs.Number.{number_at, number_octets, AreOctets};
 ghost use Rattle.dns_record.specs.Reading.{record_at};
 ghost use Rattle.dns_record.specs.Record.{PlainRecord, IsRecord, record_octets};
@@ -17,10 +18,15 @@ pub fn a_number_is_read_where_it_stands()
     ensures count { (count number : ℕ) → length (number_octets count number) ≡ count }
 {}
 
-/// What is written as a record is read as that record, wherever it stands in a message, and nothing else
-/// is read as a record.
+/// What is written as a record is read as that record, wherever it stands in a message, and what is read is
+/// a record.
 pub fn a_record_is_read_where_it_stands()
     ensures written { (r : PlainRecord) (message : List ℕ) (at after : ℕ) → IsRecord r → Stands (record_octets r) message at after → record_at message at ≡ Ok (r, after) }
-    ensures only { (r : PlainRecord) (message : List ℕ) (at after : ℕ) → AreOctets message → record_at message at ≡ Ok (r, after) → Stands (record_octets r) message at after }
     ensures is_record { (r : PlainRecord) (message : List ℕ) (at after : ℕ) → AreOctets message → record_at message at ≡ Ok (r, after) → IsRecord r }
+{}
+
+/// Exactly the records that stand in a message by the rules of the grammar are read.
+pub fn a_record_is_read_by_its_grammar()
+    ensures stands { (r : PlainRecord) (message : List ℕ) (at after : ℕ) → AreOctets message → record_at message at ≡ Ok (r, after) → RecordAt message at r after }
+    ensures only { (r : PlainRecord) (message : List ℕ) (at after : ℕ) → RecordAt message at r after → record_at message at ≡ Ok (r, after) }
 {}

@@ -1,6 +1,7 @@
 //! Resource records (RFC 1035, section 3.2.1), read from messages and written with their names in full.
 //!
-//! Read so far: records of the types CNAME and SOA in class IN.
+//! The data of a type with names is read by its layout; of the other types only A and AAAA in class IN have
+//! one, and the data of the rest is any bytes.
 #![tactic(auto)]
 
 pub mod class;

@@ -1,32 +1,15 @@
 //! Reads a record in a message.
 
-ghost use Rattle.std.specs.Prelude.{◌≡◌, ◌+◌, ◌≤◌, ◌++◌, length, MatchResult, IfOk, Ok, Err, option_copied};
-ghost use Rattle.dns_record.specs.Part.{layout_of};
+ghost use Rattle.std.specs.Prelude.{◌≡◌, ◌+◌, ◌≤◌, ◌++◌, length, MatchResult, IfOk, Ok, Err, ◌<◌, ◌^◌};
 ghost use Rattle.dns_record.specs.Reading.{AddsPart, Gives, end_at, octets_at, part_at, parts_at, data_at, record_at};
 ghost use Rattle.dns_record.specs.Record.{IsData, IsRecord};
 
 use crate::fault::{RecordError, RecordFault};
 use crate::number::{u16_at, u32_at};
-use crate::part::Part;
+use crate::part::{Part, layout};
 use crate::record::Record;
-use crate::{class, rtype};
 use dns_name::{Name, NameError, Octets};
 use std::alloc::{AllocError, Global};
-
-static NAME: [Part; 1] = [Part::Name];
-
-static NAMES_AND_NUMBERS: [Part; 3] = [Part::Name, Part::Name, Part::Fixed(20)];
-
-// The parts of the data of a type, where it is read.
-fn layout(of: u16) -> Option<&'static [Part]>
-    ensures { option_copied result ≡ layout_of of }
-{
-    match of {
-        rtype::CNAME => Some(&NAME),
-        rtype::SOA => Some(&NAMES_AND_NUMBERS),
-        _ => None,
-    }
-}
 
 // The place after so many bytes, which the message must have.
 fn end_of(message: &[u8], place: usize, count: usize) -> Result<usize, RecordFault>
@@ -39,8 +22,8 @@ fn end_of(message: &[u8], place: usize, count: usize) -> Result<usize, RecordFau
     }
 }
 
-/// The record at a place of a message, and the place after it, or the first fault. Its data is given with
-/// names in full. So far only records of the types CNAME and SOA in class IN are read.
+/// The record at a place of a message, and the place after it, or the first fault. Where the data of the
+/// type has names, it is given with its names in full; other data is given as it stands.
 #[tactic(auto, unfolding(crate::specs::Reading::record_at))]
 pub fn read_record(alloc: Global, bytes: &[u8], at: usize) -> Result<(Record, usize), RecordError>
     ensures { Gives (λ x. x) result (record_at bytes.now at) }
@@ -66,14 +49,14 @@ fn read_data(
     place: usize,
     after: usize,
 ) -> Result<Octets, RecordError>
+    requires ordered { place ≤ after }
+    requires within { after ≤ length message.now }
+    requires short { after < place + 2 ^ 16 }
     ensures exact { Gives (λ x. x) result (data_at rtype class message.now place after) }
     ensures data { IfOk result (λ rdata. IsData rtype class rdata) }
 {
-    if class != class::IN {
-        return Err(RecordError::Fault(RecordFault::Data));
-    }
-    let Some(parts) = layout(rtype) else {
-        return Err(RecordError::Fault(RecordFault::Data));
+    let Some(parts) = layout(rtype, class) else {
+        return Ok(Octets::from_slice(alloc, &message[place..after])?);
     };
     let (rdata, end) = read_parts(alloc, parts, message, place)?;
     if end != after {

@@ -39,7 +39,7 @@ impl Soa {
     }
 
     // The data of the record.
-    #[tactic(auto, unfolding(crate::specs::Soa::soa_octets), using(crate::proofs::Data::soa_is_data))]
+    #[tactic(auto, unfolding(crate::specs::Soa::soa_octets), using(crate::proofs::SoaLemmas::soa_is_data))]
     fn data(&self, alloc: Global) -> Result<Octets, AllocError>
         ensures octets { IfOk result (λ rdata. rdata ≡ soa_octets self.now) }
         ensures data { IfOk result (λ rdata. IsData 6 1 rdata) }

@@ -1,38 +1,20 @@
--- Which queries are answered by the policy itself, and how (draft-vixie-dnsop-dns-rpz, sections 3.1 and 4.1): so far names that a policy zone names, which don't exist.
-use Rattle.std.specs.Prelude.{ℕ, ◌==◌, ◌&&◌, ◌||◌, Bool, true, false, not, if◌then◌else◌, List, [], ◌∷◌, ◌++◌, length, Option, Some, None, Result, Ok, Err}
+-- What is answered to a message that came, under a policy (draft-vixie-dnsop-dns-rpz, sections 3.1 and 4.1): so far to requests that aren't served, and for names that a policy zone names, which don't exist.
+use Rattle.std.specs.Prelude.{ℕ, Bool, true, false, List, [], ◌∷◌, ◌++◌, Option, Some, None}
+use Rattle.std.specs.Prelude.{option_map}
 use Rattle.std.specs.List.{list_any, find}
 use Rattle.std.specs.Str.{bytes_eq}
 use Rattle.dns_name.specs.Labels.{name_octets, lowered}
 use Rattle.dns_record.specs.Soa.{soa_record}
-use Rattle.dns_message.specs.declared.fault.MessageFault.{MessageFault}
 use Rattle.dns_message.specs.declared.header.Header.{Header}
 use Rattle.dns_message.specs.declared.message.Message.{Message}
-use Rattle.dns_message.specs.declared.question.Question.{Question}
-use Rattle.dns_message.specs.Reading.{message_of}
+use Rattle.dns_message.specs.declared.request.Incoming as incoming
+use Rattle.dns_message.specs.declared.request.Incoming.TheVariants as came
+use Rattle.dns_message.specs.declared.request.Query.{Query}
 use Rattle.dns_message.specs.Spelling.{spelled}
-use Rattle.rpz_program.specs.declared.query.Query.{Query}
+use Rattle.script_codec.specs.declared.output.Output.{Output}
+use Rattle.script_codec.specs.declared.output.Output.TheVariants.{Reply, Silent}
 use Rattle.rpz_program.specs.declared.row.Row.{Row}
 use Rattle.rpz_program.specs.Policy.{Policy, Zone, Content}
-
--- a query, and nothing else: no response, opcode 0, recursion desired, no records
-abbrev pub is_plain_query : Message → Bool
-is_plain_query m = not m.header.qr && (m.header.opcode == 0 && (m.header.rd && (length m.answer == 0 && (length m.authority == 0 && length m.additional == 0))))
-
--- a question of class IN that asks for no transfer
-abbrev pub is_served : Question → Bool
-is_served q = q.qclass == 1 && not (q.qtype == 251 || q.qtype == 252)
-
-abbrev pub query_about : Header → Option Question → Option Query
-query_about h None = None
-query_about h (Some q) = if is_served q then Some (record { id = h.id; rd = h.rd; question = q }) else None
-
-abbrev pub query_of : Result Message MessageFault → Option Query
-query_of (Err fault) = None
-query_of (Ok m) = if is_plain_query m then query_about m.header m.question else None
-
--- the query that the bytes are, if they are one
-unfoldable pub query_in : List ℕ → Option Query
-query_in bytes = query_of (message_of bytes)
 
 -- the row's owner, in small letters, is the name followed by the zone's origin
 abbrev pub is_named_by : List (List ℕ) → List (List ℕ) → Row → Bool
@@ -62,6 +44,7 @@ name_error query origin content = record {
   answer = [];
   authority = [];
   additional = soa_record origin content.soa ∷ [];
+  edns = None;
 }
 
 abbrev pub reply_with : Query → List (List ℕ) → Option Content → Option (List ℕ)
@@ -72,10 +55,12 @@ abbrev pub reply_by : Query → Option Zone → Option (List ℕ)
 reply_by query None = None
 reply_by query (Some zone) = reply_with query zone.origin zone.content
 
-abbrev pub reply_about : Policy → Option Query → Option (List ℕ)
-reply_about policy None = None
-reply_about policy (Some query) = reply_by query (hit policy query.question.name)
+-- the bytes of the reply to a query, where the policy answers it
+abbrev pub reply_about : Policy → Query → Option (List ℕ)
+reply_about policy query = reply_by query (hit policy query.question.name)
 
--- The bytes of the reply to a message under a policy, where the policy answers it.
-unfoldable pub reply_to : Policy → List ℕ → Option (List ℕ)
-reply_to policy message = reply_about policy (query_in message)
+-- What a worker does with a message that came, where it is built: silence, a refusal, or the policy's reply.
+abbrev pub answered : Policy → ℕ → incoming.Incoming → Option Output
+answered policy worker came.Silent = Some (Silent worker)
+answered policy worker (came.Refuse message) = Some (Reply worker (spelled message))
+answered policy worker (came.Query query) = option_map (Reply worker) (reply_about policy query)

@@ -7,8 +7,8 @@ pub mod NameSet
 pub mod Policy
 pub mod Reading
 pub mod Answer
-pub mod Line
 pub mod World
 pub mod Indexed
 pub mod CoreSteps
 pub mod Run
+pub mod Status

@@ -1,5 +1,5 @@
 -- What a stream of bytes is as a transfer of a zone (RFC 5936, section 2.2), so far in one form: one message, of a SOA, rows and the SOA again, where each row makes one name not exist.
-use Rattle.std.specs.Prelude.{ℕ, ◌-◌, ◌==◌, ◌&&◌, Bool, false, not, if◌then◌else◌, nat_lt, nat_le, List, [], ◌∷◌, length, take, drop, map, Option, Some, None, Result, Ok, Err, slice_get, codes}
+use Rattle.std.specs.Prelude.{ℕ, ◌-◌, ◌==◌, ◌&&◌, Bool, false, not, if◌then◌else◌, nat_lt, nat_le, List, [], ◌∷◌, length, take, drop, map, Option, Some, None, Result, Ok, Err, slice_get, is_some, codes}
 use Rattle.std.specs.Result.{result_ok}
 use Rattle.std.specs.Char.{to_ascii_lowercase}
 use Rattle.std.specs.List.{list_all}
@@ -14,6 +14,7 @@ use Rattle.dns_message.specs.declared.header.Header.{Header}
 use Rattle.dns_message.specs.declared.message.Message.{Message}
 use Rattle.dns_message.specs.declared.question.Question.{Question}
 use Rattle.dns_message.specs.Reading.{message_of}
+use Rattle.dns_message.specs.Spelling.{spelled}
 use Rattle.rpz_program.specs.declared.row.Row.{Row}
 use Rattle.rpz_program.specs.declared.transfer.Transfer.{Transfer}
 use Rattle.rpz_program.specs.declared.transfer.Transfer.TheVariants.{Whole}
@@ -36,11 +37,15 @@ asks_for origin None = false
 asks_for origin (Some q) = q.qtype == 252 && (q.qclass == 1 && same_name q.name origin)
 
 abbrev pub answers_for : List (List ℕ) → Message → Bool
-answers_for origin m = is_good_answer m.header && (length m.authority == 0 && (length m.additional == 0 && asks_for origin m.question))
+answers_for origin m = is_good_answer m.header && (length m.authority == 0 && (length m.additional == 0 && (not (is_some m.edns) && asks_for origin m.question)))
 
--- the SOA of the zone, where the record is one
+-- The names of the message stand in full: it is spelled so, but for the flags.
+abbrev pub is_in_full : List ℕ → Message → Bool
+is_in_full bytes m = nat_le 4 (length bytes) && (nat_le 4 (length (spelled m)) && bytes_eq (drop 4 bytes) (drop 4 (spelled m)))
+
+-- the SOA of the zone, of class IN, where the record is one
 unfoldable pub zone_soa : List (List ℕ) → PlainRecord → Option Soa
-zone_soa origin r = if r.rtype == 6 && same_name r.owner origin then result_ok (soa_in r.ttl r.rdata) else None
+zone_soa origin r = if r.rtype == 6 && (r.class == 1 && same_name r.owner origin) then result_ok (soa_in r.ttl r.rdata) else None
 
 -- the labels of an owner before those of the zone
 abbrev pub relative : List (List ℕ) → List (List ℕ) → List (List ℕ)
@@ -71,9 +76,9 @@ is_exact_name labels =
 unfoldable pub is_exact_owner : List (List ℕ) → List (List ℕ) → Bool
 is_exact_owner origin owner = is_below origin owner && is_exact_name (relative origin owner)
 
--- a row that makes one name not exist: a CNAME to the root
+-- a row that makes one name not exist: a CNAME of class IN to the root
 unfoldable pub is_rule : List (List ℕ) → PlainRecord → Bool
-is_rule origin r = r.rtype == 5 && (bytes_eq r.rdata (0 ∷ []) && is_exact_owner origin r.owner)
+is_rule origin r = r.rtype == 5 && (r.class == 1 && (bytes_eq r.rdata (0 ∷ []) && is_exact_owner origin r.owner))
 
 -- a record as a row of a zone: the owner in small letters, and no class
 abbrev pub row_of : PlainRecord → Row
@@ -94,13 +99,13 @@ unfoldable pub whole_in : List (List ℕ) → List PlainRecord → Option Transf
 whole_in origin [] = None
 whole_in origin (first ∷ others) = whole_between origin (zone_soa origin first) (take (length others - 1) others) (last_soa origin (slice_get others (length others - 1)))
 
-abbrev pub transfer_of : List (List ℕ) → Result Message MessageFault → Option Transfer
-transfer_of origin (Err fault) = None
-transfer_of origin (Ok m) = if answers_for origin m then whole_in origin m.answer else None
+abbrev pub transfer_of : List (List ℕ) → List ℕ → Result Message MessageFault → Option Transfer
+transfer_of origin bytes (Err fault) = None
+transfer_of origin bytes (Ok m) = if answers_for origin m && is_in_full bytes m then whole_in origin m.answer else None
 
 abbrev pub transfer_framed : List (List ℕ) → Option (List ℕ) → Option Transfer
 transfer_framed origin None = None
-transfer_framed origin (Some message) = transfer_of origin (message_of message)
+transfer_framed origin (Some message) = transfer_of origin message (message_of message)
 
 -- the whole transfer of a zone that a stream is, if it is one
 unfoldable pub transfer_in : List (List ℕ) → List ℕ → Option Transfer

@@ -7,11 +7,10 @@ use Rattle.rpz_program.specs.declared.script.Stop.TheVariants as stop
 use Rattle.rpz_program.specs.declared.status.Status.{Status}
 use Rattle.rpz_program.specs.declared.status.Status.TheVariants.{Done, BadLine}
 use Rattle.rpz_program.specs.declared.why.Why.{Why}
-use Rattle.rpz_program.specs.declared.why.Why.TheVariants.{Unbuilt}
 use Rattle.rpz_program.specs.Fold.{ran}
 use Rattle.rpz_program.specs.Lines.{ended_lines}
 use Rattle.rpz_program.specs.Replay.{IsPrefix, Moved}
-use Rattle.rpz_program.specs.World.{World, start, step, transcript, verdict}
+use Rattle.rpz_program.specs.World.{World, start, step, too_many, too_long, transcript, verdict}
 
 -- the one word `replay`
 abbrev pub IsReplay : List (String Global) → Type 0
@@ -29,7 +28,7 @@ IsFirstBadLine script line why held_before held_after = (verdict script ≡ Err 
 
 -- each line whose line feed was read is of the form, and what these lines output was written
 abbrev pub AnswersEnded : List ℕ → List ℕ → Type 0
-AnswersEnded read written = (end : ℕ × World) × (ran Unbuilt Unbuilt step (1, start) (ended_lines read) ≡ (written, Ok end))
+AnswersEnded read written = (end : ℕ × World) × (ran too_many too_long step (1, start) (ended_lines read) ≡ (written, Ok end))
 
 -- what was written begins the transcript of what was read
 abbrev pub BeginsTranscript : List ℕ → List ℕ → Type 0

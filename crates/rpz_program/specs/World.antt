@@ -1,29 +1,35 @@
--- The world of a script: the zones that it opened and the transfers that were accepted, and what each line does to it.
+-- The world of a script: what its lines depend on, and the transfers that were accepted; and what each line does to it.
 use Rattle.std.specs.Prelude.{ℕ, ◌==◌, if◌then◌else◌, List, [], ◌∷◌, ◌++◌, length, Option, Some, None, Result, Ok, Err, is_some}
-use Rattle.rpz_program.specs.declared.line.Line.{Line}
-use Rattle.rpz_program.specs.declared.line.Line.TheVariants.{Zone, Transfer, Query}
-use Rattle.rpz_program.specs.declared.output.Output.{Output}
-use Rattle.rpz_program.specs.declared.output.Output.TheVariants.{Taken, Reply}
+use Rattle.script_codec.specs.declared.line.Line.{Line}
+use Rattle.script_codec.specs.declared.line.Line.TheVariants.{Zone, Transfer, Full, Query, Give, Fail, Clock}
+use Rattle.script_codec.specs.declared.output.Output.{Output}
+use Rattle.script_codec.specs.declared.output.Output.TheVariants.{Taken}
+use Rattle.script_codec.specs.declared.state.ScriptState.{ScriptState}
+use Rattle.script_codec.specs.declared.why.Why as line_why
+use Rattle.script_codec.specs.declared.why.Why.TheVariants.{Lines, TooLong}
+use Rattle.script_codec.specs.Line.{unnumbered_line}
+use Rattle.script_codec.specs.Output.{output_line}
+use Rattle.script_codec.specs.State.{new_state, with_zone, with_other}
+use Rattle.dns_message.specs.Request.{incoming_of}
 use Rattle.rpz_program.specs.declared.transfer.Transfer as transfer
 use Rattle.rpz_program.specs.declared.why.Why.{Why}
-use Rattle.rpz_program.specs.declared.why.Why.TheVariants.{Unbuilt}
-use Rattle.rpz_program.specs.Answer.{reply_to}
+use Rattle.rpz_program.specs.declared.why.Why.TheVariants as why
+use Rattle.rpz_program.specs.Answer.{answered}
 use Rattle.rpz_program.specs.Fold as fold
-use Rattle.rpz_program.specs.Line.{line_of, output_line}
 use Rattle.rpz_program.specs.Policy as plain
-use Rattle.rpz_program.specs.Policy.{Policy, Content, Entry, zone_at, entry_taken, policy_after, unloaded}
+use Rattle.rpz_program.specs.Policy.{Policy, Content, Entry, zone_at, policy_after}
 use Rattle.rpz_program.specs.Reading.{transfer_in}
 
--- the origins of the zones that were opened, and the accepted transfers, in order
+-- what lines depend on, such as the origins of the zones that were opened, and the accepted transfers, in order
 pub record World : Type 0 where
-  pub opening : List (List (List ℕ))
+  pub script : ScriptState
   pub accepted : List Entry
 
 abbrev pub start : World
-start = record { opening = []; accepted = [] }
+start = record { script = new_state; accepted = [] }
 
 abbrev pub policy_of : World → Policy
-policy_of world = policy_after world.opening world.accepted
+policy_of world = policy_after world.script.origins world.accepted
 
 abbrev pub offered_to : Option plain.Zone → List ℕ → Option transfer.Transfer
 offered_to None stream = None
@@ -45,63 +51,63 @@ taken_zone number (Some zone) = taken_content number zone.content
 abbrev pub taken : Policy → ℕ → Option Output
 taken policy number = taken_zone number (zone_at policy number)
 
+-- a line stood that opens no zone
+abbrev pub stood : World → World
+stood world = record { script = with_other world.script; accepted = world.accepted }
+
+-- Opens the first zone. Nothing was accepted before.
+abbrev pub opens : World → List (List ℕ) → Option (World × Option Output)
+opens world origin = if length world.script.origins == 0 then Some (record { script = with_zone world.script origin; accepted = [] }, None) else None
+
 abbrev pub accepts : World → ℕ → Option transfer.Transfer → Option (World × Option Output)
 accepts world number None = None
 accepts world number (Some t) =
-    let next : World = record { opening = world.opening; accepted = world.accepted ++ record { zone = number; transfer = t } ∷ [] } in
+    let next : World = record { script = with_other world.script; accepted = world.accepted ++ record { zone = number; transfer = t } ∷ [] } in
     Some (next, taken (policy_of next) number)
 
-abbrev pub replies : {W : Type 0} → W → ℕ → Option (List ℕ) → Option (W × Option Output)
-replies world worker None = None
-replies world worker (Some message) = Some (world, Some (Reply worker message))
+abbrev pub says : {W : Type 0} → W → Option Output → Option (W × Option Output)
+says world None = None
+says world (Some output) = Some (world, Some output)
 
--- The world after a line, and what the line outputs. A `zone` line comes first and once; a transfer is taken by a zone that isn't loaded; a query is answered by the policy after the transfers accepted so far.
+-- The world after a line, and what the line outputs; nothing where it isn't built yet. A transfer is taken by a zone that isn't loaded; a query is answered by the policy after the transfers accepted so far. Nothing is asked of servers yet, so no worker waits. Neither `full` nor `clock` changes anything yet.
 unfoldable pub world_step : World → Line → Option (World × Option Output)
-world_step world (Zone origin) = if length world.opening == 0 then Some (record { opening = origin ∷ []; accepted = [] }, None) else None
+world_step world (Zone origin) = opens world origin
 world_step world (Transfer number stream) = accepts world number (offered (policy_of world) number stream)
-world_step world (Query worker client message) = if worker == 0 then replies world worker (reply_to (policy_of world) message) else None
+world_step world (Full number) = Some (stood world, None)
+world_step world (Query worker transport client message) = says (stood world) (answered (policy_of world) worker (incoming_of message client transport))
+world_step world (Give worker message) = None
+world_step world (Fail worker) = None
+world_step world (Clock seconds) = Some (stood world, None)
 
 abbrev pub output_of : Option Output → List ℕ
 output_of None = []
 output_of (Some output) = output_line output
 
--- what a line does, written out; a line that isn't of the form is not built yet
+-- what a line does, written out
 abbrev pub told : {W : Type 0} → Option (W × Option Output) → Result (W × List ℕ) Why
-told None = Err Unbuilt
+told None = Err why.Unbuilt
 told (Some next) = Ok (next.0, output_of next.1)
 
-abbrev pub stepped : {W : Type 0} → (W → Line → Option (W × Option Output)) → W → Option Line → Result (W × List ℕ) Why
-stepped does world None = Err Unbuilt
-stepped does world (Some line) = told (does world line)
+-- what the bytes of a line do: nothing where the line is skipped
+abbrev pub stepped : {W : Type 0} → (W → Line → Option (W × Option Output)) → W → Result (Option Line) line_why.Why → Result (W × List ℕ) Why
+stepped does world (Err refused) = Err (why.Line refused)
+stepped does world (Ok None) = Ok (world, [])
+stepped does world (Ok (Some line)) = told (does world line)
 
 abbrev pub step : World → List ℕ → Result (World × List ℕ) Why
-step world line = stepped world_step world (line_of line)
+step world line = stepped world_step world (unnumbered_line line world.script)
 
--- The same over a policy alone: a line sees of the accepted transfers only the policy that they make.
-abbrev pub takes : Policy → ℕ → Option transfer.Transfer → Option (Policy × Option Output)
-takes policy number None = None
-takes policy number (Some t) =
-    let next = entry_taken policy (record { zone = number; transfer = t }) in
-    Some (next, taken next number)
+-- why a line is refused whatever it says
+abbrev pub too_many : Why
+too_many = why.Line Lines
 
-abbrev pub opens : Policy → List (List ℕ) → Option (Policy × Option Output)
-opens policy origin = if length policy == 0 then Some (unloaded origin ∷ [], None) else None
-
-abbrev pub asks : Policy → ℕ → List ℕ → Option (Policy × Option Output)
-asks policy worker message = if worker == 0 then replies policy worker (reply_to policy message) else None
-
-unfoldable pub policy_step : Policy → Line → Option (Policy × Option Output)
-policy_step policy (Zone origin) = opens policy origin
-policy_step policy (Transfer number stream) = takes policy number (offered policy number stream)
-policy_step policy (Query worker client message) = asks policy worker message
-
-abbrev pub core_step : Policy → List ℕ → Result (Policy × List ℕ) Why
-core_step policy line = stepped policy_step policy (line_of line)
+abbrev pub too_long : Why
+too_long = why.Line TooLong
 
 -- The transcript of a script: the outputs of its lines from the start on, up to the first that is refused.
 abbrev pub transcript : List ℕ → List ℕ
-transcript script = fold.transcript Unbuilt Unbuilt step start script
+transcript script = fold.transcript too_many too_long step start script
 
 -- the world after a script, or the number of the first line that is refused, and why
 abbrev pub verdict : List ℕ → Result (ℕ × World) (ℕ × Why)
-verdict script = fold.verdict Unbuilt Unbuilt step start script
+verdict script = fold.verdict too_many too_long step start script

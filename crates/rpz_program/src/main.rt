@@ -1,16 +1,9 @@
 //! `rpz`: answers the queries of a script by a response policy zone (draft-vixie-dnsop-dns-rpz).
 #![tactic(auto)]
 
-mod field;
-mod line;
-mod line_reading;
 mod name_set;
-mod output;
-mod output_text;
 mod policy_core;
 mod policy_zone;
-mod query;
-mod query_reading;
 mod reader;
 mod row;
 mod rows;

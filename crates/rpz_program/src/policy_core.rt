@@ -1,58 +1,70 @@
 //! The machine that answers the lines of a script: one policy zone, which is opened, loaded and asked.
 
-ghost use Rattle.std.specs.Prelude.{◌≡◌, [], Some, IfOk};
-ghost use Rattle.rpz_program.specs.Answer.{reply_to};
-ghost use Rattle.rpz_program.specs.CoreSteps.{CoreSteps, zone_takes, zone_reply};
-ghost use Rattle.rpz_program.specs.World.{asks, offered, offered_to, opens, policy_step, takes};
+ghost use Rattle.std.specs.Prelude.{◌≡◌, Some, IfOk};
+ghost use Rattle.dns_message.specs.Request.{incoming_of};
+ghost use Rattle.rpz_program.specs.Answer.{answered, reply_about};
+ghost use Rattle.rpz_program.specs.CoreSteps.{CoreSteps, kept_opens, kept_step, kept_stood, none_kept, takes, zone_reply, zone_takes};
+ghost use Rattle.rpz_program.specs.World.{offered, offered_to, says};
 
-use crate::line::Line;
-use crate::line_reading::read_line;
-use crate::output::Output;
-use crate::output_text::write_output;
 use crate::policy_zone::PolicyZone;
-use crate::query::Query;
-use crate::query_reading::read_query;
 use crate::script::{AnswerError, Machine};
 use crate::transfer_reading::read_transfer;
 use crate::why::Why;
+use dns_message::{Incoming, Query, classify, write_message};
 use dns_name::{Name, Octets};
+use ip_prefix::{Addr, Transport};
+use script_codec::{Line, Output, ReadError, ScriptState, read_unnumbered, write_output};
 use std::alloc::{AllocError, Global};
 use std::marker::Model;
 
-/// The zone of a script, once it is opened. Contracts see a list of zones, of at most one.
+/// The zone of a script, once it is opened, and what is kept from line to line. Contracts see a policy of
+/// at most one zone.
 #[derive(Drop)]
 pub struct Core {
+    script: ScriptState,
     zone: Option<PolicyZone>,
 }
 
 impl Model for Core {
-    ghost use Rattle.std.specs.Prelude.{List};
     ghost use Rattle.std.specs.Option.{option_to_list};
-    ghost use Rattle.rpz_program.specs.Policy.{Zone};
+    ghost use Rattle.rpz_program.specs.CoreSteps.{Kept};
 
-    ghost Value = { List Zone };
+    ghost Value = { Kept };
 
-    ghost view = { λ c. option_to_list c.zone };
+    ghost view = { λ c. record { script = c.script; policy = option_to_list c.zone } };
+}
+
+impl From<ReadError> for AnswerError<Why> {
+    ghost use Rattle.rpz_program.specs.CoreSteps.{Refuses};
+
+    ghost from_gives = { Refuses };
+
+    fn from(error: ReadError) -> Self {
+        match error {
+            ReadError::OutOfMemory => AnswerError::OutOfMemory,
+            ReadError::Refused(why) => AnswerError::Refused(Why::Line(why)),
+        }
+    }
 }
 
 impl Machine for Core {
     type Why = Why;
 
-    ghost use Rattle.rpz_program.specs.declared.why.Why.TheVariants.{Unbuilt};
-    ghost use Rattle.rpz_program.specs.World.{core_step};
+    ghost use Rattle.rpz_program.specs.CoreSteps.{core_step};
+    ghost use Rattle.rpz_program.specs.World as world;
 
     ghost step = { core_step };
 
-    ghost too_many = { Unbuilt };
+    ghost too_many = { world.too_many };
 
-    ghost too_long = { Unbuilt };
+    ghost too_long = { world.too_long };
 
     fn too_many() -> Why {
-        Why::Unbuilt
+        Why::Line(script_codec::Why::Lines)
     }
 
     fn too_long() -> Why {
-        Why::Unbuilt
+        Why::Line(script_codec::Why::TooLong)
     }
 
     fn answer(
@@ -61,47 +73,57 @@ impl Machine for Core {
         line: &[u8],
         reply: &mut Vec<u8>,
     ) -> Result<(), AnswerError<Why>> {
-        let Some(line) = read_line(alloc, line)? else {
-            return Err(AnswerError::Refused(Why::Unbuilt));
+        let Some(line) = read_unnumbered(alloc, line, &self.script)? else {
+            return Ok(());
         };
-        match self.step(alloc, line)? {
-            None => Ok(()),
-            Some(output) => Ok(write_output(alloc, &output, reply)?),
+        if let Some(output) = self.step(alloc, line)? {
+            *reply = write_output(alloc, &output)?.into_vec();
         }
+        Ok(())
     }
 }
 
 impl Core {
     /// No zone is opened.
-    pub fn new() -> Self
-        ensures { result ≡ [] }
+    pub fn new(alloc: Global) -> Self
+        ensures { result ≡ none_kept }
     {
-        Core { zone: None }
+        Core {
+            script: ScriptState::new(alloc),
+            zone: None,
+        }
     }
 
     // What a line does, and what it outputs.
-    #[tactic(auto, unfolding(crate::specs::World::policy_step))]
+    #[tactic(auto, unfolding(crate::specs::CoreSteps::kept_step))]
     fn step(&mut self, alloc: Global, line: Line) -> Result<Option<Output>, AnswerError<Why>>
-        ensures { CoreSteps (policy_step self.old line) result self.new }
+        ensures { CoreSteps (kept_step self.old line) result self.new }
     {
         match line {
             Line::Zone { origin } => self.open(origin),
             Line::Transfer { zone, stream } => self.take(alloc, zone, stream.as_slice()),
             Line::Query {
                 worker,
+                transport,
                 client,
                 message,
-            } => self.ask(alloc, worker, message.as_slice()),
+            } => self.ask(alloc, worker, message.as_slice(), client, transport),
+            Line::Full { .. } | Line::Clock { .. } => {
+                self.script.other_line();
+                Ok(None)
+            }
+            Line::Give { .. } | Line::Fail { .. } => Err(AnswerError::Refused(Why::Unbuilt)),
         }
     }
 
     // Opens the zone, where none is opened.
     fn open(&mut self, origin: Name) -> Result<Option<Output>, AnswerError<Why>>
-        ensures { CoreSteps (opens self.old origin) result self.new }
+        ensures { CoreSteps (kept_opens self.old origin) result self.new }
     {
-        if self.zone.is_some() {
+        if self.script.origins.len() != 0 {
             return Err(AnswerError::Refused(Why::Unbuilt));
         }
+        self.script.zone_opened(origin.clone()?)?;
         self.zone = Some(PolicyZone::new(origin));
         Ok(None)
     }
@@ -113,43 +135,63 @@ impl Core {
         number: u32,
         stream: &[u8],
     ) -> Result<Option<Output>, AnswerError<Why>>
-        ensures { CoreSteps (takes self.old number (offered self.old number stream.now)) result self.new }
+        ensures { CoreSteps (takes self.old number (offered self.old.policy number stream.now)) result self.new }
     {
+        self.script.other_line();
         match &mut self.zone {
             Some(zone) if number == 1 => take_into(alloc, zone, stream),
             _ => Err(AnswerError::Refused(Why::Unbuilt)),
         }
     }
 
-    // Answers a query of worker 0.
+    // Answers a message that came to a worker.
     fn ask(
         &mut self,
         alloc: Global,
         worker: u32,
         message: &[u8],
+        client: Addr,
+        transport: Transport,
     ) -> Result<Option<Output>, AnswerError<Why>>
-        ensures { CoreSteps (asks self.old worker message.now) result self.new }
+        ensures { CoreSteps (says (kept_stood self.old) (answered self.old.policy worker (incoming_of message.now client transport))) result self.new }
     {
-        if worker != 0 {
-            return Err(AnswerError::Refused(Why::Unbuilt));
-        }
-        match self.reply(alloc, message)? {
+        self.script.other_line();
+        let incoming = classify(alloc, message, client, transport)?;
+        match self.answer_to(alloc, worker, incoming)? {
             None => Err(AnswerError::Refused(Why::Unbuilt)),
-            Some(message) => Ok(Some(Output::Reply { worker, message })),
+            Some(output) => Ok(Some(output)),
         }
     }
 
-    // The reply to a message, where the zone answers it.
-    #[tactic(auto, unfolding(crate::specs::Answer::reply_to))]
-    fn reply(&self, alloc: Global, message: &[u8]) -> Result<Option<Octets>, AllocError>
-        ensures { IfOk result (λ reply. reply ≡ reply_to self.now message.now) }
+    // What the worker says to what came, where it is built.
+    fn answer_to(
+        &self,
+        alloc: Global,
+        worker: u32,
+        incoming: Incoming,
+    ) -> Result<Option<Output>, AllocError>
+        ensures { IfOk result (λ output. output ≡ answered self.now.policy worker incoming) }
     {
-        let Some(query) = read_query(alloc, message)? else {
-            return Ok(None);
-        };
+        match incoming {
+            Incoming::Silent => Ok(Some(Output::Silent { worker })),
+            Incoming::Refuse(message) => {
+                let message = write_message(alloc, &message, 65535)?;
+                Ok(Some(Output::Reply { worker, message }))
+            }
+            Incoming::Query(query) => match self.reply(alloc, &query)? {
+                None => Ok(None),
+                Some(message) => Ok(Some(Output::Reply { worker, message })),
+            },
+        }
+    }
+
+    // The reply to a query, where the zone answers it.
+    fn reply(&self, alloc: Global, query: &Query) -> Result<Option<Octets>, AllocError>
+        ensures { IfOk result (λ reply. reply ≡ reply_about self.now.policy query.now) }
+    {
         match &self.zone {
             None => Ok(None),
-            Some(zone) => reply_of(alloc, zone, &query),
+            Some(zone) => reply_of(alloc, zone, query),
         }
     }
 }

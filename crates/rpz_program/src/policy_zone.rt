@@ -1,6 +1,6 @@
 //! A policy zone with an index of the names that its rows name.
 
-ghost use Rattle.std.specs.Prelude.{◌≡◌, [], ◌∷◌, ◌++◌, Some, IfOk, OnOk, OnErr, is_some};
+ghost use Rattle.std.specs.Prelude.{◌≡◌, [], ◌∷◌, ◌++◌, Some, None, IfOk, OnOk, OnErr, is_some};
 ghost use Rattle.dns_name.specs.Labels.{name_octets, lowered};
 ghost use Rattle.dns_message.specs.Spelling.{parts_octets};
 ghost use Rattle.rpz_program.specs.Answer.{name_error_header, reply_with, zone_names};
@@ -9,15 +9,14 @@ ghost use Rattle.rpz_program.specs.Policy.{identity as row_identity, without_rep
 ghost use Rattle.rpz_program.specs.World.{taken_content};
 
 use crate::name_set::NameSet;
-use crate::output::Output;
-use crate::query::Query;
 use crate::row::Row;
 use crate::rows::Rows;
 use crate::transfer::Transfer;
-use dns_message::{Header, write_parts};
+use dns_message::{Header, Query, write_parts};
 use dns_name::{Name, Octets};
 use dns_record::number::push_u16;
 use dns_record::{Record, Soa};
+use script_codec::Output;
 use std::alloc::{AllocError, Global};
 use std::marker::Model;
 use std::slice;
@@ -188,7 +187,7 @@ fn owner_octets(alloc: Global, name: &Name, origin: &Name) -> Result<Vec<u8>, Al
 
 // The reply that the name of the query doesn't exist, by the SOA record of the zone that said so.
 fn name_error(alloc: Global, query: &Query, soa: &Record) -> Result<Octets, AllocError>
-    ensures { IfOk result (λ reply. reply ≡ parts_octets 0 (name_error_header query.now) (Some query.now.question) [] [] (soa.now ∷ [])) }
+    ensures { IfOk result (λ reply. reply ≡ parts_octets 0 (name_error_header query.now) (Some query.now.question) [] [] (soa.now ∷ []) None) }
 {
     let header = Header {
         id: query.id,
@@ -208,6 +207,7 @@ fn name_error(alloc: Global, query: &Query, soa: &Record) -> Result<Octets, Allo
         &[],
         &[],
         slice::from_ref(soa),
+        None,
     )?;
     Ok(reply)
 }

@@ -1,5 +1,8 @@
 //! What a run ends with.
 
+ghost use Rattle.std.specs.Prelude.{◌≡◌, IfOk, option_map, string_bytes};
+ghost use Rattle.rpz_program.specs.Status.{code_of, text_of};
+
 use crate::why::Why;
 use std::alloc::{AllocError, Global};
 
@@ -22,7 +25,9 @@ pub enum Status {
 
 impl Status {
     /// The number that the process ends with.
-    pub fn code(self) -> u8 {
+    pub fn code(self) -> u8
+        ensures { result ≡ code_of self }
+    {
         match self {
             Status::Done => 0,
             Status::Usage => 2,
@@ -34,7 +39,9 @@ impl Status {
     }
 
     /// What is told on standard error; nothing where the run is done.
-    pub fn text(self, alloc: Global) -> Result<Option<String>, AllocError> {
+    pub fn text(self, alloc: Global) -> Result<Option<String>, AllocError>
+        ensures { IfOk result (λ text. option_map string_bytes text ≡ text_of self) }
+    {
         match self {
             Status::Done => Ok(None),
             Status::Usage => Ok(Some(String::from_str(alloc, "rpz: usage")?)),

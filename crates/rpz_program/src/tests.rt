@@ -4,6 +4,7 @@ use super::run::{replayed, run};
 use super::status::Status;
 use super::why::Why;
 use edge_io::{Bytes, Discard, ListSink, ListSource};
+use script_codec::Why as LineWhy;
 use std::alloc::{AllocError, Global};
 use std::test::Fail;
 
@@ -23,9 +24,29 @@ const REPLY: &str =
 const OTHER_QUERY: &str =
     "query 0 udp 192.0.2.7 123401000001000000000000056f74686572076578616d706c650000010001\n";
 
-const UNBUILT_1: Status = Status::BadLine {
+const WORD_1: Status = Status::BadLine {
     line: 1,
-    why: Why::Unbuilt,
+    why: Why::Line(LineWhy::Word),
+};
+
+const NO_ZONE_1: Status = Status::BadLine {
+    line: 1,
+    why: Why::Line(LineWhy::NoZone),
+};
+
+const IDLE_2: Status = Status::BadLine {
+    line: 2,
+    why: Why::Line(LineWhy::Idle),
+};
+
+const MANY_2: Status = Status::BadLine {
+    line: 2,
+    why: Why::Line(LineWhy::Many),
+};
+
+const LATE_2: Status = Status::BadLine {
+    line: 2,
+    why: Why::Line(LineWhy::Late),
 };
 
 const UNBUILT_2: Status = Status::BadLine {
@@ -52,11 +73,23 @@ fn joined(alloc: Global, parts: &[&str]) -> Result<Vec<u8>, AllocError> {
     Ok(script)
 }
 
+// The status and the output of a script that comes and goes in pieces of so many bytes.
+fn run_in_pieces(
+    alloc: Global,
+    script: &[&str],
+    most: usize,
+) -> Result<(Status, Vec<u8>), AllocError> {
+    let most = most.max(1);
+    let mut source = ListSource::new(joined(alloc, script)?, most, Vec::new(alloc));
+    let mut sink = ListSink::new(Vec::new(alloc), most, Vec::new(alloc));
+    let status = run(alloc, &words(alloc)?, &mut source, &mut sink);
+    Ok((status, sink.bytes))
+}
+
 // However the bytes come and go, a script has one status and one output.
 #[test]
 fn scripts_are_answered(rt: HostRuntime) -> Result<(), Fail> {
     let alloc = rt.alloc();
-    let words = words(alloc)?;
     let taken = "taken 1 1 1\n";
     let rows = [
         (["", "", "", ""], Status::Done, ["", "", ""]),
@@ -71,9 +104,24 @@ fn scripts_are_answered(rt: HostRuntime) -> Result<(), Fail> {
             Status::Done,
             [taken, REPLY, REPLY],
         ),
-        (["frob\n", "", "", ""], UNBUILT_1, ["", "", ""]),
-        (["frob", "", "", ""], UNBUILT_1, ["", "", ""]),
-        ([ZONE, "\n", "", ""], UNBUILT_2, ["", "", ""]),
+        (["frob\n", "", "", ""], WORD_1, ["", "", ""]),
+        (["frob", "", "", ""], WORD_1, ["", "", ""]),
+        (["xfer 1 -\n", "", "", ""], NO_ZONE_1, ["", "", ""]),
+        ([ZONE, "give 0 00\n", "", ""], IDLE_2, ["", "", ""]),
+        ([ZONE, "zone other\n", "", ""], MANY_2, ["", "", ""]),
+        (["clock 5\n", ZONE, "", ""], LATE_2, ["", "", ""]),
+        ([ZONE, QUERY, "", ""], UNBUILT_2, ["", "", ""]),
+        ([ZONE, TRANSFER, TRANSFER, ""], UNBUILT_3, [taken, "", ""]),
+        (
+            [
+                "\n# a zone\n",
+                ZONE,
+                "full 1\nclock 4294967295\n\n",
+                TRANSFER,
+            ],
+            Status::Done,
+            [taken, "", ""],
+        ),
         (
             [ZONE, TRANSFER, OTHER_QUERY, QUERY],
             UNBUILT_3,
@@ -82,16 +130,10 @@ fn scripts_are_answered(rt: HostRuntime) -> Result<(), Fail> {
     ];
     for (script, status, out) in &rows {
         for most in [1, 2, 5000] {
-            let bytes = joined(alloc, script)?;
-            let mut source = ListSource::new(bytes, most, Vec::new(alloc));
-            let mut sink = ListSink::new(Vec::new(alloc), most, Vec::new(alloc));
-            assert_eq!(rt;
-                run(alloc, &words, &mut source, &mut sink),
-                *status,
-                "{script:?}"
-            );
+            let (ended, wrote) = run_in_pieces(alloc, script, most)?;
+            assert_eq!(rt; ended, *status, "{script:?}");
             let want = joined(alloc, out)?;
-            assert_eq!(rt; sink.bytes.as_slice(), want.as_slice(), "{script:?}");
+            assert_eq!(rt; wrote.as_slice(), want.as_slice(), "{script:?}");
         }
     }
     let got = replayed(alloc, joined(alloc, &[ZONE, TRANSFER, QUERY])?)
@@ -159,12 +201,13 @@ fn words_and_texts(rt: HostRuntime) -> Result<(), Fail> {
     assert_eq!(rt; run(alloc, &[], &mut script, &mut Discard), Status::Usage);
     assert_eq!(rt;
         run(alloc, &words(alloc)?, &mut script, &mut Discard),
-        UNBUILT_1
+        WORD_1
     );
     for (status, code, text) in [
         (Status::Done, 0, None),
         (Status::Usage, 2, Some("rpz: usage")),
         (UNBUILT_3, 3, Some("rpz: line 3: Unbuilt")),
+        (WORD_1, 3, Some("rpz: line 1: Word")),
         (Status::ReadFault, 4, Some("rpz: read fault")),
         (Status::WriteFault, 5, Some("rpz: write fault")),
         (Status::OutOfMemory, 9, Some("rpz: out of memory")),
@@ -198,6 +241,14 @@ const APEX: &str = "0372707a076578616d706c6500000500010000003c000100";
 
 const OUTSIDE: &str = "0161076578616d706c6500000500010000003c000100";
 
+const CLASS_3: &str = "03626164076578616d706c650372707a076578616d706c6500000500030000003c000100";
+
+const SOA_CLASS_3: &str =
+    "0372707a076578616d706c6500000600030000003c001600000000000100000e1000000258000151800000003c";
+
+// `bad.example` below the zone, by a pointer to the name in the question
+const COMPRESSED: &str = "03626164076578616d706c65c00c000500010000003c000100";
+
 const TO_A_NAME: &str = "01610372707a076578616d706c6500000500010000003c0003016200";
 
 // A transfer of these records.
@@ -215,7 +266,7 @@ fn transfer(alloc: Global, records: &[&str]) -> Result<String, AllocError> {
 #[test]
 fn transfers_are_taken(rt: HostRuntime) -> Result<(), Fail> {
     let alloc = rt.alloc();
-    let cases: [(&[&str], Option<&str>); 14] = [
+    let cases: [(&[&str], Option<&str>); 17] = [
         (&[SOA, BAD, SOA], Some("taken 1 1 1\n")),
         (&[SOA, SOA], Some("taken 1 1 0\n")),
         (&[SOA, BAD, BAD_AGAIN, SOA], Some("taken 1 1 1\n")),
@@ -230,6 +281,9 @@ fn transfers_are_taken(rt: HostRuntime) -> Result<(), Fail> {
         (&[SOA, APEX, SOA], None),
         (&[SOA, OUTSIDE, SOA], None),
         (&[SOA, TO_A_NAME, SOA], None),
+        (&[SOA, CLASS_3, SOA], None),
+        (&[SOA_CLASS_3, SOA_CLASS_3], None),
+        (&[SOA, COMPRESSED, SOA], None),
     ];
     for (records, out) in &cases {
         let stream = transfer(alloc, records)?;
@@ -245,77 +299,117 @@ fn transfers_are_taken(rt: HostRuntime) -> Result<(), Fail> {
     Ok(())
 }
 
-// Which queries the loaded zone answers, by what stands behind `query `.
+// What the loaded zone says to a message, by what stands behind `query `: the first of the output, or why
+// the line is refused.
 #[test]
-fn queries_are_answered(rt: HostRuntime) -> Result<(), Fail> {
+fn messages_are_answered(rt: HostRuntime) -> Result<(), Fail> {
     let alloc = rt.alloc();
     let cases = [
+        // the name doesn't exist
         (
             "0 udp 192.0.2.7 00010100000100000000000003626164076578616d706c650000010001",
-            true,
+            "reply 0 00018183000100000000000103626164076578616d706c6500000100010372707a",
         ),
         (
             "00 udp 0.0.0.000 00010500000100000000000003424144074558414D504C450000FF0001",
-            true,
+            "reply 0 00018183000100000000000103424144074558414d504c450000ff00010372707a",
         ),
         (
-            "1 udp 192.0.2.7 00010100000100000000000003626164076578616d706c650000010001",
-            false,
+            "15 tcp 20010DB8000000000000000000000001 00010100000100000000000003626164076578616d706c650000010001",
+            "reply 15 00018183000100000000000103626164076578616d706c6500000100010372707a",
         ),
+        // a record behind the question is ignored
         (
-            "0 tcp 192.0.2.7 00010100000100000000000003626164076578616d706c650000010001",
-            false,
+            "1 udp 192.0.2.7 00010100000100000000000103626164076578616d706c65000001000100001000010000000000020161",
+            "reply 1 00018183000100000000000103626164076578616d706c6500000100010372707a",
         ),
-        (
-            "0 udp 192.0.2.256 00010100000100000000000003626164076578616d706c650000010001",
-            false,
-        ),
-        (
-            "0 udp 192.0.2 00010100000100000000000003626164076578616d706c650000010001",
-            false,
-        ),
-        (
-            "0 udp 192.0.2.7 00010000000100000000000003626164076578616d706c650000010001",
-            false,
-        ),
+        // silence: 11 bytes, none, a response
+        ("0 udp 192.0.2.7 0000000000000000000000", "silent 0\n"),
+        ("3 udp 192.0.2.7 -", "silent 3\n"),
         (
             "0 udp 192.0.2.7 00018100000100000000000003626164076578616d706c650000010001",
-            false,
+            "silent 0\n",
+        ),
+        // not implemented
+        (
+            "0 udp 192.0.2.7 abcd11000000000000000000",
+            "reply 0 abcd91840000000000000000\n",
+        ),
+        // no message: two questions, a byte behind it, no question, an OPT
+        (
+            "0 udp 192.0.2.7 0005010000020000000000000171076578616d706c6500000100010171076578616d706c650000010001",
+            "reply 0 000581810000000000000000\n",
         ),
         (
-            "0 udp 192.0.2.7 00011100000100000000000003626164076578616d706c650000010001",
-            false,
+            "0 udp 192.0.2.7 00050100000100000000000003626164076578616d706c65000001000100",
+            "reply 0 000581810000000000000000\n",
+        ),
+        (
+            "0 udp 192.0.2.7 000501000000000000000000",
+            "reply 0 000581810000000000000000\n",
+        ),
+        (
+            "0 udp 192.0.2.7 00050100000100000000000103626164076578616d706c650000010001000029100000000000000",
+            "Hex",
+        ),
+        (
+            "0 udp 192.0.2.7 00050100000100000000000103626164076578616d706c6500000100010000291000000000000000",
+            "reply 0 000581810000000000000000\n",
+        ),
+        (
+            "0 udp 192.0.2.7 0005010000010000000000020171076578616d706c65000001000100002910000000000000000000291000000000000000",
+            "reply 0 000581810000000000000000\n",
+        ),
+        // refused: recursion isn't desired, a transfer, another class
+        (
+            "0 udp 192.0.2.7 00010000000100000000000003626164076578616d706c650000010001",
+            "reply 0 00018085000100000000000003626164076578616d706c650000010001\n",
         ),
         (
             "0 udp 192.0.2.7 00010100000100000000000003626164076578616d706c650000fc0001",
-            false,
+            "reply 0 00018185000100000000000003626164076578616d706c650000fc0001\n",
         ),
         (
             "0 udp 192.0.2.7 00010100000100000000000003626164076578616d706c650000fb0001",
-            false,
+            "reply 0 00018185000100000000000003626164076578616d706c650000fb0001\n",
         ),
         (
             "0 udp 192.0.2.7 00010100000100000000000003626164076578616d706c650000010003",
-            false,
+            "reply 0 00018185000100000000000003626164076578616d706c650000010003\n",
         ),
-        (
-            "0 udp 192.0.2.7 00010100000100000000000003626164076578616d706c65000001000100",
-            false,
-        ),
+        // names that no row names
         (
             "0 udp 192.0.2.7 000101000001000000000000016103626164076578616d706c650000010001",
-            false,
+            "Unbuilt",
         ),
         (
             "0 udp 192.0.2.7 000101000001000000000000076578616d706c650000010001",
-            false,
+            "Unbuilt",
         ),
-        ("0 udp 192.0.2.7 -", false),
+        // no line
+        ("16 udp 192.0.2.7 -", "NoWorker"),
+        ("0 sctp 192.0.2.7 -", "Transport"),
+        ("0 udp 192.0.2.256 -", "Address"),
+        ("0 udp 192.0.2 -", "Address"),
     ];
-    for (fields, answered) in cases {
+    for (fields, said) in cases {
         let line = format!(in alloc; "query {fields}\n")?;
         let got = replayed(alloc, joined(alloc, &[ZONE, TRANSFER, line.as_str()])?);
-        assert_eq!(rt; got.is_ok(), answered, "{fields}");
+        match got {
+            Ok(text) => {
+                let want = joined(alloc, &["taken 1 1 1\n", said])?;
+                assert!(rt; text.as_slice().starts_with(want.as_slice()), "{fields}");
+            }
+            Err(status) => {
+                let want = format!(in alloc; "rpz: line 3: {said}")?;
+                let text = status.text(alloc)?;
+                assert_eq!(rt;
+                    text.as_ref().map(|t| t.as_str()),
+                    Some(want.as_str()),
+                    "{fields}"
+                );
+            }
+        }
     }
     Ok(())
 }

@@ -2,12 +2,12 @@
 
 ghost use Rattle.std.specs.Prelude.{◌≡◌, ◌≤◌, ◌<◌, length, take, drop, map, option_copied, Some, IfOk};
 ghost use Rattle.std.specs.List.{list_all};
-ghost use Rattle.rpz_program.specs.Reading.{framed as message_framed, same_name as same_letters, is_good_answer as is_good, asks_for as asks, answers_for as answers, zone_soa as soa_named, is_asterisk as asterisk, is_reserved as reserved, is_exact_name as exact_name, is_exact_owner as exact_owner, is_rule as rule, row_of as row, whole_between as between, whole_in as whole, transfer_in};
+ghost use Rattle.rpz_program.specs.Reading.{framed as message_framed, same_name as same_letters, is_good_answer as is_good, asks_for as asks, answers_for as answers, is_in_full as in_full, zone_soa as soa_named, is_asterisk as asterisk, is_reserved as reserved, is_exact_name as exact_name, is_exact_owner as exact_owner, is_rule as rule, row_of as row, whole_between as between, whole_in as whole, transfer_in};
 
 use crate::row::Row;
 use crate::rows::Rows;
 use crate::transfer::Transfer;
-use dns_message::{Header, Message, MessageError, Question, read_message};
+use dns_message::{Header, Message, MessageError, Question, read_message, write_message};
 use dns_name::{Labels, Name, Octets};
 use dns_record::number::u16_at;
 use dns_record::{Record, Soa, class, rtype, soa_of};
@@ -31,7 +31,7 @@ pub fn read_transfer(
         Err(MessageError::OutOfMemory) => return Err(AllocError),
         Err(MessageError::Fault(_)) => return Ok(None),
     };
-    if !answers_for(origin, &message) {
+    if !answers_for(origin, &message) || !is_in_full(alloc, bytes, &message)? {
         return Ok(None);
     }
     whole_in(alloc, origin, message.answer.as_slice())
@@ -59,7 +59,17 @@ fn answers_for(origin: &Name, message: &Message) -> bool
     is_good_answer(&message.header)
         && message.authority.len() == 0
         && message.additional.len() == 0
+        && message.edns.is_none()
         && asks_for(origin, message.question.as_ref())
+}
+
+// Whether the names of the message stand in full.
+fn is_in_full(alloc: Global, bytes: &[u8], message: &Message) -> Result<bool, AllocError>
+    ensures { IfOk result (λ full. full ≡ in_full bytes.now message.now) }
+{
+    let spelled = write_message(alloc, message, 65535)?;
+    let spelled = spelled.as_slice();
+    Ok(bytes.len() >= 4 && spelled.len() >= 4 && bytes[4..] == spelled[4..])
 }
 
 fn is_good_answer(header: &Header) -> bool
@@ -139,7 +149,7 @@ fn closed(
 fn zone_soa(alloc: Global, origin: &Name, rr: &Record) -> Result<Option<Soa>, AllocError>
     ensures { IfOk result (λ soa. soa ≡ soa_named origin.now rr.now) }
 {
-    if rr.rtype() != rtype::SOA || !same_name(rr.owner(), origin) {
+    if rr.rtype() != rtype::SOA || rr.class() != class::IN || !same_name(rr.owner(), origin) {
         return Ok(None);
     }
     soa_of(alloc, rr)
@@ -157,6 +167,7 @@ fn is_rule(origin: &Name, rr: &Record) -> bool
     ensures { result ≡ rule origin.now rr.now }
 {
     rr.rtype() == rtype::CNAME
+        && rr.class() == class::IN
         && rr.rdata() == b"\x00".as_slice()
         && is_exact_owner(origin, rr.owner())
 }

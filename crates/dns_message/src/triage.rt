@@ -1,0 +1,132 @@
+//! The triage of requests.
+
+ghost use Rattle.std.specs.Prelude.{◌≡◌, IfOk};
+ghost use Rattle.dns_message.specs.Reading.{message_of};
+ghost use Rattle.dns_message.specs.Request.{speaks_in, refusal as refusal_of, asked_in, is_served as serves, answered as answered_by, incoming_of};
+
+use crate::fault::MessageError;
+use crate::header::Header;
+use crate::message::Message;
+use crate::question::Question;
+use crate::reading::{read_header, read_message};
+use crate::request::{Incoming, Query};
+use dns_record::{Records, class, rtype};
+use ip_prefix::{Addr, Transport};
+use std::alloc::{AllocError, Global};
+
+/// The response code of a request that is not well formed (RFC 1035, section 4.1.1; RFC 6895, section 2.3).
+const FORMAT_ERROR: u8 = 1;
+
+/// The response code of a request whose opcode is not implemented.
+const NOT_IMPLEMENTED: u8 = 4;
+
+/// The response code of a request that is refused.
+const REFUSED: u8 = 5;
+
+/// Whether the bytes are answered at all: there are at least 12, and QR is 0 (RFC 1035, section 4.1.1).
+#[tactic(auto, unfolding(crate::specs::Reading::header_in))]
+pub fn speaks(bytes: &[u8]) -> bool
+    ensures { result ≡ speaks_in bytes.now }
+{
+    bytes.len() >= 12 && !read_header(bytes).qr
+}
+
+/// What is done with the bytes that a client sent (RFC 1035, section 4.1.1; the response codes are those of
+/// RFC 6895, section 2.3). In this order:
+///
+/// - `Silent` for under 12 bytes, and for a response;
+/// - `Refuse` with the response code 4 (not implemented) for an opcode other than 0;
+/// - `Refuse` with 1 (format error) where the bytes are no message, or one without a question, or one with an
+///   OPT record (RFC 6891), which is not served yet;
+/// - `Refuse` with 5 (refused), and with the question as it came, for a class other than IN, for the types
+///   IXFR and AXFR (RFC 1995 and RFC 5936), and where no recursion is desired;
+/// - else `Query`.
+///
+/// A refusal has the identifier, the opcode and RD of the request, and no records; QR and RA are 1, AA and
+/// TC 0. Other records of the request are ignored.
+#[tactic(auto, unfolding(crate::specs::Request::incoming_of))]
+pub fn classify(
+    alloc: Global,
+    bytes: &[u8],
+    client: Addr,
+    transport: Transport,
+) -> Result<Incoming, AllocError>
+    ensures { IfOk result (λ i. i ≡ incoming_of bytes.now client transport) }
+{
+    if !speaks(bytes) {
+        return Ok(Incoming::Silent);
+    }
+    let header = read_header(bytes);
+    if header.opcode != 0 {
+        return Ok(Incoming::Refuse(refusal(alloc, NOT_IMPLEMENTED, &header, None)));
+    }
+    match read_asked(alloc, bytes)? {
+        None => Ok(Incoming::Refuse(refusal(alloc, FORMAT_ERROR, &header, None))),
+        Some(question) => Ok(answered(alloc, &header, question, client, transport)),
+    }
+}
+
+// What a well formed request asks, or none if it is not well formed.
+fn read_asked(alloc: Global, bytes: &[u8]) -> Result<Option<Question>, AllocError>
+    ensures { IfOk result (λ question. question ≡ asked_in (message_of bytes.now)) }
+{
+    match read_message(alloc, bytes) {
+        Ok(message) if message.edns.is_none() => Ok(message.question),
+        Ok(_) | Err(MessageError::Fault(_)) => Ok(None),
+        Err(MessageError::OutOfMemory) => Err(AllocError),
+    }
+}
+
+// What is done with a well formed request.
+fn answered(
+    alloc: Global,
+    header: &Header,
+    question: Question,
+    client: Addr,
+    transport: Transport,
+) -> Incoming
+    ensures { result ≡ answered_by header.now question client transport }
+{
+    if !is_served(header, &question) {
+        return Incoming::Refuse(refusal(alloc, REFUSED, header, Some(question)));
+    }
+    Incoming::Query(Query {
+        id: header.id,
+        rd: header.rd,
+        question,
+        client,
+        transport,
+    })
+}
+
+// Whether the question is one of class IN, for no transfer of a zone, and recursion is desired.
+fn is_served(header: &Header, question: &Question) -> bool
+    ensures { result ≡ serves header.now question.now }
+{
+    question.qclass == class::IN
+        && !(question.qtype == rtype::IXFR || question.qtype == rtype::AXFR)
+        && header.rd
+}
+
+// The refusal of a request of this header, with a question or none. It takes no memory.
+fn refusal(alloc: Global, rcode: u8, header: &Header, question: Option<Question>) -> Message
+    ensures { result ≡ refusal_of rcode header.now question }
+{
+    Message {
+        header: Header {
+            id: header.id,
+            qr: true,
+            opcode: header.opcode,
+            aa: false,
+            tc: false,
+            rd: header.rd,
+            ra: true,
+            rcode,
+        },
+        question,
+        answer: Records::new(alloc),
+        authority: Records::new(alloc),
+        additional: Records::new(alloc),
+        edns: None,
+    }
+}

@@ -1,0 +1,9 @@
+pub mod Why
+pub mod Outcome
+pub mod Fields
+pub mod Field
+pub mod Names
+pub mod State
+pub mod Line
+pub mod Output
+pub mod Within

@@ -1,0 +1,202 @@
+//! What a field says.
+
+ghost use Rattle.std.specs.Prelude.{◌≡◌, ◌≤◌, ◌<◌, ◌^◌, true, length, position, IfOk, IfSome};
+ghost use Rattle.std.specs.Char.{is_ascii_digit};
+ghost use Rattle.std.specs.List.{list_all, before_first, after_first};
+ghost use Rattle.dns_name.specs.Labels.{IsName};
+ghost use Rattle.script_codec.specs.Outcome.{Gives};
+ghost use Rattle.script_codec.specs.Within.{IsWorker, IsMessage};
+ghost use Rattle.script_codec.specs.Field.{is_dot, value_of, name_of, number_of, zone_of, worker_of, transport_of, octet_of, v4_of, v6_of, address_of, bytes_of, message_of};
+
+use crate::state::WORKERS;
+use crate::why::{ReadError, Why};
+use dns_name::{Name, Octets, TextError};
+use hex::{FromHex, FromHexError};
+use ip_prefix::{Addr, Transport};
+use std::alloc::Global;
+
+/// The most bytes of a message (RFC 1035, section 4.2.2).
+const MESSAGE_BYTES: usize = 65_535;
+
+/// The name that the text gives.
+pub fn name(alloc: Global, text: &[u8]) -> Result<Name, ReadError>
+    ensures exact { Gives result (name_of text.now) }
+    ensures name { IfOk result IsName }
+{
+    match Name::from_text(alloc, text) {
+        Ok(name) => Ok(name),
+        Err(TextError::OutOfMemory) => Err(ReadError::OutOfMemory),
+        Err(TextError::Fault(_)) => Err(ReadError::Refused(Why::Name)),
+    }
+}
+
+/// The number that 1 to 10 decimal digits write, if it is at most 4,294,967,295.
+#[tactic(auto, unfolding(crate::specs::Field::number_of))]
+pub fn number(digits: &[u8]) -> Result<u32, Why>
+    ensures { result ≡ number_of digits.now }
+{
+    if digits.is_empty() || digits.len() > 10 || !are_digits(digits) {
+        return Err(Why::Number);
+    }
+    u32::try_from(value(digits)).map_err(|_| Why::Number)
+}
+
+/// The number of a zone, of so many that are open. Zone 1 is the first.
+#[tactic(auto, unfolding(crate::specs::Field::zone_of))]
+pub fn zone(digits: &[u8], zones: usize) -> Result<u32, Why>
+    ensures exact { result ≡ zone_of zones digits.now }
+    ensures within { IfOk result (λ zone. (1 ≤ zone) × (zone ≤ zones)) }
+{
+    let zone = number(digits)?;
+    if zone == 0 || zone as usize > zones {
+        return Err(Why::NoZone);
+    }
+    Ok(zone)
+}
+
+/// The number of a worker. Worker 0 is the first.
+#[tactic(auto, unfolding(crate::specs::Field::worker_of))]
+pub fn worker(digits: &[u8]) -> Result<u32, Why>
+    ensures exact { result ≡ worker_of digits.now }
+    ensures within { IfOk result IsWorker }
+{
+    let worker = number(digits)?;
+    if worker as usize >= WORKERS {
+        return Err(Why::NoWorker);
+    }
+    Ok(worker)
+}
+
+/// The transport that `udp` or `tcp` names.
+pub fn transport(text: &[u8]) -> Result<Transport, Why>
+    ensures { result ≡ transport_of text.now }
+{
+    if text == b"udp".as_slice() {
+        return Ok(Transport::Udp);
+    }
+    if text == b"tcp".as_slice() {
+        return Ok(Transport::Tcp);
+    }
+    Err(Why::Transport)
+}
+
+/// The address that four decimals or 32 hexadecimal digits write.
+#[tactic(auto, unfolding(crate::specs::Field::address_of))]
+pub fn address(text: &[u8]) -> Result<Addr, Why>
+    ensures { result ≡ address_of text.now }
+{
+    if text.len() == 32 {
+        address_6(text)
+    } else {
+        address_4(text)
+    }
+}
+
+// An address of IP version 4: four decimals joined by dots.
+#[tactic(auto, unfolding(crate::specs::Field::v4_of))]
+fn address_4(text: &[u8]) -> Result<Addr, Why>
+    ensures { result ≡ v4_of text.now }
+{
+    let (first, rest) = split_dot(text);
+    let (second, rest) = split_dot(rest);
+    let (third, fourth) = split_dot(rest);
+    let first = octet(first)?;
+    let second = octet(second)?;
+    let third = octet(third)?;
+    let fourth = octet(fourth)?;
+    Ok(Addr::V4(((first * 256 + second) * 256 + third) * 256 + fourth))
+}
+
+// An address of IP version 6: 32 hexadecimal digits.
+#[tactic(auto, unfolding(crate::specs::Field::v6_of))]
+fn address_6(text: &[u8]) -> Result<Addr, Why>
+    ensures { result ≡ v6_of text.now }
+{
+    match <[u8; 16]>::from_hex(text) {
+        Ok(bytes) => Ok(Addr::V6(u128::from_be_bytes(bytes))),
+        Err(_) => Err(Why::Address),
+    }
+}
+
+// What stands before the first dot, and after it.
+fn split_dot(text: &[u8]) -> (&[u8], &[u8])
+    ensures first { result.0.now ≡ before_first is_dot text.now }
+    ensures rest { result.1.now ≡ after_first is_dot text.now }
+{
+    match dot_at(text) {
+        Some(at) => (&text[..at], &text[at + 1..]),
+        None => (text, &[]),
+    }
+}
+
+// Where the first dot stands.
+fn dot_at(text: &[u8]) -> Option<usize>
+    ensures value { result ≡ position is_dot text.now }
+    ensures bound { IfSome result (λ at. at < length text.now) }
+{
+    text.iter().position(|b| *b == b'.')
+}
+
+// The octet that 1 to 3 decimal digits write.
+#[tactic(auto, unfolding(crate::specs::Field::octet_of))]
+fn octet(digits: &[u8]) -> Result<u32, Why>
+    ensures value { result ≡ octet_of digits.now }
+    ensures fits { IfOk result (λ octet. octet < 256) }
+{
+    if digits.is_empty() || digits.len() > 3 || !are_digits(digits) {
+        return Err(Why::Address);
+    }
+    let value = value(digits);
+    if value < 256 {
+        Ok(value as u32)
+    } else {
+        Err(Why::Address)
+    }
+}
+
+fn are_digits(bytes: &[u8]) -> bool
+    ensures { result ≡ list_all is_ascii_digit bytes.now }
+{
+    bytes.iter().all(|b| b.is_ascii_digit())
+}
+
+// The value of at most 10 digits.
+fn value(digits: &[u8]) -> u64
+    requires few { length digits.now ≤ 10 }
+    requires digits { list_all is_ascii_digit digits.now ≡ true }
+    ensures { result ≡ value_of digits.now }
+{
+    let mut value = 0;
+    for digit in digits {
+        value = value * 10 + u64::from(*digit - b'0');
+    }
+    value
+}
+
+/// The bytes that `-` or an even number of hexadecimal digits write.
+#[tactic(auto, unfolding(crate::specs::Field::bytes_of))]
+pub fn bytes(alloc: Global, text: &[u8]) -> Result<Octets, ReadError>
+    ensures { Gives result (bytes_of text.now) }
+{
+    if text == b"-".as_slice() {
+        return Ok(Octets::new(alloc));
+    }
+    match hex::decode(alloc, text) {
+        Ok(bytes) => Ok(Octets::from_vec(bytes)),
+        Err(FromHexError::OutOfMemory) => Err(ReadError::OutOfMemory),
+        Err(_) => Err(ReadError::Refused(Why::Hex)),
+    }
+}
+
+/// The message that `-` or an even number of hexadecimal digits write, of at most 65,535 bytes.
+#[tactic(auto, unfolding(crate::specs::Field::message_of))]
+pub fn message(alloc: Global, text: &[u8]) -> Result<Octets, ReadError>
+    ensures exact { Gives result (message_of text.now) }
+    ensures within { IfOk result IsMessage }
+{
+    let message = bytes(alloc, text)?;
+    if message.len() > MESSAGE_BYTES {
+        return Err(ReadError::Refused(Why::Long));
+    }
+    Ok(message)
+}

@@ -1,0 +1,42 @@
+//! What a line of a script says.
+
+use dns_name::{Name, Octets};
+use ip_prefix::{Addr, Transport};
+
+/// What a line of a script says, with its fields as they were read.
+#[derive(Debug, Drop)]
+pub enum Line {
+    /// Opens a zone of this origin.
+    Zone {
+        origin: Name,
+    },
+    /// A transfer of the zone of this number, as it came: each message behind its length in two bytes.
+    Transfer {
+        zone: u32,
+        stream: Octets,
+    },
+    /// The zone of this number is to be transferred in full next.
+    Full {
+        zone: u32,
+    },
+    /// A query that this worker got from this address.
+    Query {
+        worker: u32,
+        transport: Transport,
+        client: Addr,
+        message: Octets,
+    },
+    /// The answer of the server that this worker has asked.
+    Give {
+        worker: u32,
+        message: Octets,
+    },
+    /// The server that this worker has asked did not answer.
+    Fail {
+        worker: u32,
+    },
+    /// The time, in seconds.
+    Clock {
+        seconds: u32,
+    },
+}

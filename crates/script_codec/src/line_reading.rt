@@ -1,0 +1,223 @@
+//! Reads a line of a script.
+
+ghost use Rattle.std.specs.Prelude.{◌≡◌, IfOk};
+ghost use Rattle.std.specs.List.{list_all};
+ghost use Rattle.script_codec.specs.Outcome.{Gives, LineGives};
+ghost use Rattle.script_codec.specs.Fields.{fields_of, fields_left};
+ghost use Rattle.script_codec.specs.Line as line_form;
+ghost use Rattle.script_codec.specs.Line.{zone_line, transfer_line, full_line, query_line, give_line, fail_line, clock_line, worded_line, unnumbered_line, line_of, is_text_byte};
+ghost use Rattle.script_codec.specs.Within.{IsWithin, SaysWithin};
+
+use crate::field::{address, bytes, message, name, number, transport, worker, zone};
+use crate::fields::{Left, four_fields, one_field, split_field, two_fields};
+use crate::line::Line;
+use crate::state::ScriptState;
+use crate::why::{BadLine, LineError, ReadError, Why};
+use std::alloc::Global;
+
+/// The greatest number of a line.
+const LINES: u64 = 4_294_967_295;
+
+/// The most bytes of a line, its line feed not counted.
+const LINE_BYTES: usize = 200_000;
+
+/// What the line of this number says, which comes without its line feed; `None` exactly where it is
+/// empty or begins with `#`. Line 1 is the first. It is refused for the first reason that applies.
+pub fn read_line(
+    alloc: Global,
+    bytes: &[u8],
+    number: u64,
+    state: &ScriptState,
+) -> Result<Option<Line>, LineError>
+    ensures exact { LineGives number result (line_of number bytes.now state.now) }
+    ensures within { IfOk result (SaysWithin state.now) }
+{
+    match read_numbered(alloc, bytes, number, state) {
+        Ok(line) => Ok(line),
+        Err(ReadError::OutOfMemory) => Err(LineError::OutOfMemory),
+        Err(ReadError::Refused(why)) => Err(LineError::BadLine(BadLine { line: number, why })),
+    }
+}
+
+#[tactic(auto, unfolding(crate::specs::Line::line_of))]
+fn read_numbered(
+    alloc: Global,
+    text: &[u8],
+    number: u64,
+    state: &ScriptState,
+) -> Result<Option<Line>, ReadError>
+    ensures exact { Gives result (line_of number text.now state.now) }
+    ensures within { IfOk result (SaysWithin state.now) }
+{
+    if number > LINES {
+        return Err(ReadError::Refused(Why::Lines));
+    }
+    if text.len() > LINE_BYTES {
+        return Err(ReadError::Refused(Why::TooLong));
+    }
+    read_unnumbered(alloc, text, state)
+}
+
+/// The same for a reader that has looked at the number and the length of the line itself.
+#[tactic(auto, unfolding(crate::specs::Line::unnumbered_line))]
+pub fn read_unnumbered(
+    alloc: Global,
+    text: &[u8],
+    state: &ScriptState,
+) -> Result<Option<Line>, ReadError>
+    ensures exact { Gives result (unnumbered_line text.now state.now) }
+    ensures within { IfOk result (SaysWithin state.now) }
+{
+    if !is_text(text) {
+        return Err(ReadError::Refused(Why::Char));
+    }
+    if is_skipped(text) {
+        return Ok(None);
+    }
+    Ok(Some(read_worded(alloc, text, state)?))
+}
+
+// Whether all bytes are printable ASCII.
+fn is_text(text: &[u8]) -> bool
+    ensures { result ≡ list_all is_text_byte text.now }
+{
+    text.iter().all(|b| matches!(*b, 32..=126))
+}
+
+// Whether the line is empty, or a comment.
+fn is_skipped(text: &[u8]) -> bool
+    ensures { result ≡ line_form.is_skipped text.now }
+{
+    match text {
+        [] => true,
+        [first, ..] => *first == b'#',
+    }
+}
+
+// A line that begins with its first word.
+#[tactic(auto, unfolding(crate::specs::Line::kind_line))]
+fn read_worded(alloc: Global, text: &[u8], state: &ScriptState) -> Result<Line, ReadError>
+    ensures exact { Gives result (worded_line state.now (fields_of text.now)) }
+    ensures within { IfOk result (IsWithin state.now) }
+{
+    let (word, fields) = split_field(text);
+    if word == b"zone".as_slice() {
+        return read_zone(alloc, fields, state);
+    }
+    if word == b"xfer".as_slice() {
+        return read_transfer(alloc, fields, state);
+    }
+    if word == b"full".as_slice() {
+        return read_full(fields, state);
+    }
+    if word == b"query".as_slice() {
+        return read_query(alloc, fields, state);
+    }
+    if word == b"give".as_slice() {
+        return read_give(alloc, fields, state);
+    }
+    if word == b"fail".as_slice() {
+        return read_fail(fields, state);
+    }
+    if word == b"clock".as_slice() {
+        return read_clock(fields);
+    }
+    Err(ReadError::Refused(Why::Word))
+}
+
+// The field of `zone NAME`.
+#[tactic(auto, unfolding(crate::specs::Line::zone_line))]
+fn read_zone(alloc: Global, fields: Left<'_>, state: &ScriptState) -> Result<Line, ReadError>
+    ensures exact { Gives result (zone_line state.now (fields_left fields.entry)) }
+    ensures within { IfOk result (IsWithin state.now) }
+{
+    let text = one_field(fields)?;
+    let origin = name(alloc, text)?;
+    state.may_open(&origin)?;
+    Ok(Line::Zone { origin })
+}
+
+// The fields of `xfer Z HEX`.
+#[tactic(auto, unfolding(crate::specs::Line::transfer_line))]
+fn read_transfer(alloc: Global, fields: Left<'_>, state: &ScriptState) -> Result<Line, ReadError>
+    ensures exact { Gives result (transfer_line state.now (fields_left fields.entry)) }
+    ensures within { IfOk result (IsWithin state.now) }
+{
+    let (digits, text) = two_fields(fields)?;
+    let zone = zone(digits, state.origins.len())?;
+    let stream = bytes(alloc, text)?;
+    Ok(Line::Transfer { zone, stream })
+}
+
+// The field of `full Z`.
+#[tactic(auto, unfolding(crate::specs::Line::full_line))]
+fn read_full(fields: Left<'_>, state: &ScriptState) -> Result<Line, ReadError>
+    ensures exact { Gives result (full_line state.now (fields_left fields.entry)) }
+    ensures within { IfOk result (IsWithin state.now) }
+{
+    let digits = one_field(fields)?;
+    let zone = zone(digits, state.origins.len())?;
+    Ok(Line::Full { zone })
+}
+
+// The fields of `query W udp|tcp ADDR HEX`.
+#[tactic(auto, unfolding(crate::specs::Line::query_line))]
+fn read_query(alloc: Global, fields: Left<'_>, state: &ScriptState) -> Result<Line, ReadError>
+    ensures exact { Gives result (query_line state.now (fields_left fields.entry)) }
+    ensures within { IfOk result (IsWithin state.now) }
+{
+    let (digits, carrier, source, text) = four_fields(fields)?;
+    let worker = worker(digits)?;
+    let transport = transport(carrier)?;
+    let client = address(source)?;
+    let message = message(alloc, text)?;
+    if state.is_waiting(worker) {
+        return Err(ReadError::Refused(Why::Busy));
+    }
+    Ok(Line::Query {
+        worker,
+        transport,
+        client,
+        message,
+    })
+}
+
+// The fields of `give W HEX`.
+#[tactic(auto, unfolding(crate::specs::Line::give_line))]
+fn read_give(alloc: Global, fields: Left<'_>, state: &ScriptState) -> Result<Line, ReadError>
+    ensures exact { Gives result (give_line state.now (fields_left fields.entry)) }
+    ensures within { IfOk result (IsWithin state.now) }
+{
+    let (digits, text) = two_fields(fields)?;
+    let worker = worker(digits)?;
+    let message = message(alloc, text)?;
+    if !state.is_waiting(worker) {
+        return Err(ReadError::Refused(Why::Idle));
+    }
+    Ok(Line::Give { worker, message })
+}
+
+// The field of `fail W`.
+#[tactic(auto, unfolding(crate::specs::Line::fail_line))]
+fn read_fail(fields: Left<'_>, state: &ScriptState) -> Result<Line, ReadError>
+    ensures exact { Gives result (fail_line state.now (fields_left fields.entry)) }
+    ensures within { IfOk result (IsWithin state.now) }
+{
+    let digits = one_field(fields)?;
+    let worker = worker(digits)?;
+    if !state.is_waiting(worker) {
+        return Err(ReadError::Refused(Why::Idle));
+    }
+    Ok(Line::Fail { worker })
+}
+
+// The field of `clock SECONDS`.
+#[tactic(auto, unfolding(crate::specs::Line::clock_line))]
+fn read_clock(fields: Left<'_>) -> Result<Line, ReadError>
+    ensures exact { Gives result (clock_line (fields_left fields.entry)) }
+    ensures within { (state : ScriptState) → IfOk result (IsWithin state) }
+{
+    let digits = one_field(fields)?;
+    let seconds = number(digits)?;
+    Ok(Line::Clock { seconds })
+}

@@ -1,0 +1,62 @@
+//! Names in a row.
+
+ghost use Rattle.std.specs.Prelude.{◌≡◌, ℕ, List, [], ◌∷◌, ◌++◌, length, OnOk, OnErr};
+ghost use Rattle.script_codec.specs.Names as names_form;
+ghost use Rattle.script_codec.specs.Names.{has_name};
+
+use dns_name::Name;
+use std::alloc::{AllocError, Global};
+use std::marker::Model;
+
+/// Names in a row. Contracts see their list.
+#[derive(Debug, Drop)]
+pub struct Names {
+    names: Vec<Name>,
+}
+
+impl Model for Names {
+    ghost Value = { List (List (List ℕ)) };
+
+    ghost view = { λ n. n.names.items };
+}
+
+impl Names {
+    /// No names. It takes no memory.
+    pub fn new(alloc: Global) -> Self
+        ensures { result ≡ [] }
+    {
+        Names {
+            names: Vec::new(alloc),
+        }
+    }
+
+    /// How many names there are.
+    pub fn len(&self) -> usize
+        ensures { result ≡ length self.now }
+    {
+        self.names.len()
+    }
+
+    /// Whether the name is among them. Capitals of ASCII count as small letters.
+    pub fn contains(&self, name: &Name) -> bool
+        ensures { result ≡ has_name self.now name.now }
+    {
+        self.names.iter().any(|other| is_same(other, name))
+    }
+
+    /// Puts the name at the end. An `Err` leaves the names as they were.
+    pub fn push(&mut self, name: Name) -> Result<(), AllocError>
+        ensures ok { OnOk result (self.new ≡ self.old ++ name ∷ []) }
+        ensures err { OnErr result (self.new ≡ self.old) }
+    {
+        self.names.push(name)?;
+        Ok(())
+    }
+}
+
+// Whether the names are alike. Capitals of ASCII count as small letters.
+fn is_same(name: &Name, other: &Name) -> bool
+    ensures { result ≡ names_form.same_name name.now other.now }
+{
+    name.is_same(other)
+}

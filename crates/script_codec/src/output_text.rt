@@ -1,0 +1,63 @@
+//! The line that tells an output.
+
+ghost use Rattle.std.specs.Prelude.{◌≡◌, ◌++◌, IfOk, OnOk};
+ghost use Rattle.hex.specs.Hex.{encode_lower};
+ghost use Rattle.script_codec.specs.Output as output_form;
+ghost use Rattle.script_codec.specs.Output.{output_line};
+
+use crate::output::Output;
+use dns_name::Octets;
+use std::alloc::{AllocError, Global};
+use std::fmt::Write;
+
+/// Room for the word of a line, a number of 10 digits, two spaces and the line feed.
+const HEAD_BYTES: usize = 20;
+
+/// The line that tells an output, with its line feed.
+pub fn write_output(alloc: Global, output: &Output) -> Result<Octets, AllocError>
+    ensures { IfOk result (λ text. text ≡ output_line output.now) }
+{
+    let line = match output {
+        Output::Taken { zone, serial, rows } => {
+            format!(in alloc; "taken {zone} {serial} {rows}\n")?
+        }
+        Output::Current { zone, serial } => format!(in alloc; "current {zone} {serial}\n")?,
+        Output::Ask { worker, message } => {
+            return message_line(alloc, "ask", *worker, message.as_slice());
+        }
+        Output::Reply { worker, message } => {
+            return message_line(alloc, "reply", *worker, message.as_slice());
+        }
+        Output::Silent { worker } => format!(in alloc; "silent {worker}\n")?,
+    };
+    Ok(Octets::from_vec(line.into_bytes()))
+}
+
+// A word, the number of a worker, and a message in lower-case digits, in one allocation.
+fn message_line(
+    alloc: Global,
+    word: &str,
+    worker: u32,
+    message: &[u8],
+) -> Result<Octets, AllocError>
+    ensures { IfOk result (λ text. text ≡ output_form.message_line word.now worker message.now) }
+{
+    let capacity = message.len().saturating_mul(2).saturating_add(HEAD_BYTES);
+    let mut head = String::with_capacity(alloc, capacity)?;
+    write!(head, "{word} {worker} ")?;
+    let mut line = head.into_bytes();
+    push_digits(&mut line, message)?;
+    line.push(b'\n')?;
+    Ok(Octets::from_vec(line))
+}
+
+// Puts bytes at the end, as lower-case digits.
+fn push_digits(line: &mut Vec<u8>, bytes: &[u8]) -> Result<(), AllocError>
+    ensures { OnOk result (line.new.items ≡ line.old.items ++ encode_lower bytes.now) }
+{
+    let start = line.len();
+    let digits = bytes.len().checked_mul(2).ok_or(AllocError)?;
+    let end = start.checked_add(digits).ok_or(AllocError)?;
+    line.resize(end, 0)?;
+    hex::encode_to_slice(bytes, &mut line[start..]).map_err(|_| AllocError)
+}
