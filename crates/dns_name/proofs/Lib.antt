@@ -4,3 +4,6 @@ pub mod GrammarLemmas
 pub mod Standing
 pub mod TextLemmas
 pub mod TextLaw
+pub mod AlikeLemmas
+pub mod OrderLemmas
+pub mod PartLemmas

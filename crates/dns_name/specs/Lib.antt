@@ -5,3 +5,6 @@ pub mod Reading
 pub mod Item
 pub mod Grammar
 pub mod Text
+pub mod Alike
+pub mod Order
+pub mod Joined

@@ -1,8 +1,9 @@
-//! Why a name could not be read, from a message or from text.
+//! Why a name could not be read, from a message or from text, or made of two others.
 
 ghost use Rattle.std.specs.Prelude.{◌≡◌};
 ghost use Rattle.dns_name.specs.declared.fault.NameError.TheVariants.{OutOfMemory, Fault as AFault};
 ghost use Rattle.dns_name.specs.declared.fault.TextError.TheVariants.{OutOfMemory as NoMemory, Fault as AText};
+ghost use Rattle.dns_name.specs.declared.fault.JoinError.TheVariants.{OutOfMemory as NoRoom, Fault as ALength};
 
 use std::alloc::{AllocError, AllocFailed};
 
@@ -94,5 +95,40 @@ impl From<TextFault> for TextError {
 
     fn from(fault: TextFault) -> TextError {
         TextError::Fault(fault)
+    }
+}
+
+/// The labels of two names would be written in more than 255 bytes (RFC 1035, section 2.3.4).
+#[derive(Clone, Copy, Debug, PartialEq, Eq)]
+pub struct TooLong;
+
+/// Why two names were not joined: the name would be too long, or want of memory.
+#[derive(Clone, Copy, Debug, PartialEq, Eq)]
+pub enum JoinError {
+    OutOfMemory,
+    Fault(TooLong),
+}
+
+impl From<AllocError> for JoinError {
+    ghost from_gives = { λ _ e. e ≡ NoRoom };
+
+    fn from(_e: AllocError) -> JoinError {
+        JoinError::OutOfMemory
+    }
+}
+
+impl<T: Drop> From<AllocFailed<T>> for JoinError {
+    ghost from_gives = { λ _ e. e ≡ NoRoom };
+
+    fn from(_e: AllocFailed<T>) -> JoinError {
+        JoinError::OutOfMemory
+    }
+}
+
+impl From<TooLong> for JoinError {
+    ghost from_gives = { λ fault e. e ≡ ALength fault };
+
+    fn from(fault: TooLong) -> JoinError {
+        JoinError::Fault(fault)
     }
 }

@@ -9,11 +9,15 @@ mod item;
 pub mod laws;
 mod name;
 mod octets;
+mod order;
+mod parts;
+mod pattern;
 #[cfg(test)]
 mod tests;
 mod text;
 
 pub use cursor::Labels;
-pub use fault::{NameError, NameFault, TextError, TextFault};
+pub use fault::{JoinError, NameError, NameFault, TextError, TextFault, TooLong};
 pub use name::Name;
 pub use octets::Octets;
+pub use pattern::Pattern;

@@ -2,6 +2,7 @@
 
 ghost use Rattle.std.specs.Prelude.{◌≡◌, ℕ, List, [], ◌∷◌, ◌++◌, length, IfOk, OnOk, OnErr, IsTrue, ◌↔◌};
 ghost use Rattle.dns_name.specs.Labels.{IsName, name_octets, lowered, IsUnder};
+ghost use Rattle.dns_name.specs.Alike.{same_name, is_within};
 ghost use Rattle.dns_name.specs.Reading.{Gives, name_at};
 ghost use Rattle.dns_name.specs.Wire.{labels_in, IsWire};
 
@@ -131,7 +132,8 @@ impl Name {
 
     /// The name with small letters in place of ASCII's capitals.
     pub fn lower(&self, alloc: Global) -> Result<Name, AllocError>
-        ensures { IfOk result (λ name. name ≡ lowered self.now) }
+        ensures lowered { IfOk result (λ name. name ≡ lowered self.now) }
+        ensures name { IfOk result IsName }
     {
         let mut wire = Vec::from_slice(alloc, &self.wire)?;
         wire.make_ascii_lowercase();
@@ -140,7 +142,8 @@ impl Name {
 
     /// Whether the names are alike. Capitals of ASCII count as small letters.
     pub fn is_same(&self, other: &Name) -> bool
-        ensures { IsTrue result ↔ (lowered self.now ≡ lowered other.now) }
+        ensures letters { IsTrue result ↔ (lowered self.now ≡ lowered other.now) }
+        ensures test { result ≡ same_name self.now other.now }
     {
         self.octets().eq_ignore_ascii_case(other.octets())
     }
@@ -148,7 +151,8 @@ impl Name {
     /// Whether the name is the other or lies below it: its last labels are the other's. Capitals of ASCII
     /// count as small letters.
     pub fn is_under(&self, other: &Name) -> bool
-        ensures { IsTrue result ↔ IsUnder self.now other.now }
+        ensures under { IsTrue result ↔ IsUnder self.now other.now }
+        ensures test { result ≡ is_within self.now other.now }
     {
         let zone = other.octets();
         let mut labels = self.labels();

@@ -1,4 +1,5 @@
 use super::*;
+use std::cmp::Ordering;
 use std::test::*;
 
 // A name as it is written, with labels of so many letters each.
@@ -252,5 +253,123 @@ fn octets_are_written(rt: HostRuntime) -> Result<(), Fail> {
     assert_eq!(rt; Octets::from_vec(bytes).as_slice(), b"cd".as_slice());
     let name = Name::from_text(rt.alloc(), b"a")?;
     assert!(rt; name.clone()?.is_same(&name));
+    Ok(())
+}
+
+fn joined(rt: &HostRuntime, front: &[u8], back: &[u8]) -> Result<Name, Fail> {
+    let front = Name::from_text(rt.alloc(), front)?;
+    let back = Name::from_text(rt.alloc(), back)?;
+    Ok(Name::join(rt.alloc(), &front, &back)?)
+}
+
+fn join_error(rt: &HostRuntime, front: &[u8], back: &[u8]) -> Result<Option<JoinError>, Fail> {
+    let front = Name::from_text(rt.alloc(), front)?;
+    let back = Name::from_text(rt.alloc(), back)?;
+    Ok(Name::join(rt.alloc(), &front, &back).err())
+}
+
+#[test]
+fn names_are_joined(rt: HostRuntime) -> Result<(), Fail> {
+    let name = joined(&rt, b"a.B", b"c")?;
+    assert_eq!(rt; name.octets(), b"\x01a\x01B\x01c\x00".as_slice());
+    // 128 bytes of labels, and then 126, and the zero
+    let front = spelled(&rt, &[63, 63])?;
+    let longest = joined(&rt, &front, &spelled(&rt, &[63, 61])?)?;
+    assert_eq!(rt;
+        longest.octets(),
+        written(&rt, &[63, 63, 63, 61])?.as_slice()
+    );
+    assert_eq!(rt;
+        join_error(&rt, &front, &spelled(&rt, &[63, 62])?)?,
+        Some(JoinError::Fault(TooLong))
+    );
+    Ok(())
+}
+
+#[test]
+fn names_have_parents(rt: HostRuntime) -> Result<(), Fail> {
+    let name = Name::from_text(rt.alloc(), b"a.B")?;
+    let parent = name.parent(rt.alloc())?.ok_or("parent")?;
+    assert_eq!(rt; parent.octets(), b"\x01B\x00".as_slice());
+    let root = parent.parent(rt.alloc())?.ok_or("root")?;
+    assert_eq!(rt; root.octets(), b"\x00".as_slice());
+    assert!(rt; root.parent(rt.alloc())?.is_none());
+    Ok(())
+}
+
+#[test]
+fn sections_are_cut(rt: HostRuntime) -> Result<(), Fail> {
+    let name = Name::from_text(rt.alloc(), b"F.ISI.ARPA")?;
+    let cases = [
+        (0, 2, b"\x01F\x03ISI\x00".as_slice()),
+        (1, 1, b"\x03ISI\x00".as_slice()),
+        (1, usize::MAX, b"\x03ISI\x04ARPA\x00".as_slice()),
+        (0, 0, b"\x00".as_slice()),
+        (usize::MAX, 1, b"\x00".as_slice()),
+    ];
+    for (from, count, octets) in cases {
+        let section = name.section(rt.alloc(), from, count)?;
+        assert_eq!(rt; section.octets(), octets, "{from}, {count}");
+    }
+    Ok(())
+}
+
+fn order_of(rt: &HostRuntime, a: &[u8], b: &[u8]) -> Result<Ordering, Fail> {
+    let a = Name::from_text(rt.alloc(), a)?;
+    let b = Name::from_text(rt.alloc(), b)?;
+    Ok(a.canonical_cmp(&b))
+}
+
+// The names of RFC 4034, section 6.1, but for those with escapes, in their order.
+#[test]
+fn names_have_an_order(rt: HostRuntime) -> Result<(), Fail> {
+    let names = [
+        b"example".as_slice(),
+        b"a.example".as_slice(),
+        b"yljkjljk.a.example".as_slice(),
+        b"Z.a.example".as_slice(),
+        b"zABC.a.EXAMPLE".as_slice(),
+        b"z.example".as_slice(),
+        b"*.z.example".as_slice(),
+    ];
+    for (i, a) in names.iter().enumerate() {
+        for (j, b) in names.iter().enumerate() {
+            assert_eq!(rt; order_of(&rt, a, b)?, i.cmp(&j), "{i}, {j}");
+        }
+    }
+    Ok(())
+}
+
+fn is_about(rt: &HostRuntime, wild: bool, name: &[u8]) -> Result<bool, Fail> {
+    let base = Name::from_text(rt.alloc(), b"Example.COM")?;
+    let pattern = Pattern::new(rt.alloc(), &base, wild)?;
+    let name = Name::from_text(rt.alloc(), name)?;
+    Ok(pattern.matches(&name))
+}
+
+// Each name, and whether a wild pattern and an exact one are about it.
+#[test]
+fn patterns_match(rt: HostRuntime) -> Result<(), Fail> {
+    let cases = [
+        (b"example.com".as_slice(), false, true),
+        (b"EXAMPLE.com".as_slice(), false, true),
+        (b"a.eXample.com".as_slice(), true, false),
+        (b"b.a.example.com".as_slice(), true, false),
+        (b"anexample.com".as_slice(), false, false),
+        (b"com".as_slice(), false, false),
+    ];
+    for (name, wild, exact) in cases {
+        assert_eq!(rt; is_about(&rt, true, name)?, wild, "{name:?}");
+        assert_eq!(rt; is_about(&rt, false, name)?, exact, "{name:?}");
+    }
+    Ok(())
+}
+
+#[test]
+fn patterns_have_a_base(rt: HostRuntime) -> Result<(), Fail> {
+    let base = Name::from_text(rt.alloc(), b"A.b")?;
+    let pattern = Pattern::new(rt.alloc(), &base, true)?;
+    assert!(rt; pattern.is_wild());
+    assert_eq!(rt; pattern.base().octets(), b"\x01a\x01b\x00".as_slice());
     Ok(())
 }

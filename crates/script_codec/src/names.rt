@@ -1,7 +1,6 @@
 //! Names in a row.
 
 ghost use Rattle.std.specs.Prelude.{◌≡◌, ℕ, List, [], ◌∷◌, ◌++◌, length, OnOk, OnErr};
-ghost use Rattle.script_codec.specs.Names as names_form;
 ghost use Rattle.script_codec.specs.Names.{has_name};
 
 use dns_name::Name;
@@ -41,7 +40,7 @@ impl Names {
     pub fn contains(&self, name: &Name) -> bool
         ensures { result ≡ has_name self.now name.now }
     {
-        self.names.iter().any(|other| is_same(other, name))
+        self.names.iter().any(|other| other.is_same(name))
     }
 
     /// Puts the name at the end. An `Err` leaves the names as they were.
@@ -52,11 +51,4 @@ impl Names {
         self.names.push(name)?;
         Ok(())
     }
-}
-
-// Whether the names are alike. Capitals of ASCII count as small letters.
-fn is_same(name: &Name, other: &Name) -> bool
-    ensures { result ≡ names_form.same_name name.now other.now }
-{
-    name.is_same(other)
 }
