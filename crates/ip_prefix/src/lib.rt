@@ -1,7 +1,17 @@
-//! Addresses of clients, and the transports that they use.
+//! Addresses and prefixes of them, and the transports that carry messages.
 #![tactic(auto)]
 
-/// An address of IP version 4 or 6, the first byte that is sent highest.
+mod address;
+pub mod laws;
+mod prefix;
+
+pub use prefix::{Prefix, PrefixFault};
+
+#[cfg(test)]
+mod tests;
+
+/// An address of IP version 4 (RFC 791, section 3.1) or 6 (RFC 4291, section 2), the first byte that is sent
+/// highest.
 #[derive(Clone, Copy, Debug, PartialEq, Eq)]
 pub enum Addr {
     /// An address of IP version 4.
