@@ -5,3 +5,4 @@ pub mod Becomes
 pub mod Reading
 pub mod Grammar
 pub mod Soa
+pub mod Serial

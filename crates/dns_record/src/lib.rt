@@ -13,13 +13,16 @@ mod reading;
 mod record;
 mod records;
 pub mod rtype;
+mod serial;
 mod soa;
 mod soa_reading;
 
 pub use fault::{RecordError, RecordFault};
+pub use part::{Part, layout};
 pub use reading::read_record;
 pub use record::Record;
 pub use records::Records;
+pub use serial::serial_newer;
 pub use soa::Soa;
 pub use soa_reading::soa_of;
 

@@ -33,7 +33,7 @@ static IPV4_ADDRESS: [Part; 1] = [Part::Fixed(4)];
 static IPV6_ADDRESS: [Part; 1] = [Part::Fixed(16)];
 
 /// The parts of the data of a type and class; `None` where the data is any bytes.
-pub(crate) fn layout(rtype: u16, class: u16) -> Option<&'static [Part]>
+pub fn layout(rtype: u16, class: u16) -> Option<&'static [Part]>
     ensures { option_copied result ≡ layout_of rtype class }
 {
     if is_one_name(rtype) {

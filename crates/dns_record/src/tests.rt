@@ -122,6 +122,40 @@ fn size(data: &[u8]) -> u16 {
     data.len().min(65_535) as u16
 }
 
+// The data that is read of a whole record with such data.
+fn data_in(rt: &HostRuntime, rtype: u16, class: u16, data: &[u8]) -> Result<Octets, Fail> {
+    let message = framed(rt, rtype, class, size(data), data)?;
+    let (rr, after) = read_record(rt.alloc(), message.as_slice(), 0)?;
+    if after != message.len() {
+        return Err("the record ends elsewhere".into());
+    }
+    Ok(Octets::from_slice(rt.alloc(), rr.rdata())?)
+}
+
+// The faults where the message lacks the last byte of the data, where the data lacks it, where its length
+// is one less, and where the data has one byte more.
+fn faults_when_cut(
+    rt: &HostRuntime,
+    rtype: u16,
+    class: u16,
+    data: &[u8],
+) -> Result<[Option<RecordError>; 4], Fail> {
+    let len = size(data);
+    let less = len.saturating_sub(1);
+    let (_, cut) = data.split_last().ok_or("data")?;
+    let ends_before = framed(rt, rtype, class, len, cut)?;
+    let cut_off = framed(rt, rtype, class, less, cut)?;
+    let longer = framed(rt, rtype, class, less, data)?;
+    let mut one_over = framed(rt, rtype, class, len.saturating_add(1), data)?;
+    one_over.push(0)?;
+    Ok([
+        fault_in(rt, &ends_before),
+        fault_in(rt, &cut_off),
+        fault_in(rt, &longer),
+        fault_in(rt, &one_over),
+    ])
+}
+
 #[test]
 fn names_in_data_are_read_in_full(rt: HostRuntime) -> Result<(), Fail> {
     let data = Some(RecordError::Fault(RecordFault::Data));
@@ -152,22 +186,10 @@ fn names_in_data_are_read_in_full(rt: HostRuntime) -> Result<(), Fail> {
         ),
     ] {
         for (class, octets) in [(1, full), (1, compressed), (3, full), (3, compressed)] {
-            let len = size(octets);
-            let message = framed(&rt, rtype, class, len, octets)?;
-            let (rr, after) = read_record(rt.alloc(), message.as_slice(), 0)?;
-            assert_eq!(rt; after, message.len(), "type {rtype}");
-            assert_eq!(rt; rr.rdata(), full, "type {rtype}");
-            let less = len.saturating_sub(1);
-            let (_, cut) = octets.split_last().ok_or("data")?;
-            let ends_before = framed(&rt, rtype, class, len, cut)?;
-            assert_eq!(rt; fault_in(&rt, &ends_before), short, "type {rtype}");
-            let cut_off = framed(&rt, rtype, class, less, cut)?;
-            assert_eq!(rt; fault_in(&rt, &cut_off), data, "type {rtype}");
-            let longer = framed(&rt, rtype, class, less, octets)?;
-            assert_eq!(rt; fault_in(&rt, &longer), data, "type {rtype}");
-            let mut one_over = framed(&rt, rtype, class, len.saturating_add(1), octets)?;
-            one_over.push(0)?;
-            assert_eq!(rt; fault_in(&rt, &one_over), data, "type {rtype}");
+            let read = data_in(&rt, rtype, class, octets)?;
+            assert_eq!(rt; read.as_slice(), full, "type {rtype}");
+            let faults = faults_when_cut(&rt, rtype, class, octets)?;
+            assert_eq!(rt; faults, [short, data, data, data], "type {rtype}");
         }
     }
     Ok(())
@@ -220,14 +242,6 @@ fn soa_is_read_and_made(rt: HostRuntime) -> Result<(), Fail> {
     assert_eq!(rt; soa.expire, 0x3132_3334);
     assert_eq!(rt; soa.minimum, 0x4142_4344);
     assert_eq!(rt; soa.ttl, 3_600);
-    let message = framed(&rt, rtype::SOA, 1, 30, COMPRESSED)?;
-    let (pointing, _) = read_record(rt.alloc(), message.as_slice(), 0)?;
-    let read = soa_of(rt.alloc(), &pointing)?.ok_or("a SOA")?;
-    assert_eq!(rt; read.mname.octets(), b"\x02ns\x01a\0".as_slice());
-    assert_eq!(rt; read.rname.octets(), b"\x02hm\x01a\0".as_slice());
-    assert_eq!(rt; read.serial, 0x0102_0304);
-    assert_eq!(rt; read.minimum, 0x4142_4344);
-    assert_eq!(rt; read.ttl, 0);
     let mut records = Records::new(rt.alloc());
     records.push(soa.record(rt.alloc(), start.owner().clone()?)?)?;
     records.push(alias)?;
@@ -240,6 +254,19 @@ fn soa_is_read_and_made(rt: HostRuntime) -> Result<(), Fail> {
         out.as_slice(),
         b"\x01a\0\0\x06\0\x01\0\0\x0e\x10\0\x1c\x02ns\0\x02hm\0\x01\x02\x03\x04\x11\x12\x13\x14\x21\x22\x23\x24\x31\x32\x33\x34\x41\x42\x43\x44\x01a\0\0\x05\0\x01\0\0\x0e\x10\0\x05\x03www\0".as_slice()
     );
+    Ok(())
+}
+
+#[test]
+fn soa_with_pointers_is_read(rt: HostRuntime) -> Result<(), Fail> {
+    let message = framed(&rt, rtype::SOA, 1, 30, COMPRESSED)?;
+    let (pointing, _) = read_record(rt.alloc(), message.as_slice(), 0)?;
+    let read = soa_of(rt.alloc(), &pointing)?.ok_or("a SOA")?;
+    assert_eq!(rt; read.mname.octets(), b"\x02ns\x01a\0".as_slice());
+    assert_eq!(rt; read.rname.octets(), b"\x02hm\x01a\0".as_slice());
+    assert_eq!(rt; read.serial, 0x0102_0304);
+    assert_eq!(rt; read.minimum, 0x4142_4344);
+    assert_eq!(rt; read.ttl, 0);
     Ok(())
 }
 
@@ -259,4 +286,21 @@ fn laws_do_nothing() {
     laws::a_number_is_read_where_it_stands();
     laws::a_record_is_read_where_it_stands();
     laws::a_record_is_read_by_its_grammar();
+}
+
+#[test]
+fn serials_are_compared(rt: HostRuntime) {
+    for (ours, theirs, newer) in [
+        (0, 1, true),
+        (1, 0, false),
+        (7, 7, false),
+        (4_294_967_295, 0, true),
+        (0, 4_294_967_295, false),
+        (0, 2_147_483_647, true),
+        (0, 2_147_483_648, false),
+        (2_147_483_648, 0, false),
+        (2_147_483_649, 0, true),
+    ] {
+        assert_eq!(rt; serial_newer(ours, theirs), newer, "{ours} {theirs}");
+    }
 }
