@@ -1,0 +1,4 @@
+pub mod Row
+pub mod KeySet
+pub mod Repeats
+pub mod Zone
