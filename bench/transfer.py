@@ -1,0 +1,144 @@
+#!/usr/bin/env python3
+"""How the time and the memory of a zone's transfer grow with its rows.
+
+    python3 bench/transfer.py PROGRAM
+
+PROGRAM is the built program transfer_bench. Each stream is the transfer of the zone rpz.example in messages of at
+most 65,535 bytes, whose rows are hK.gJ.example.rpz.example CNAME . of 60 seconds, all different, with pointers as
+a primary sends them. They come in an order that is shuffled, and the same at each run. Prints for 100,000 and
+for 1,000,000 rows the best time of three in seconds and the peak of the memory in bytes a row, and then the ratio
+of the two times.
+"""
+
+import os
+import random
+import struct
+import subprocess
+import sys
+import tempfile
+import time
+
+COUNTS = (100_000, 1_000_000)
+RUNS = 3
+SIZE = 65_535
+GROUP = 100  # rows of one gJ.example.rpz.example
+
+TTL = 60
+ZONE = 12  # where the question's name begins
+ORIGIN = b"\x03rpz\x07example\x00"
+QUESTION = ORIGIN + struct.pack(">HH", 252, 1)
+SOA_DATA = b"\x00\x00" + struct.pack(">IIIII", 1, 3600, 600, 86400, 60)
+
+
+def pointer(place):
+    return struct.pack(">H", 0xC000 | place)
+
+
+def record(owner, rtype, data):
+    return owner + struct.pack(">HHIH", rtype, 1, TTL, len(data)) + data
+
+
+def label(text):
+    return bytes([len(text)]) + text.encode()
+
+
+class Writer:
+    """Writes records into messages, each behind its length."""
+
+    def __init__(self, out):
+        self.out = out
+        self.begin()
+
+    def begin(self):
+        self.body = bytearray(12) + QUESTION
+        self.answers = 0
+        self.places = {}  # where the names that begin with these labels stand in the message
+
+    def end(self):
+        struct.pack_into(">HHHHHH", self.body, 0, 0, 0x8400, 1, self.answers, 0, 0)
+        self.out.write(struct.pack(">H", len(self.body)) + self.body)
+        self.begin()
+
+    def put(self, data):
+        self.body += data
+        self.answers += 1
+
+    def soa(self):
+        data = record(pointer(ZONE), 6, SOA_DATA)
+        if len(self.body) + len(data) > SIZE:
+            self.end()
+        self.put(data)
+
+    def row(self, number):
+        data, places = self.cname(number)
+        if len(self.body) + len(data) > SIZE:
+            self.end()
+            data, places = self.cname(number)
+        self.places.update(places)
+        self.put(data)
+
+    def cname(self, number):
+        """The row, and where the names that it writes out will stand."""
+        group, host = divmod(number, GROUP)
+        owner = label(f"h{host}")
+        new = {}
+        for text in (f"g{group}", "example"):
+            if text in self.places:
+                return record(owner + pointer(self.places[text]), 5, b"\x00"), new
+            at = len(self.body) + len(owner)
+            if at < 0x4000:  # a pointer reaches no further
+                new[text] = at
+            owner += label(text)
+        return record(owner + pointer(ZONE), 5, b"\x00"), new
+
+
+def write_stream(out, count):
+    numbers = list(range(count))
+    random.Random(count).shuffle(numbers)
+    writer = Writer(out)
+    writer.soa()
+    for number in numbers:
+        writer.row(number)
+    writer.soa()
+    writer.end()
+
+
+def run(program, path):
+    """The seconds and the peak of the memory, in bytes, of one run."""
+    with open(path, "rb") as stream:
+        start = time.perf_counter()
+        child = subprocess.Popen([program], stdin=stream, stdout=subprocess.PIPE)
+        told = child.stdout.read()
+        _, status, usage = os.wait4(child.pid, 0)
+        seconds = time.perf_counter() - start
+    child.returncode = os.waitstatus_to_exitcode(status)
+    return child.returncode, told, seconds, usage.ru_maxrss * 1024
+
+
+def measure(program, count):
+    with tempfile.NamedTemporaryFile(suffix=".stream") as stream:
+        write_stream(stream, count)
+        stream.flush()
+        best = None
+        for _ in range(RUNS):
+            status, told, seconds, memory = run(program, stream.name)
+            if status != 0 or told != f"serial 1 rows {count}\n".encode():
+                sys.exit(f"{count} rows: status {status}, {told!r}")
+            if best is None or seconds < best[0]:
+                best = (seconds, memory)
+    return best
+
+
+def main():
+    if len(sys.argv) != 2:
+        sys.exit("usage: python3 bench/transfer.py PROGRAM")
+    times = []
+    for count in COUNTS:
+        seconds, memory = measure(sys.argv[1], count)
+        times.append(seconds)
+        print(f"{count} rows: {seconds:.3f} s, {memory / count:.0f} bytes of memory a row")
+    print(f"ratio of the times: {times[1] / times[0]:.1f}")
+
+
+if __name__ == "__main__":
+    main()

@@ -1,0 +1,63 @@
+-- A transfer comes on with each message.
+use Rattle.std.proofs.Common.{◌≡◌, ℕ, ◌+◌, ◌-◌, ◌<◌, ◌≤◌, Bool, true, false, cond, List, [], ◌∷◌, Option, Some, None, Result, Ok, Err, refl, sym, ap, ◌∙◌, subst, arith, leb, leb-false}
+use Rattle.std.specs.Prelude.{nat_le, ◌==◌}
+use Rattle.dns_name.specs.Reading.{◌>>=◌}
+use Rattle.dns_record.specs.Record.{PlainRecord}
+use Rattle.dns_message.specs.declared.message.Message.{Message}
+use Rattle.axfr_apply.specs.declared.asked.Asked.{Asked}
+use Rattle.axfr_apply.specs.declared.fault.TransferFault.{TransferFault}
+use Rattle.axfr_apply.specs.declared.progress.Progress.{Progress}
+use Rattle.axfr_apply.specs.declared.step.Step.{Step}
+use Rattle.axfr_apply.specs.declared.step.Step.TheVariants.{Lead, Row, Close, Current}
+use Rattle.axfr_apply.specs.Progress.{Next, on, current, counted, checked, stepped, step_of, answer_run, answers_run, message_run, going_on}
+
+-- the count after the progress
+abbrev Rises : Asked → ℕ → Result Next TransferFault → Type 0
+Rises asked count (Ok (on q)) = (count ≤ q.count) × (q.count < asked.most)
+Rises asked count (Ok (current theirs)) = Unit {0}
+Rises asked count (Err fault) = Unit {0}
+
+step_rises : (asked : Asked) (p : Progress) (r : PlainRecord) (st : Result Step TransferFault) → p.count < asked.most → Rises asked p.count (stepped p r st)
+step_rises asked p r (Err fault) few = tt
+step_rises asked p r (Ok (Current theirs)) few = tt
+step_rises asked p r (Ok (Lead soa)) few = (omega arith, few)
+step_rises asked p r (Ok Row) few = (omega arith, few)
+step_rises asked p r (Ok Close) few = (omega arith, few)
+
+lower : (asked : Asked) (a b : ℕ) (run : Result Next TransferFault) → a ≤ b → Rises asked b run → Rises asked a run
+lower asked a b (Ok (on q)) le rises = (omega (arith, le, rises.0), rises.1)
+lower asked a b (Ok (current theirs)) le rises = tt
+lower asked a b (Err fault) le rises = tt
+
+answer_by : (asked : Asked) (p : Progress) (r : PlainRecord) (t : Bool) → nat_le asked.most (p.count + 1) ≡ t → Rises asked p.count (answer_run asked p r)
+answer_by asked p r true e = rw e tt
+answer_by asked p r false e =
+    let few : p.count + 1 < asked.most = omega (arith, leb-false _ _ e) in
+    let q : Progress = record { count = p.count + 1; begun = p.begun; rows = p.rows } in
+    rw e (lower asked p.count (p.count + 1) (stepped q r (step_of asked p.begun r)) (omega arith) (step_rises asked q r (step_of asked p.begun r) few))
+
+answers_by : (asked : Asked) (p : Progress) (rs : List PlainRecord) (run : Result Next TransferFault) → Rises asked p.count run → ((q : Progress) → q.count < asked.most → Rises asked q.count (answers_run asked q rs))
+    → Rises asked p.count (run >>= going_on (λ now. answers_run asked now rs))
+answers_by asked p rs (Err fault) rises more = tt
+answers_by asked p rs (Ok (current theirs)) rises more = tt
+answers_by asked p rs (Ok (on q)) rises more = lower asked p.count q.count (answers_run asked q rs) rises.0 (more q rises.1)
+
+answers_rise : (asked : Asked) (p : Progress) (rs : List PlainRecord) → p.count < asked.most → Rises asked p.count (answers_run asked p rs)
+answers_rise asked p [] few = (omega arith, few)
+answers_rise asked p (r ∷ rs) few = answers_by asked p rs (answer_run asked p r) (answer_by asked p r (nat_le asked.most (p.count + 1)) refl) (λ q h. answers_rise asked q rs h)
+
+head_by : (asked : Asked) (p : Progress) (m : Result Message TransferFault) → p.count < asked.most → Rises asked p.count (m >>= λ x. answers_run asked p x.answer)
+head_by asked p (Err fault) few = tt
+head_by asked p (Ok m) few = answers_rise asked p m.answer few
+
+message_by : (asked : Asked) (p : Progress) (octets : List ℕ) (t : Bool) → nat_le asked.most (p.count + 1) ≡ t → Rises asked (p.count + 1) (message_run asked p octets)
+unfolding message_run
+message_by asked p octets true e = rw e tt
+message_by asked p octets false e =
+    let few : p.count + 1 < asked.most = omega (arith, leb-false _ _ e) in
+    rw e (head_by asked (record { count = p.count + 1; begun = p.begun; rows = p.rows }) (checked asked (p.count == 0) octets) few)
+
+pub message_rises : (asked : Asked) (p q : Progress) (octets : List ℕ) → message_run asked p octets ≡ Ok (on q) → (p.count < q.count) × (q.count < asked.most)
+message_rises asked p q octets e =
+    let rises : Rises asked (p.count + 1) (Ok (on q)) = subst (Rises asked (p.count + 1)) e (message_by asked p octets (nat_le asked.most (p.count + 1)) refl) in
+    (omega (arith, rises.0), rises.1)

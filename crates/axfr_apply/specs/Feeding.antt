@@ -1,0 +1,133 @@
+-- A reader of a transfer, which takes message after message, and what it stands for: the list of messages that it took.
+use Rattle.std.specs.Prelude.{◌≡◌, ℕ, ◌+◌, ◌-◌, ◌<◌, Bool, true, false, if◌then◌else◌, List, [], ◌∷◌, ◌++◌, length, map, Option, Some, None, Result, Ok, Err, IfSome, MatchOption, ⊤}
+use Rattle.std.specs.List.{list_any}
+use Rattle.dns_name.specs.Reading.{◌>>=◌}
+use Rattle.dns_record.specs.Record.{PlainRecord}
+use Rattle.zone_rows.specs.declared.transfer.Transfer.{Transfer}
+use Rattle.zone_rows.specs.declared.transfer.Transfer.TheVariants.{Whole}
+use Rattle.zone_rows.specs.Row.{PlainRow, row_of}
+use Rattle.axfr_apply.specs.declared.asked.Asked.{Asked}
+use Rattle.axfr_apply.specs.declared.fault.TransferError.{TransferError}
+use Rattle.axfr_apply.specs.declared.fault.TransferError.TheVariants as errors
+use Rattle.axfr_apply.specs.declared.fault.TransferFault.{TransferFault}
+use Rattle.axfr_apply.specs.declared.fault.TransferFault.TheVariants.{ReadFault, Cut, EndedEarly, Finished}
+use Rattle.axfr_apply.specs.declared.progress.Progress.{Progress}
+use Rattle.axfr_apply.specs.declared.step.Begun.{Begun}
+use Rattle.axfr_apply.specs.declared.taken.Fed.{Fed}
+use Rattle.axfr_apply.specs.declared.taken.Fed.TheVariants as fed
+use Rattle.axfr_apply.specs.declared.taken.Taken.TheVariants.{Current, New}
+use Rattle.axfr_apply.specs.Item.{Item, items, records}
+use Rattle.axfr_apply.specs.Progress.{Next, on, current, message_run, not_begun}
+use Rattle.axfr_apply.specs.Reading.{Outcome, soa_held, is_soa, first_end}
+
+-- a reader: what was asked for, and how far the transfer has come, unless it has ended
+pub record Reader : Type 0 where
+  pub asked : Asked
+  pub progress : Option Progress
+
+abbrev pub new_reader : Asked → Reader
+new_reader asked = record { asked = asked; progress = Some not_begun }
+
+-- the transfer has ended
+abbrev pub IsFinished : Reader → Type 0
+IsFinished reader = reader.progress ≡ None
+
+-- the record that holds the second SOA, where it came
+abbrev pub IsClosing : Bool → List PlainRecord → Type 0
+IsClosing true rs = (last : PlainRecord) × (rs ≡ last ∷ []) × (is_soa last ≡ true)
+IsClosing false rs = rs ≡ []
+
+-- these records are the one with the first SOA, rows, and the one with the second SOA if it came
+pub record HasZone (begun : Begun) (rows : List PlainRow) (rs : List PlainRecord) : Type 0 where
+  pub first : PlainRecord
+  pub between : List PlainRecord
+  pub last : List PlainRecord
+  pub all : rs ≡ first ∷ (between ++ last)
+  pub soa : soa_held first ≡ Some begun.soa
+  pub no_soa : list_any is_soa between ≡ false
+  pub are_rows : rows ≡ map row_of between
+  pub closing : IsClosing begun.is_closed last
+
+abbrev pub HasRead : Option Begun → List PlainRow → List PlainRecord → Type 0
+HasRead None rows rs = (rs ≡ []) × (rows ≡ [])
+HasRead (Some begun) rows rs = HasZone begun rows rs
+
+-- this is how far the items have brought the transfer, which none of them ends
+pub record Stands (asked : Asked) (p : Progress) (its : List Item) : Type 0 where
+  pub count : p.count ≡ length its
+  pub no_end : first_end asked [] its ≡ None
+  pub has_read : HasRead p.begun p.rows (records its)
+
+-- the second SOA didn't come
+abbrev pub IsOpen : Option Begun → Type 0
+IsOpen begun = IfSome begun (λ b. b.is_closed ≡ false)
+
+abbrev pub WaitsBehind : Asked → Option Progress → List (List ℕ) → Type 0
+WaitsBehind asked None messages = ⊥
+WaitsBehind asked (Some p) messages = Stands asked p (items messages) × IsOpen p.begun
+
+-- the reader has taken these messages, which don't end the transfer
+abbrev pub Waits : Reader → List (List ℕ) → Type 0
+Waits reader messages = WaitsBehind reader.asked reader.progress messages
+
+-- what a message did to a reader, where the transfer of all messages up to this ends so, or doesn't
+abbrev pub Feeds : Result Fed TransferError → Reader → List (List ℕ) → Option Outcome → Type 0
+Feeds (Ok fed.More) new messages outcome = (outcome ≡ None) × Waits new messages
+Feeds (Ok (fed.Current theirs)) new messages outcome = (outcome ≡ Some (Ok (Current theirs))) × IsFinished new
+Feeds (Ok (fed.Done transfer)) new messages outcome = (outcome ≡ Some (Ok (New transfer))) × IsFinished new
+Feeds (Err errors.OutOfMemory) new messages outcome = IsFinished new
+Feeds (Err (errors.Fault fault)) new messages outcome = (outcome ≡ Some (Err fault)) × IsFinished new
+
+-- a fault that a message shows, and not its stream or its reader
+abbrev pub IsOfMessage : TransferFault → Type 0
+IsOfMessage ReadFault = ⊥
+IsOfMessage Cut = ⊥
+IsOfMessage EndedEarly = ⊥
+IsOfMessage Finished = ⊥
+IsOfMessage fault = Unit {0}
+
+abbrev pub IsOfReader : TransferError → Type 0
+IsOfReader errors.OutOfMemory = Unit {0}
+IsOfReader (errors.Fault fault) = IsOfMessage fault
+
+-- how many more messages and records there may be
+abbrev pub progress_left : Asked → Option Progress → ℕ
+progress_left asked None = 0
+progress_left asked (Some p) = asked.most - p.count
+
+abbrev pub left_of : Reader → ℕ
+left_of reader = progress_left reader.asked reader.progress
+
+-- where more messages are to come, fewer may
+abbrev pub Falls : Result Fed TransferError → ℕ → ℕ → Type 0
+Falls (Ok fed.More) before now = now < before
+Falls result before now = ⊤
+
+-- what a message does to a reader, by how far the transfer has come
+pub data Fate : Type 0 where
+  more : Progress → Fate
+  current_at : ℕ → Fate
+  done : Transfer → Fate
+
+abbrev pub begun_fate : Option Begun → Progress → Fate
+begun_fate None p = more p
+begun_fate (Some begun) p = if begun.is_closed then done (Whole begun.soa p.rows) else more p
+
+abbrev pub next_fate : Next → Result Fate TransferFault
+next_fate (on p) = Ok (begun_fate p.begun p)
+next_fate (current theirs) = Ok (current_at theirs)
+
+abbrev pub fate : Asked → Option Progress → List ℕ → Result Fate TransferFault
+fate asked None octets = Err Finished
+fate asked (Some p) octets = message_run asked p octets >>= next_fate
+
+abbrev pub GoesOn : Option Progress → Result Fate TransferFault → Type 0
+GoesOn None gives = ⊥
+GoesOn (Some p) gives = gives ≡ Ok (more p)
+
+abbrev pub Meets : Result Fed TransferError → Option Progress → Result Fate TransferFault → Type 0
+Meets (Ok fed.More) new gives = GoesOn new gives
+Meets (Ok (fed.Current theirs)) new gives = (gives ≡ Ok (current_at theirs)) × (new ≡ None)
+Meets (Ok (fed.Done transfer)) new gives = (gives ≡ Ok (done transfer)) × (new ≡ None)
+Meets (Err errors.OutOfMemory) new gives = new ≡ None
+Meets (Err (errors.Fault fault)) new gives = (gives ≡ Err fault) × (new ≡ None)

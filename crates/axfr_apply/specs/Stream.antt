@@ -1,0 +1,77 @@
+-- What a stream of bytes is as the transfer of a whole zone.
+use Rattle.std.specs.Prelude.{◌≡◌, ℕ, zero, suc, ◌+◌, ◌*◌, nat_lt, if◌then◌else◌, List, [], ◌∷◌, ◌++◌, length, take, drop, Option, Some, None, Result, Ok, Err, IfSome, ⊤}
+use Rattle.std.specs.Global.{Vec}
+use Rattle.edge_io.specs.Frame.{TakesSome, TakesFrame, TakesNone, TakesCut}
+use Rattle.axfr_apply.specs.declared.fault.TransferError.{TransferError}
+use Rattle.axfr_apply.specs.declared.fault.TransferError.TheVariants as errors
+use Rattle.axfr_apply.specs.declared.asked.Asked.{Asked}
+use Rattle.axfr_apply.specs.declared.fault.TransferFault.{TransferFault}
+use Rattle.axfr_apply.specs.declared.fault.TransferFault.TheVariants.{ReadFault, Cut, EndedEarly}
+use Rattle.axfr_apply.specs.declared.taken.Taken.{Taken}
+use Rattle.axfr_apply.specs.Reading.{Outcome, outcome_of}
+
+-- what a stream begins with: nothing, part of a frame, or a whole frame, of which the message and what follows are told
+-- (RFC 1035, section 4.2.2)
+pub data Frame : Type 0 where
+  none : Frame
+  cut : Frame
+  whole : List ℕ → List ℕ → Frame
+
+abbrev pub frame_at : List ℕ → Frame
+frame_at [] = none
+frame_at (high ∷ []) = cut
+frame_at (high ∷ low ∷ rest) = let count = 256 * high + low in if nat_lt (length rest) count then cut else whole (take count rest) (drop count rest)
+
+-- how a stream ends a transfer, and the bytes behind the message that ends it
+abbrev pub Read : Type 0
+Read = Outcome × List ℕ
+
+abbrev pub ended_by : (List (List ℕ) → List ℕ → Read) → List (List ℕ) → List ℕ → Option Outcome → Read
+ended_by go messages rest (Some outcome) = (outcome, rest)
+ended_by go messages rest None = go messages rest
+
+abbrev pub frame_read : (List (List ℕ) → List ℕ → Read) → Asked → List (List ℕ) → Frame → Read
+frame_read go asked before none = (Err EndedEarly, [])
+frame_read go asked before cut = (Err Cut, [])
+frame_read go asked before (whole message rest) = let messages : List (List ℕ) = before ++ message ∷ [] in ended_by go messages rest (outcome_of asked messages)
+
+-- behind these messages, in at most so many frames
+unfoldable pub read_from : ℕ → Asked → List (List ℕ) → List ℕ → Read
+read_from zero asked before bytes = (Err EndedEarly, [])
+read_from (suc frames) asked before bytes = frame_read (read_from frames asked) asked before (frame_at bytes)
+
+-- What a stream is: how the first of its messages, so many that they end the transfer, do so; or that it ends before, in a frame
+-- or between frames. Each frame has two bytes at least, so the number of frames never ends the reading.
+unfoldable pub reading : Asked → List ℕ → Read
+reading asked bytes = read_from (length bytes + 1) asked [] bytes
+
+-- where the source tells its bytes, it is read as the stream that they are, and what is left is left unread
+abbrev pub ReadsAs : Asked → Outcome → Option (List ℕ) → Option (List ℕ) → Type 0
+ReadsAs asked outcome before after = IfSome before (λ bytes. ((reading asked bytes).0 ≡ outcome) × (after ≡ Some (reading asked bytes).1))
+
+-- what an answer says of the bytes
+abbrev pub Faults : Asked → TransferFault → Option (List ℕ) → Option (List ℕ) → Type 0
+Faults asked ReadFault before after = TakesSome before after
+Faults asked fault before after = ReadsAs asked (Err fault) before after
+
+abbrev pub Reads : Asked → Result Taken TransferError → Option (List ℕ) → Option (List ℕ) → Type 0
+Reads asked (Ok taken) before after = ReadsAs asked (Ok taken) before after
+Reads asked (Err errors.OutOfMemory) before after = TakesSome before after
+Reads asked (Err (errors.Fault fault)) before after = Faults asked fault before after
+
+-- what was taken for a message
+abbrev pub TakesOnFault : TransferFault → Option (List ℕ) → Option (List ℕ) → Type 0
+TakesOnFault ReadFault before after = TakesSome before after
+TakesOnFault Cut before after = TakesCut before after
+TakesOnFault EndedEarly before after = TakesNone before after
+TakesOnFault fault before after = ⊥
+
+abbrev pub TakesMessage : Result (Vec ℕ) TransferError → Option (List ℕ) → Option (List ℕ) → Type 0
+TakesMessage (Ok message) before after = TakesFrame message.items before after
+TakesMessage (Err errors.OutOfMemory) before after = TakesSome before after
+TakesMessage (Err (errors.Fault fault)) before after = TakesOnFault fault before after
+
+-- a fault of reading comes only where this holds
+abbrev pub BlamesSource : TransferError → Type 0 → Type 0
+BlamesSource (errors.Fault ReadFault) blame = blame
+BlamesSource e blame = ⊤

@@ -1,0 +1,108 @@
+//! Why a transfer is refused.
+
+ghost use Rattle.std.specs.Prelude.{◌≡◌};
+ghost use Rattle.axfr_apply.specs.declared.fault.TransferError.TheVariants.{OutOfMemory, Fault as AFault};
+ghost use Rattle.axfr_apply.specs.Becomes.{FrameBecomes, MessageBecomes};
+
+use dns_message::MessageError;
+use edge_io::{FrameError, FrameFault};
+use std::alloc::{AllocError, AllocFailed};
+
+/// What is wrong with a transfer: the first fault, in the order of its messages and records. The faults of one message or record
+/// come in this order, but that one too many comes first.
+#[derive(Clone, Copy, Debug, PartialEq, Eq)]
+pub enum TransferFault {
+    /// A read has failed.
+    ReadFault,
+    /// The stream ended inside a frame.
+    Cut,
+    /// The stream ended between frames, before the zone was whole.
+    EndedEarly,
+    /// A message can't be read.
+    BadMessage,
+    /// A message has another identifier than the request.
+    WrongId,
+    /// A message is no response, or its opcode isn't 0.
+    NotResponse,
+    /// A message is truncated.
+    Truncated,
+    /// A message has this response code, which isn't 0.
+    Rcode(u8),
+    /// A message has another question than the request, or the first has none (RFC 5936, section 2.2.2).
+    WrongQuestion,
+    /// The first record is no SOA.
+    NoLeadingSoa,
+    /// A record isn't of class IN.
+    WrongClass,
+    /// A record other than a SOA belongs neither to the zone's name nor to one below it.
+    OutOfZone,
+    /// A SOA belongs to another name than the zone's.
+    WrongSoaOwner,
+    /// The second SOA, which closes the zone, has another serial than the first.
+    SoaDiffers { first: u32, last: u32 },
+    /// The serial of the zone (`theirs`) is neither the one that we have (`ours`) nor newer (RFC 1982).
+    SerialNotNewer { ours: u32, theirs: u32 },
+    /// A record stands behind the second SOA, in the same message.
+    TrailingRecord,
+    /// There are too many messages and records: this is the number of the last, counted together from 1.
+    TooManyRecords { at: u32 },
+    /// The transfer has ended before, by a fault, for want of memory or as a whole.
+    Finished,
+}
+
+/// Why a transfer gives nothing: a fault, or want of memory.
+#[derive(Clone, Copy, Debug, PartialEq, Eq)]
+pub enum TransferError {
+    OutOfMemory,
+    Fault(TransferFault),
+}
+
+impl From<AllocError> for TransferError {
+    ghost from_gives = { λ _ e. e ≡ OutOfMemory };
+
+    fn from(_e: AllocError) -> TransferError {
+        TransferError::OutOfMemory
+    }
+}
+
+impl<T: Drop> From<AllocFailed<T>> for TransferError {
+    ghost from_gives = { λ _ e. e ≡ OutOfMemory };
+
+    fn from(_e: AllocFailed<T>) -> TransferError {
+        TransferError::OutOfMemory
+    }
+}
+
+impl From<TransferFault> for TransferError {
+    ghost from_gives = { λ fault e. e ≡ AFault fault };
+
+    fn from(fault: TransferFault) -> TransferError {
+        TransferError::Fault(fault)
+    }
+}
+
+/// A message that can't be read is a bad one, whatever is wrong with it.
+impl From<MessageError> for TransferError {
+    ghost from_gives = { MessageBecomes };
+
+    fn from(error: MessageError) -> TransferError {
+        match error {
+            MessageError::OutOfMemory => TransferError::OutOfMemory,
+            MessageError::Fault(_) => TransferError::Fault(TransferFault::BadMessage),
+        }
+    }
+}
+
+impl From<FrameError> for TransferError {
+    ghost from_gives = { FrameBecomes };
+
+    fn from(error: FrameError) -> TransferError {
+        match error {
+            FrameError::OutOfMemory => TransferError::OutOfMemory,
+            FrameError::Fault(FrameFault::ReadFault) => {
+                TransferError::Fault(TransferFault::ReadFault)
+            }
+            FrameError::Fault(FrameFault::Cut) => TransferError::Fault(TransferFault::Cut),
+        }
+    }
+}
