@@ -2,11 +2,8 @@ pub mod Lines
 pub mod Folds
 pub mod Steps
 pub mod Abstraction
-pub mod Keys
-pub mod Letters
 pub mod Owners
-pub mod Ends
 pub mod OwnerKeys
-pub mod Repeats
+pub mod Streams
 pub mod Simulation
 pub mod RunSteps

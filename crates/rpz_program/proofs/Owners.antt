@@ -4,7 +4,8 @@ use Rattle.std.specs.Prelude.{slice_get}
 use Rattle.std.proofs.Math.Bool.{and-false}
 use Rattle.std.proofs.lemmas.List.{get_or-drop, get_or-take, length-take}
 use Rattle.std.proofs.lemmas.Option.{slice_get-get_or}
-use Rattle.rpz_program.specs.Reading.{is_asterisk, is_reserved, is_below, is_exact_name, is_exact_owner}
+use Rattle.dns_name.specs.Alike.{is_within}
+use Rattle.rpz_program.specs.ExactRules.{is_asterisk, is_reserved, is_exact_name, is_exact_owner}
 
 -- the first label and the last of so many
 pub exact_name_is : (owner : List (List ℕ)) (count : ℕ) (first last : List ℕ) (rest rest' : List (List ℕ)) → 0 < count → count ≤ length owner → owner ≡ first ∷ rest → drop (count - 1) owner ≡ last ∷ rest'
@@ -25,4 +26,4 @@ unfolding is_exact_owner is_exact_name
 not_longer origin owner le =
     let zero : length owner - length origin ≡ 0 = omega arith in
     let none : take (length owner - length origin) owner ≡ [] = ap (λ (n : ℕ). take n owner) zero in
-    ap (λ (labels : List (List ℕ)). is_below origin owner && is_exact_name labels) none ∙ and-false (is_below origin owner)
+    ap (λ (labels : List (List ℕ)). is_within owner origin && is_exact_name labels) none ∙ and-false (is_within owner origin)

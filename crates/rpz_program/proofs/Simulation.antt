@@ -11,10 +11,10 @@ use Rattle.script_codec.specs.declared.why.Why as line_why
 use Rattle.script_codec.specs.Line.{unnumbered_line}
 use Rattle.script_codec.specs.State.{with_zone, with_other}
 use Rattle.dns_message.specs.Request.{incoming_of}
-use Rattle.rpz_program.specs.declared.transfer.Transfer as transfer
 use Rattle.rpz_program.specs.Abstraction.{along}
 use Rattle.rpz_program.specs.Answer.{answered}
-use Rattle.rpz_program.specs.CoreSteps.{Kept, kept_of, none_kept, kept_stood, kept_opens, takes, kept_step, core_step}
+use Rattle.rpz_program.specs.CoreSteps.{Kept, kept_of, none_kept, kept_stood, kept_opens, kept_takes, kept_step, core_step}
+use Rattle.rpz_program.specs.Offer.{Offer, takes, stays}
 use Rattle.rpz_program.specs.Policy.{Policy, Entry, entry_taken, policy_after, unloaded}
 use Rattle.rpz_program.specs.World.{World, start, policy_of, stood, opens, accepts, says, offered, taken, told, stepped, step, world_step}
 
@@ -53,10 +53,11 @@ first_zone w origin =
     let none : map unloaded (w.script.origins ++ origin ∷ []) ≡ unloaded origin ∷ [] = ap (λ (os : List (List (List ℕ))). map unloaded (os ++ origin ∷ [])) (none_open w.script.origins t) in
     ap (opening (with_zone w.script origin)) (sym (policy_after-none (w.script.origins ++ origin ∷ []) ∙ none)))
 
-taken_seen : (w : World) (number : ℕ) (t : Option transfer.Transfer) → takes (kept_of w) number t ≡ seen (accepts w number t)
+taken_seen : (w : World) (number : ℕ) (offer : Option Offer) → kept_takes (kept_of w) number offer ≡ seen (accepts w number offer)
 taken_seen w number None = refl
-taken_seen w number (Some t) =
-    ap (λ (p : Policy). Some (record { script = with_other w.script; policy = p }, taken p number)) (sym (policy_after-push w.script.origins w.accepted (record { zone = number; transfer = t })))
+taken_seen w number (Some (stays output)) = refl
+taken_seen w number (Some (takes transfer)) =
+    ap (λ (p : Policy). Some (record { script = with_other w.script; policy = p }, taken p number)) (sym (policy_after-push w.script.origins w.accepted (record { zone = number; transfer = transfer })))
 
 said_seen : (w : World) (output : Option Output) → says (kept_stood (kept_of w)) output ≡ seen (says (stood w) output)
 said_seen w None = refl

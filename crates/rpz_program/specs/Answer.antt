@@ -13,11 +13,13 @@ use Rattle.dns_message.specs.declared.request.Query.{Query}
 use Rattle.dns_message.specs.Spelling.{spelled}
 use Rattle.script_codec.specs.declared.output.Output.{Output}
 use Rattle.script_codec.specs.declared.output.Output.TheVariants.{Reply, Silent}
-use Rattle.rpz_program.specs.declared.row.Row.{Row}
-use Rattle.rpz_program.specs.Policy.{Policy, Zone, Content}
+use Rattle.zone_rows.specs.declared.zone.Content.{Content}
+use Rattle.zone_rows.specs.declared.zone.PlainZone.{PlainZone}
+use Rattle.zone_rows.specs.Row.{PlainRow}
+use Rattle.rpz_program.specs.Policy.{Policy}
 
 -- the row's owner, in small letters, is the name followed by the zone's origin
-abbrev pub is_named_by : List (List ℕ) → List (List ℕ) → Row → Bool
+abbrev pub is_named_by : List (List ℕ) → List (List ℕ) → PlainRow → Bool
 is_named_by origin name row = bytes_eq (name_octets (lowered (name ++ origin))) (name_octets row.owner)
 
 abbrev pub content_names : List (List ℕ) → List (List ℕ) → Option Content → Bool
@@ -25,11 +27,11 @@ content_names origin name None = false
 content_names origin name (Some content) = list_any (is_named_by origin name) content.rows
 
 -- some row of the zone names the name
-abbrev pub zone_names : List (List ℕ) → Zone → Bool
+abbrev pub zone_names : List (List ℕ) → PlainZone → Bool
 zone_names name zone = content_names zone.origin name zone.content
 
 -- the first zone that names the name
-abbrev pub hit : Policy → List (List ℕ) → Option Zone
+abbrev pub hit : Policy → List (List ℕ) → Option PlainZone
 hit policy name = find (zone_names name) policy
 
 -- a response with rcode 3, that keeps the identifier and RD of the query
@@ -51,7 +53,7 @@ abbrev pub reply_with : Query → List (List ℕ) → Option Content → Option 
 reply_with query origin None = None
 reply_with query origin (Some content) = Some (spelled (name_error query origin content))
 
-abbrev pub reply_by : Query → Option Zone → Option (List ℕ)
+abbrev pub reply_by : Query → Option PlainZone → Option (List ℕ)
 reply_by query None = None
 reply_by query (Some zone) = reply_with query zone.origin zone.content
 

@@ -3,9 +3,9 @@ pub mod Reader
 pub mod Fold
 pub mod Abstraction
 pub mod Replay
-pub mod NameSet
 pub mod Policy
-pub mod Reading
+pub mod ExactRules
+pub mod Offer
 pub mod Answer
 pub mod World
 pub mod Indexed

@@ -11,14 +11,14 @@ use Rattle.script_codec.specs.Line.{unnumbered_line}
 use Rattle.script_codec.specs.Output.{output_line}
 use Rattle.script_codec.specs.State.{new_state, with_zone, with_other}
 use Rattle.dns_message.specs.Request.{incoming_of}
-use Rattle.rpz_program.specs.declared.transfer.Transfer as transfer
+use Rattle.zone_rows.specs.declared.zone.Content.{Content}
+use Rattle.zone_rows.specs.declared.zone.PlainZone.{PlainZone}
 use Rattle.rpz_program.specs.declared.why.Why.{Why}
 use Rattle.rpz_program.specs.declared.why.Why.TheVariants as why
 use Rattle.rpz_program.specs.Answer.{answered}
 use Rattle.rpz_program.specs.Fold as fold
-use Rattle.rpz_program.specs.Policy as plain
-use Rattle.rpz_program.specs.Policy.{Policy, Content, Entry, zone_at, policy_after}
-use Rattle.rpz_program.specs.Reading.{transfer_in}
+use Rattle.rpz_program.specs.Offer.{Offer, takes, stays, offered_to}
+use Rattle.rpz_program.specs.Policy.{Policy, Entry, zone_at, policy_after}
 
 -- what lines depend on, such as the origins of the zones that were opened, and the accepted transfers, in order
 pub record World : Type 0 where
@@ -31,19 +31,15 @@ start = record { script = new_state; accepted = [] }
 abbrev pub policy_of : World → Policy
 policy_of world = policy_after world.script.origins world.accepted
 
-abbrev pub offered_to : Option plain.Zone → List ℕ → Option transfer.Transfer
-offered_to None stream = None
-offered_to (Some zone) stream = if is_some zone.content then None else transfer_in zone.origin stream
-
--- the transfer that a stream is for a zone that isn't loaded
-abbrev pub offered : Policy → ℕ → List ℕ → Option transfer.Transfer
-offered policy number stream = offered_to (zone_at policy number) stream
+-- what the zone of a number does with a stream that comes as its transfer
+abbrev pub offered : Policy → ℕ → List ℕ → Option Offer
+offered policy number stream = offered_to number (zone_at policy number) stream
 
 abbrev pub taken_content : ℕ → Option Content → Option Output
 taken_content number None = None
 taken_content number (Some content) = Some (Taken number content.soa.serial (length content.rows))
 
-abbrev pub taken_zone : ℕ → Option plain.Zone → Option Output
+abbrev pub taken_zone : ℕ → Option PlainZone → Option Output
 taken_zone number None = None
 taken_zone number (Some zone) = taken_content number zone.content
 
@@ -59,17 +55,19 @@ stood world = record { script = with_other world.script; accepted = world.accept
 abbrev pub opens : World → List (List ℕ) → Option (World × Option Output)
 opens world origin = if length world.script.origins == 0 then Some (record { script = with_zone world.script origin; accepted = [] }, None) else None
 
-abbrev pub accepts : World → ℕ → Option transfer.Transfer → Option (World × Option Output)
+-- A transfer that is taken is one entry more. Any other stream changes nothing.
+abbrev pub accepts : World → ℕ → Option Offer → Option (World × Option Output)
 accepts world number None = None
-accepts world number (Some t) =
-    let next : World = record { script = with_other world.script; accepted = world.accepted ++ record { zone = number; transfer = t } ∷ [] } in
+accepts world number (Some (stays output)) = Some (stood world, Some output)
+accepts world number (Some (takes transfer)) =
+    let next : World = record { script = with_other world.script; accepted = world.accepted ++ record { zone = number; transfer = transfer } ∷ [] } in
     Some (next, taken (policy_of next) number)
 
 abbrev pub says : {W : Type 0} → W → Option Output → Option (W × Option Output)
 says world None = None
 says world (Some output) = Some (world, Some output)
 
--- The world after a line, and what the line outputs; nothing where it isn't built yet. A transfer is taken by a zone that isn't loaded; a query is answered by the policy after the transfers accepted so far. Nothing is asked of servers yet, so no worker waits. Neither `full` nor `clock` changes anything yet.
+-- The world after a line, and what the line outputs; nothing where it isn't built yet. A stream is a transfer that is taken, or names its fault and changes nothing; a query is answered by the policy after the transfers accepted so far. Nothing is asked of servers yet, so no worker waits. Neither `full` nor `clock` changes anything yet.
 unfoldable pub world_step : World → Line → Option (World × Option Output)
 world_step world (Zone origin) = opens world origin
 world_step world (Transfer number stream) = accepts world number (offered (policy_of world) number stream)

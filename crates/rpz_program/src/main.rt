@@ -1,19 +1,16 @@
 //! `rpz`: answers the queries of a script by a response policy zone (draft-vixie-dnsop-dns-rpz).
 #![tactic(auto)]
 
-mod name_set;
+mod exact_rules;
 mod policy_core;
 mod policy_zone;
 mod reader;
-mod row;
-mod rows;
 mod run;
 mod script;
 mod status;
 #[cfg(test)]
 mod tests;
-mod transfer;
-mod transfer_reading;
+mod transfer_bytes;
 mod why;
 
 use crate::run::run;

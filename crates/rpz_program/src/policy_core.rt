@@ -3,19 +3,23 @@
 ghost use Rattle.std.specs.Prelude.{◌≡◌, Some, IfOk};
 ghost use Rattle.dns_message.specs.Request.{incoming_of};
 ghost use Rattle.rpz_program.specs.Answer.{answered, reply_about};
-ghost use Rattle.rpz_program.specs.CoreSteps.{CoreSteps, kept_opens, kept_step, kept_stood, none_kept, takes, zone_reply, zone_takes};
-ghost use Rattle.rpz_program.specs.World.{offered, offered_to, says};
+ghost use Rattle.rpz_program.specs.CoreSteps.{CoreSteps, kept_opens, kept_step, kept_stood, kept_takes, none_kept, zone_reply, zone_takes};
+ghost use Rattle.rpz_program.specs.Offer.{by_applied, offered_to};
+ghost use Rattle.rpz_program.specs.World.{offered, says};
+ghost use Rattle.zone_rows.specs.Zone.{applied};
 
 use crate::policy_zone::PolicyZone;
 use crate::script::{AnswerError, Machine};
-use crate::transfer_reading::read_transfer;
+use crate::transfer_bytes::read_stream;
 use crate::why::Why;
+use axfr_apply::{Taken, TransferError};
 use dns_message::{Incoming, Query, classify, write_message};
 use dns_name::{Name, Octets};
 use ip_prefix::{Addr, Transport};
-use script_codec::{Line, Output, ReadError, ScriptState, read_unnumbered, write_output};
+use script_codec::{Line, Output, ReadError, Refusal, ScriptState, read_unnumbered, write_output};
 use std::alloc::{AllocError, Global};
 use std::marker::Model;
+use zone_rows::{ApplyError, Transfer};
 
 /// The zone of a script, once it is opened, and what is kept from line to line. Contracts see a policy of
 /// at most one zone.
@@ -101,7 +105,7 @@ impl Core {
     {
         match line {
             Line::Zone { origin } => self.open(origin),
-            Line::Transfer { zone, stream } => self.take(alloc, zone, stream.as_slice()),
+            Line::Transfer { zone, stream } => self.take(alloc, zone, stream),
             Line::Query {
                 worker,
                 transport,
@@ -128,18 +132,18 @@ impl Core {
         Ok(None)
     }
 
-    // Takes a transfer, where the zone of this number isn't loaded.
+    // Offers a stream to the zone of this number.
     fn take(
         &mut self,
         alloc: Global,
         number: u32,
-        stream: &[u8],
+        stream: Octets,
     ) -> Result<Option<Output>, AnswerError<Why>>
-        ensures { CoreSteps (takes self.old number (offered self.old.policy number stream.now)) result self.new }
+        ensures { CoreSteps (kept_takes self.old number (offered self.old.policy number stream)) result self.new }
     {
         self.script.other_line();
         match &mut self.zone {
-            Some(zone) if number == 1 => take_into(alloc, zone, stream),
+            Some(zone) if number == 1 => offer_stream(alloc, zone, stream),
             _ => Err(AnswerError::Refused(Why::Unbuilt)),
         }
     }
@@ -196,22 +200,51 @@ impl Core {
     }
 }
 
-// Takes a transfer into the zone, where it isn't loaded.
-fn take_into(
+// Offers a stream to the first zone, which takes the transfer that it is, or says why it stays as it is.
+fn offer_stream(
     alloc: Global,
     zone: &mut PolicyZone,
-    stream: &[u8],
+    stream: Octets,
 ) -> Result<Option<Output>, AnswerError<Why>>
-    ensures { CoreSteps (zone_takes zone.old (offered_to (Some zone.old) stream.now)) result zone.new }
+    ensures { CoreSteps (zone_takes zone.old (offered_to 1 (Some zone.old) stream)) result zone.new }
 {
-    if zone.is_loaded() {
-        return Err(AnswerError::Refused(Why::Unbuilt));
+    match read_stream(alloc, stream, zone.origin(), zone.serial()) {
+        Ok(Taken::Current { theirs }) => Ok(Some(Output::Current {
+            zone: 1,
+            serial: theirs,
+        })),
+        Ok(Taken::New(transfer)) => take_transfer(alloc, zone, transfer),
+        Err(TransferError::Fault(fault)) => Ok(Some(Output::Refused {
+            zone: 1,
+            why: Refusal::Transfer(fault),
+        })),
+        Err(TransferError::OutOfMemory) => Err(AnswerError::OutOfMemory),
     }
-    let Some(transfer) = read_transfer(alloc, zone.origin(), stream)? else {
-        return Err(AnswerError::Refused(Why::Unbuilt));
-    };
-    zone.load(alloc, transfer)?;
-    Ok(zone.taken(1))
+}
+
+// Takes a transfer into the first zone, where its rows are built.
+fn take_transfer(
+    alloc: Global,
+    zone: &mut PolicyZone,
+    transfer: Transfer,
+) -> Result<Option<Output>, AnswerError<Why>>
+    ensures { CoreSteps (zone_takes zone.old (by_applied 1 transfer (applied zone.old transfer))) result zone.new }
+{
+    match zone.after(alloc, transfer) {
+        Ok(next) => {
+            if next.is_built() {
+                *zone = next;
+                Ok(zone.taken(1))
+            } else {
+                Err(AnswerError::Refused(Why::Unbuilt))
+            }
+        }
+        Err(ApplyError::Fault(fault)) => Ok(Some(Output::Refused {
+            zone: 1,
+            why: Refusal::Apply(fault),
+        })),
+        Err(ApplyError::OutOfMemory) => Err(AnswerError::OutOfMemory),
+    }
 }
 
 // The reply of a zone to a query, where it names the name.

@@ -1,53 +1,51 @@
 //! A policy zone with an index of the names that its rows name.
 
-ghost use Rattle.std.specs.Prelude.{◌≡◌, [], ◌∷◌, ◌++◌, Some, None, IfOk, OnOk, OnErr, is_some};
+ghost use Rattle.std.specs.Prelude.{◌≡◌, [], ◌∷◌, ◌++◌, Some, None, option_copied, IfOk};
 ghost use Rattle.dns_name.specs.Labels.{name_octets, lowered};
 ghost use Rattle.dns_message.specs.Spelling.{parts_octets};
+ghost use Rattle.zone_rows.specs.Zone.{Gives, applied};
 ghost use Rattle.rpz_program.specs.Answer.{name_error_header, reply_with, zone_names};
-ghost use Rattle.rpz_program.specs.Indexed.{Agrees, AreKeysOf, content_of, owner_key};
-ghost use Rattle.rpz_program.specs.Policy.{identity as row_identity, without_repeats, zone_after, unloaded};
+ghost use Rattle.rpz_program.specs.Indexed.{AreOwners, HasIndex};
+ghost use Rattle.rpz_program.specs.Offer as offer;
+ghost use Rattle.rpz_program.specs.Policy.{unloaded};
 ghost use Rattle.rpz_program.specs.World.{taken_content};
 
-use crate::name_set::NameSet;
-use crate::row::Row;
-use crate::rows::Rows;
-use crate::transfer::Transfer;
+use crate::exact_rules::are_rules;
 use dns_message::{Header, Query, write_parts};
 use dns_name::{Name, Octets};
-use dns_record::number::push_u16;
-use dns_record::{Record, Soa};
+use dns_record::Record;
 use script_codec::Output;
 use std::alloc::{AllocError, Global};
 use std::marker::Model;
 use std::slice;
+use zone_rows::{ApplyError, Content, KeySet, PlainZone, Row, Transfer};
 
 /// A policy zone: its origin, and what it holds once a transfer was taken. Contracts see these, and not
 /// the index.
 #[derive(Drop)]
 pub struct PolicyZone {
-    origin: Name,
-    content: Option<IndexedContent>,
+    zone: PlainZone,
+    // `None` where nothing is loaded.
+    index: Option<Index>,
 }
 
-/// What a loaded zone holds.
+/// The index of a loaded zone.
 #[derive(Drop)]
-pub struct IndexedContent {
-    soa: Soa,
-    rows: Rows,
+pub struct Index {
     // The SOA record with the zone's origin as owner, as a reply has it.
     soa_record: Record,
     // The owners of the rows, as they are written.
-    owners: NameSet,
+    owners: KeySet,
 }
 
 impl Model for PolicyZone {
-    ghost use Rattle.rpz_program.specs.Policy.{Zone};
+    ghost use Rattle.zone_rows.specs.declared.zone.PlainZone.{PlainZone};
 
-    ghost Value = { Zone };
+    ghost Value = { PlainZone };
 
-    ghost use Rattle.rpz_program.specs.Indexed.{zone_of, IsIndexed};
+    ghost use Rattle.rpz_program.specs.Indexed.{IsIndexed};
 
-    ghost view = { zone_of };
+    ghost view = { λ z. z.zone };
 
     ghost invariant = { IsIndexed };
 }
@@ -58,8 +56,11 @@ impl PolicyZone {
         ensures { result ≡ unloaded origin }
     {
         PolicyZone {
-            origin,
-            content: None,
+            zone: PlainZone {
+                origin,
+                content: None,
+            },
+            index: None,
         }
     }
 
@@ -67,26 +68,36 @@ impl PolicyZone {
     pub fn origin(&self) -> &Name
         ensures { result.now ≡ self.now.origin }
     {
-        &self.origin
+        &self.zone.origin
     }
 
-    /// Whether a transfer was taken.
-    pub fn is_loaded(&self) -> bool
-        ensures { result ≡ is_some self.now.content }
+    /// The serial of what is loaded, if anything is.
+    pub fn serial(&self) -> Option<u32>
+        ensures { result ≡ offer.serial_of self.now.content }
     {
-        self.content.is_some()
+        match &self.zone.content {
+            None => None,
+            Some(content) => Some(content.soa.serial),
+        }
     }
 
-    /// Takes a transfer in place of what the zone holds. Rows that come again are left out. An `Err`
-    /// leaves the zone as it was.
-    pub fn load(&mut self, alloc: Global, transfer: Transfer) -> Result<(), AllocError>
-        ensures ok { OnOk result (self.new ≡ zone_after self.old transfer) }
-        ensures err { OnErr result (self.new ≡ self.old) }
+    /// The zone after a transfer, with an index of its own, or why it can't take it.
+    pub fn after(&self, alloc: Global, transfer: Transfer) -> Result<PolicyZone, ApplyError>
+        ensures { Gives result (applied self.now transfer) }
     {
-        let Transfer::Whole { soa, rows } = transfer;
-        let content = indexed(alloc, &self.origin, soa, rows)?;
-        self.content = Some(content);
-        Ok(())
+        let zone = self.zone.apply(alloc, transfer)?;
+        let index = index_of(alloc, &zone.origin, zone.content.as_ref())?;
+        Ok(PolicyZone { zone, index })
+    }
+
+    /// Whether each of its rows makes one name not exist.
+    pub fn is_built(&self) -> bool
+        ensures { result ≡ offer.is_built self.now }
+    {
+        match &self.zone.content {
+            None => true,
+            Some(content) => are_rules(&self.zone.origin, content.rows.as_slice()),
+        }
     }
 
     /// What is said of a transfer that was taken: the number of the zone, its serial, and how many rows
@@ -94,7 +105,7 @@ impl PolicyZone {
     pub fn taken(&self, number: u32) -> Option<Output>
         ensures { result ≡ taken_content number self.now.content }
     {
-        match &self.content {
+        match &self.zone.content {
             None => None,
             Some(content) => Some(Output::Taken {
                 zone: number,
@@ -109,11 +120,11 @@ impl PolicyZone {
     pub fn names(&self, alloc: Global, name: &Name) -> Result<bool, AllocError>
         ensures { IfOk result (λ named. named ≡ zone_names name.now self.now) }
     {
-        match &self.content {
+        match &self.index {
             None => Ok(false),
-            Some(content) => {
-                let owner = owner_octets(alloc, name, &self.origin)?;
-                Ok(content.owners.contains(&owner))
+            Some(index) => {
+                let owner = owner_octets(alloc, name, &self.zone.origin)?;
+                Ok(index.owners.contains(&owner))
             }
         }
     }
@@ -122,54 +133,40 @@ impl PolicyZone {
     pub fn name_error(&self, alloc: Global, query: &Query) -> Result<Option<Octets>, AllocError>
         ensures { IfOk result (λ reply. reply ≡ reply_with query.now self.now.origin self.now.content) }
     {
-        match &self.content {
+        match &self.index {
             None => Ok(None),
-            Some(content) => Ok(Some(name_error(alloc, query, &content.soa_record)?)),
+            Some(index) => Ok(Some(name_error(alloc, query, &index.soa_record)?)),
         }
     }
 }
 
-// What a zone holds after a transfer, with its index.
-fn indexed(alloc: Global, origin: &Name, soa: Soa, rows: Rows) -> Result<IndexedContent, AllocError>
-    ensures content { IfOk result (λ content. content_of content ≡ record { soa = soa; rows = without_repeats rows }) }
-    ensures agrees { IfOk result (Agrees origin.now) }
+// The index of what a zone holds.
+fn index_of(
+    alloc: Global,
+    origin: &Name,
+    content: Option<&Content>,
+) -> Result<Option<Index>, AllocError>
+    ensures { IfOk result (HasIndex origin.now (option_copied content.entry)) }
 {
-    let soa_record = soa.record(alloc, origin.clone()?)?;
-    let (rows, owners) = distinct(alloc, rows)?;
-    Ok(IndexedContent {
-        soa,
-        rows,
-        soa_record,
-        owners,
-    })
-}
-
-// The rows with repeats taken out, and the set of their owners.
-fn distinct(alloc: Global, rows: Rows) -> Result<(Rows, NameSet), AllocError>
-    ensures rows { IfOk result (λ x. x.0 ≡ without_repeats rows) }
-    ensures owners { IfOk result (λ x. AreKeysOf owner_key x.1 x.0) }
-{
-    let mut kept = Rows::new(alloc);
-    let mut seen = NameSet::new(alloc);
-    let mut owners = NameSet::new(alloc);
-    for row in rows.into_vec() {
-        if seen.insert(identity(alloc, &row)?)? {
-            owners.insert(Vec::from_slice(alloc, row.owner.octets())?)?;
-            kept.push(row)?;
+    match content {
+        None => Ok(None),
+        Some(content) => {
+            let soa_record = content.soa.record(alloc, origin.clone()?)?;
+            let owners = owners_of(alloc, content.rows.as_slice())?;
+            Ok(Some(Index { soa_record, owners }))
         }
     }
-    Ok((kept, owners))
 }
 
-// The identity of a row.
-#[tactic(auto, unfolding(crate::specs::Policy::identity))]
-fn identity(alloc: Global, row: &Row) -> Result<Vec<u8>, AllocError>
-    ensures { IfOk result (λ key. key.items ≡ row_identity row.now) }
+// The owners of rows, as they are written.
+fn owners_of(alloc: Global, rows: &[Row]) -> Result<KeySet, AllocError>
+    ensures { IfOk result (λ owners. AreOwners owners rows.now) }
 {
-    let mut key = Octets::from_slice(alloc, row.owner.octets())?;
-    push_u16(&mut key, row.rtype)?;
-    key.append(row.rdata.as_slice())?;
-    Ok(key.into_vec())
+    let mut owners = KeySet::new(alloc);
+    for row in rows {
+        let _new = owners.insert(Vec::from_slice(alloc, row.owner().octets())?)?;
+    }
+    Ok(owners)
 }
 
 // The owner of a row that names the name, as it is written.

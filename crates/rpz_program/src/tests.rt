@@ -21,6 +21,10 @@ const QUERY: &str =
 const REPLY: &str =
     "reply 0 12348183000100000000000103424144076578616d706c6500000100010372707a076578616d706c6500000600010000003c001600000000000100000e1000000258000151800000003c\n";
 
+// A transfer without its last 10 bytes
+const OTHER_TRANSFER: &str =
+    "xfer 1 009b0000840000010003000000000372707a076578616d706c650000fc00010372707a076578616d706c6500000600010000003c001600000000000100000e1000000258000151800000003c03626164076578616d706c650372707a076578616d706c6500000500010000003c0001000372707a076578616d706c6500000600010000003c001600000000000100000e100000\n";
+
 const OTHER_QUERY: &str =
     "query 0 udp 192.0.2.7 123401000001000000000000056f74686572076578616d706c650000010001\n";
 
@@ -111,7 +115,21 @@ fn scripts_are_answered(rt: HostRuntime) -> Result<(), Fail> {
         ([ZONE, "zone other\n", "", ""], MANY_2, ["", "", ""]),
         (["clock 5\n", ZONE, "", ""], LATE_2, ["", "", ""]),
         ([ZONE, QUERY, "", ""], UNBUILT_2, ["", "", ""]),
-        ([ZONE, TRANSFER, TRANSFER, ""], UNBUILT_3, [taken, "", ""]),
+        (
+            [ZONE, TRANSFER, TRANSFER, ""],
+            Status::Done,
+            [taken, "current 1 1\n", ""],
+        ),
+        (
+            [ZONE, TRANSFER, OTHER_TRANSFER, QUERY],
+            Status::Done,
+            [taken, "refused 1 Cut\n", REPLY],
+        ),
+        (
+            [ZONE, "xfer 1 -\n", TRANSFER, QUERY],
+            Status::Done,
+            ["refused 1 EndedEarly\n", taken, REPLY],
+        ),
         (
             [
                 "\n# a zone\n",
@@ -262,40 +280,117 @@ fn transfer(alloc: Global, records: &[&str]) -> Result<String, AllocError> {
     format!(in alloc; "xfer 1 {length:04x}{body}\n")
 }
 
-// Which streams are taken, and with how many rows.
+// What is said of a transfer of these records, or why it is refused.
+fn said_of(alloc: Global, records: &[&str]) -> Result<Result<Vec<u8>, Status>, AllocError> {
+    let stream = transfer(alloc, records)?;
+    let script = joined(alloc, &[ZONE, stream.as_str()])?;
+    Ok(replayed(alloc, script))
+}
+
+// Which streams are taken, and with how many rows, and how the others are refused.
 #[test]
-fn transfers_are_taken(rt: HostRuntime) -> Result<(), Fail> {
-    let alloc = rt.alloc();
-    let cases: [(&[&str], Option<&str>); 17] = [
-        (&[SOA, BAD, SOA], Some("taken 1 1 1\n")),
-        (&[SOA, SOA], Some("taken 1 1 0\n")),
-        (&[SOA, BAD, BAD_AGAIN, SOA], Some("taken 1 1 1\n")),
-        (&[SOA, RESERVED_FIRST, BAD, SOA], Some("taken 1 1 2\n")),
-        (&[SOA_2, SOA_2], Some("taken 1 2 0\n")),
-        (&[SOA, SOA_2], None),
-        (&[SOA], None),
-        (&[], None),
-        (&[SOA, BAD], None),
-        (&[SOA, ASTERISK, SOA], None),
-        (&[SOA, RESERVED, SOA], None),
-        (&[SOA, APEX, SOA], None),
-        (&[SOA, OUTSIDE, SOA], None),
-        (&[SOA, TO_A_NAME, SOA], None),
-        (&[SOA, CLASS_3, SOA], None),
-        (&[SOA_CLASS_3, SOA_CLASS_3], None),
-        (&[SOA, COMPRESSED, SOA], None),
+fn transfers_are_taken_or_refused(rt: HostRuntime) -> Result<(), Fail> {
+    let cases: [(&[&str], &str); 15] = [
+        (&[SOA, BAD, SOA], "taken 1 1 1\n"),
+        (&[SOA, SOA], "taken 1 1 0\n"),
+        (&[SOA, BAD, BAD_AGAIN, SOA], "taken 1 1 1\n"),
+        (&[SOA, RESERVED_FIRST, BAD, SOA], "taken 1 1 2\n"),
+        (&[SOA_2, SOA_2], "taken 1 2 0\n"),
+        (&[SOA, COMPRESSED, SOA], "taken 1 1 1\n"),
+        (&[SOA, SOA_2], "refused 1 SoaDiffers 1 2\n"),
+        (&[SOA], "refused 1 EndedEarly\n"),
+        (&[], "refused 1 EndedEarly\n"),
+        (&[SOA, BAD], "refused 1 EndedEarly\n"),
+        (&[BAD, SOA], "refused 1 NoLeadingSoa\n"),
+        (&[SOA, OUTSIDE, SOA], "refused 1 OutOfZone\n"),
+        (&[SOA, CLASS_3, SOA], "refused 1 WrongClass\n"),
+        (&[SOA_CLASS_3, SOA_CLASS_3], "refused 1 WrongClass\n"),
+        (&[SOA, SOA, BAD], "refused 1 TrailingRecord\n"),
     ];
-    for (records, out) in &cases {
-        let stream = transfer(alloc, records)?;
-        let got = replayed(alloc, joined(alloc, &[ZONE, stream.as_str()])?);
-        match out {
-            Some(text) => {
-                let got = got.ok().ok_or("a transcript")?;
-                assert_eq!(rt; got.as_slice(), text.as_bytes(), "{records:?}");
-            }
-            None => assert_eq!(rt; got.err(), Some(UNBUILT_2), "{records:?}"),
-        }
+    for (records, text) in &cases {
+        let got = said_of(rt.alloc(), records)?;
+        let got = got.ok().ok_or("a transcript")?;
+        assert_eq!(rt; got.as_slice(), text.as_bytes(), "{records:?}");
     }
+    Ok(())
+}
+
+// Rows that aren't built yet.
+#[test]
+fn other_rows_are_not_built(rt: HostRuntime) -> Result<(), Fail> {
+    let cases: [&[&str]; 4] = [
+        &[SOA, ASTERISK, SOA],
+        &[SOA, RESERVED, SOA],
+        &[SOA, APEX, SOA],
+        &[SOA, TO_A_NAME, SOA],
+    ];
+    for records in &cases {
+        let got = said_of(rt.alloc(), records)?;
+        assert_eq!(rt; got.err(), Some(UNBUILT_2), "{records:?}");
+    }
+    Ok(())
+}
+
+// The policy zone as NSD 4.6.1 sent it with the serial 3, its identifier set to 0: a real transfer, of 592 bytes.
+const AXFR_3: [&str; 19] = [
+    "024e0000840000010014000000000372707a076578616d706c650000fc0001c0",
+    "0c000600010000003c0026096c6f63616c686f73740004726f6f74c029000000",
+    "0300000e1000000258000151800000003cc00c000200010000003c0002c02903",
+    "626164076578616d706c65c00c000500010000003c000100012ac05d00050001",
+    "0000003c000100026f6bc05d000500010000003c000e0c72707a2d7061737374",
+    "68727500056c6f63616cc061000100010000003c0004c0000208c0a2001c0001",
+    "0000003c001020010db8000000000000000000000007c0a2001000010000003c",
+    "001211626c6f636b656420627920706f6c696379056d6f766564c06100050001",
+    "0000003c00090667617264656ec010012ac0f2000500010000003c0004012ac1",
+    "04036e6577c061000500010000003c000100066e6f64617461c0610005000100",
+    "00003c0003012a0003746370c061000500010000003c000e0c72707a2d746370",
+    "2d6f6e6c7900057468697264c061000500010000003c0002c143023234013001",
+    "320130033139320d72707a2d636c69656e742d6970c00c000500010000003c00",
+    "0100023332013501320130033139320672707a2d6970c00c000500010000003c",
+    "000100023438027a7a036462380432303031c1ad000500010000003c0002c143",
+    "026e7303626164076578616d706c650b72707a2d6e73646e616d65c00c000500",
+    "010000003c000100023332013901320130033139320872707a2d6e736970c00c",
+    "000500010000003c0002c094c00c000600010000003c0018c029c03400000003",
+    "00000e1000000258000151800000003c",
+];
+
+// A line with the first bytes of a stream, so many.
+fn push_cut(script: &mut Vec<u8>, stream: &[u8], bytes: usize) -> Result<(), AllocError> {
+    script.extend_from_slice(b"xfer 1 ")?;
+    let digits = bytes.saturating_mul(2).min(stream.len());
+    script.extend_from_slice(&stream[..digits])?;
+    script.extend_from_slice(b"\n")
+}
+
+// A loaded zone, each cut of a real transfer of a newer serial, and a query.
+fn script_of_cuts(alloc: Global, stream: &[u8]) -> Result<Vec<u8>, AllocError> {
+    let mut script = joined(alloc, &[ZONE, TRANSFER])?;
+    for bytes in 1..stream.len() / 2 {
+        push_cut(&mut script, stream, bytes)?;
+    }
+    script.extend_from_slice(QUERY.as_bytes())?;
+    Ok(script)
+}
+
+// What is written for it: no cut leaves a trace.
+fn answers_to_cuts(alloc: Global, cuts: usize) -> Result<Vec<u8>, AllocError> {
+    let mut out = joined(alloc, &["taken 1 1 1\n"])?;
+    for cut in 0..cuts {
+        out.extend_from_slice(b"refused 1 Cut\n")?;
+    }
+    out.extend_from_slice(REPLY.as_bytes())?;
+    Ok(out)
+}
+
+// However a transfer is cut, the zone stays as it was.
+#[test]
+fn half_a_transfer_is_never_seen(rt: HostRuntime) -> Result<(), Fail> {
+    let alloc = rt.alloc();
+    let stream = joined(alloc, &AXFR_3)?;
+    let script = script_of_cuts(alloc, stream.as_slice())?;
+    let got = replayed(alloc, script).ok().ok_or("a transcript")?;
+    let want = answers_to_cuts(alloc, 591)?;
+    assert_eq!(rt; got.as_slice(), want.as_slice());
     Ok(())
 }
 

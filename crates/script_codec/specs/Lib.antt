@@ -5,5 +5,6 @@ pub mod Field
 pub mod Names
 pub mod State
 pub mod Line
+pub mod Refusal
 pub mod Output
 pub mod Within

@@ -8,6 +8,7 @@ mod line_reading;
 mod names;
 mod output;
 mod output_text;
+mod refusal;
 mod state;
 #[cfg(test)]
 mod tests;
@@ -18,5 +19,6 @@ pub use line_reading::{read_line, read_unnumbered};
 pub use names::Names;
 pub use output::Output;
 pub use output_text::write_output;
+pub use refusal::Refusal;
 pub use state::{ScriptState, WORKERS};
 pub use why::{BadLine, LineError, ReadError, Why};

@@ -1,5 +1,6 @@
 //! What a line of a script outputs.
 
+use crate::refusal::Refusal;
 use dns_name::Octets;
 
 /// What a line of a script outputs.
@@ -9,6 +10,8 @@ pub enum Output {
     Taken { zone: u32, serial: u32, rows: usize },
     /// The zone of this number is as new as the transfer that came.
     Current { zone: u32, serial: u32 },
+    /// The zone of this number doesn't take the transfer that came, and is as before.
+    Refused { zone: u32, why: Refusal },
     /// What this worker asks a server.
     Ask { worker: u32, message: Octets },
     /// The reply to the query of this worker.

@@ -1,11 +1,13 @@
 //! The line that tells an output.
 
-ghost use Rattle.std.specs.Prelude.{◌≡◌, ◌++◌, IfOk, OnOk};
+ghost use Rattle.std.specs.Prelude.{◌≡◌, ◌++◌, IfOk, OnOk, string_bytes};
 ghost use Rattle.hex.specs.Hex.{encode_lower};
 ghost use Rattle.script_codec.specs.Output as output_form;
 ghost use Rattle.script_codec.specs.Output.{output_line};
+ghost use Rattle.script_codec.specs.Refusal as refusal_form;
 
 use crate::output::Output;
+use crate::refusal::Numbers;
 use dns_name::Octets;
 use std::alloc::{AllocError, Global};
 use std::fmt::Write;
@@ -22,6 +24,7 @@ pub fn write_output(alloc: Global, output: &Output) -> Result<Octets, AllocError
             format!(in alloc; "taken {zone} {serial} {rows}\n")?
         }
         Output::Current { zone, serial } => format!(in alloc; "current {zone} {serial}\n")?,
+        Output::Refused { zone, why } => { refused_line(alloc, *zone, why.word(), why.numbers())? }
         Output::Ask { worker, message } => {
             return message_line(alloc, "ask", *worker, message.as_slice());
         }
@@ -31,6 +34,24 @@ pub fn write_output(alloc: Global, output: &Output) -> Result<Octets, AllocError
         Output::Silent { worker } => format!(in alloc; "silent {worker}\n")?,
     };
     Ok(Octets::from_vec(line.into_bytes()))
+}
+
+// The line that tells a refusal of this word and these numbers.
+fn refused_line(
+    alloc: Global,
+    zone: u32,
+    word: &str,
+    numbers: Numbers,
+) -> Result<String, AllocError>
+    ensures { IfOk result (λ text. string_bytes text ≡ refusal_form.refused_line zone word.now numbers) }
+{
+    match numbers {
+        Numbers::Without => format!(in alloc; "refused {zone} {word}\n"),
+        Numbers::One(number) => format!(in alloc; "refused {zone} {word} {number}\n"),
+        Numbers::Two(first, second) => {
+            format!(in alloc; "refused {zone} {word} {first} {second}\n")
+        }
+    }
 }
 
 // A word, the number of a worker, and a message in lower-case digits, in one allocation.

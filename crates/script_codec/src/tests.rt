@@ -1,7 +1,9 @@
 use super::*;
+use axfr_apply::TransferFault;
 use dns_name::{Name, Octets};
 use std::alloc::AllocError;
 use std::test::Fail;
+use zone_rows::ApplyFault;
 
 // What a line says, with its bytes in hexadecimal digits.
 fn told(rt: &HostRuntime, line: &Line) -> Result<String, AllocError> {
@@ -283,6 +285,40 @@ fn outputs(rt: HostRuntime) -> Result<(), Fail> {
         (Output::Silent { worker: 9 }, b"silent 9\n"),
     ];
     for (output, expected) in cases {
+        assert_eq!(rt; written(&rt, output)?.as_slice(), expected);
+    }
+    Ok(())
+}
+
+#[test]
+fn refusals_are_told(rt: HostRuntime) -> Result<(), Fail> {
+    let cases = [
+        (
+            Refusal::Transfer(TransferFault::Cut),
+            b"refused 3 Cut\n".as_slice(),
+        ),
+        (
+            Refusal::Transfer(TransferFault::Rcode(5)),
+            b"refused 3 Rcode 5\n",
+        ),
+        (
+            Refusal::Transfer(TransferFault::SoaDiffers { first: 1, last: 2 }),
+            b"refused 3 SoaDiffers 1 2\n",
+        ),
+        (
+            Refusal::Apply(ApplyFault::SerialNotNewer {
+                ours: 0,
+                theirs: 2_147_483_648,
+            }),
+            b"refused 3 SerialNotNewer 0 2147483648\n",
+        ),
+        (
+            Refusal::Apply(ApplyFault::TooManyRows { at: 16_777_216 }),
+            b"refused 3 TooManyRows 16777216\n",
+        ),
+    ];
+    for (why, expected) in cases {
+        let output = Output::Refused { zone: 3, why };
         assert_eq!(rt; written(&rt, output)?.as_slice(), expected);
     }
     Ok(())

@@ -1,6 +1,6 @@
 use Rattle.std.proofs.Common.{sym, ◌≤◌, length, arith}
 use Rattle.rpz_program.proofs.Owners.{not_longer}
-use Rattle.rpz_program.proofs.transfer_reading.is_exact_owner.Goals as goal
+use Rattle.rpz_program.proofs.exact_rules.is_exact_owner.Goals as goal
 
 pub returns-then-labels-zone_labels : goal.returns-then-labels-zone_labels
 returns-then-labels-zone_labels c =

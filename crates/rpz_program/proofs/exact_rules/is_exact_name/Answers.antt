@@ -1,7 +1,7 @@
 use Rattle.std.proofs.Common.{◌≡◌, ◌∙◌, ◌∷◌, ◌-◌, ◌&&◌, [], drop, length, sym, ap, arith, false, not, length-drop}
-use Rattle.rpz_program.specs.Reading.{is_asterisk, is_reserved}
+use Rattle.rpz_program.specs.ExactRules.{is_asterisk, is_reserved}
 use Rattle.rpz_program.proofs.Owners.{exact_name_is}
-use Rattle.rpz_program.proofs.transfer_reading.is_exact_name.Goals as goal
+use Rattle.rpz_program.proofs.exact_rules.is_exact_name.Goals as goal
 
 pub returns-in_default-next_label : goal.returns-in_default-next_label
 returns-in_default-next_label c =
