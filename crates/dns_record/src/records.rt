@@ -1,6 +1,6 @@
 //! A list of records.
 
-ghost use Rattle.std.specs.Prelude.{◌≡◌, List, [], ◌∷◌, ◌++◌, length, OnOk, OnErr};
+ghost use Rattle.std.specs.Prelude.{◌≡◌, List, [], ◌∷◌, ◌++◌, length, filter, ◌==◌, OnOk, OnErr};
 
 use crate::record::Record;
 use std::alloc::{AllocError, Global};
@@ -53,4 +53,25 @@ impl Records {
         self.records.push(rr)?;
         Ok(())
     }
+
+    /// The records as a vector, which is not copied.
+    pub fn into_vec(self) -> Vec<Record>
+        ensures { result.items ≡ self }
+    {
+        self.records
+    }
+
+    /// Keeps the records of a class, in their order, and drops the others.
+    pub fn retain_class(&mut self, class: u16)
+        ensures { self.new ≡ filter (λ r. r.class == class) self.old }
+    {
+        keep_class(&mut self.records, class);
+    }
+}
+
+// Keeps the records of a class.
+fn keep_class(records: &mut Vec<Record>, class: u16)
+    ensures { records.new.items ≡ filter (λ r. r.class == class) records.old.items }
+{
+    records.retain(|rr| rr.class() == class);
 }
