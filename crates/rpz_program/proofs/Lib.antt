@@ -2,8 +2,7 @@ pub mod Lines
 pub mod Folds
 pub mod Steps
 pub mod Abstraction
-pub mod Owners
-pub mod OwnerKeys
 pub mod Streams
+pub mod Turns
 pub mod Simulation
 pub mod RunSteps

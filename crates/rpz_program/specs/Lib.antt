@@ -4,11 +4,9 @@ pub mod Fold
 pub mod Abstraction
 pub mod Replay
 pub mod Policy
-pub mod ExactRules
 pub mod Offer
-pub mod Answer
+pub mod Desk
 pub mod World
-pub mod Indexed
 pub mod CoreSteps
 pub mod Run
 pub mod Status

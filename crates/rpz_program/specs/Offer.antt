@@ -1,10 +1,8 @@
 -- What a zone does with a stream that it is offered as a transfer.
-use Rattle.std.specs.Prelude.{ℕ, Bool, if◌then◌else◌, List, [], Option, Some, None, option_map, Result, Ok, Err}
+use Rattle.std.specs.Prelude.{ℕ, if◌then◌else◌, List, Option, Some, None, Result, Ok, Err}
 use Rattle.zone_rows.specs.declared.fault.ApplyFault.{ApplyFault}
 use Rattle.zone_rows.specs.declared.transfer.Transfer.{Transfer}
-use Rattle.zone_rows.specs.declared.zone.Content.{Content}
 use Rattle.zone_rows.specs.declared.zone.PlainZone.{PlainZone}
-use Rattle.zone_rows.specs.Row.{PlainRow}
 use Rattle.zone_rows.specs.Zone.{applied}
 use Rattle.axfr_apply.specs.declared.asked.Asked.{Asked}
 use Rattle.axfr_apply.specs.declared.taken.Taken.TheVariants as taken
@@ -13,20 +11,12 @@ use Rattle.axfr_apply.specs.Stream.{reading}
 use Rattle.script_codec.specs.declared.output.Output.{Output}
 use Rattle.script_codec.specs.declared.output.Output.TheVariants.{Current, Refused}
 use Rattle.script_codec.specs.declared.refusal.Refusal.TheVariants as refusal
-use Rattle.rpz_program.specs.ExactRules.{are_rules}
+use Rattle.query_session.specs.Policy.{content_serial, is_built}
 
 -- the zone takes a transfer, or stays as it is and this is said
 pub data Offer : Type 0 where
   takes : Transfer → Offer
   stays : Output → Offer
-
-abbrev pub content_rows : Option Content → List PlainRow
-content_rows None = []
-content_rows (Some content) = content.rows
-
--- the zone after it has rows that are built alone
-abbrev pub is_built : PlainZone → Bool
-is_built next = are_rules next.origin (content_rows next.content)
 
 -- what becomes of a transfer that was read, where it is built
 abbrev pub by_applied : ℕ → Transfer → Result PlainZone ApplyFault → Option Offer
@@ -38,12 +28,9 @@ by_outcome number zone (Ok (taken.Current theirs)) = Some (stays (Current number
 by_outcome number zone (Ok (taken.New transfer)) = by_applied number transfer (applied zone transfer)
 by_outcome number zone (Err fault) = Some (stays (Refused number (refusal.Transfer fault)))
 
-abbrev pub serial_of : Option Content → Option ℕ
-serial_of content = option_map (λ (c : Content). c.soa.serial) content
-
 -- what the zone asks for: all of it, in a request with the identifier 0
 abbrev pub asked_by : PlainZone → Asked
-asked_by zone = record { id = 0; origin = zone.origin; have = serial_of zone.content; most = 33554432 }
+asked_by zone = record { id = 0; origin = zone.origin; have = content_serial zone.content; most = 33554432 }
 
 -- what the zone of this number does with a stream; nothing where there is no such zone, or where it isn't built
 abbrev pub offered_to : ℕ → Option PlainZone → List ℕ → Option Offer

@@ -1,19 +1,17 @@
--- Plain policies, apart from any index: zones, each an origin with nothing loaded or with a SOA and rows, and what transfers do to them.
+-- Plain policies, apart from any index, and what transfers do to them.
 use Rattle.std.specs.Prelude.{ℕ, ◌-◌, ◌==◌, if◌then◌else◌, List, map, fold, Option, Some, None, Result, Ok, Err, slice_get, slice_set}
 use Rattle.zone_rows.specs.declared.fault.ApplyFault.{ApplyFault}
 use Rattle.zone_rows.specs.declared.transfer.Transfer.{Transfer}
 use Rattle.zone_rows.specs.declared.zone.PlainZone.{PlainZone}
 use Rattle.zone_rows.specs.Zone.{applied}
-
-abbrev pub Policy : Type 0
-Policy = List PlainZone
+use Rattle.query_session.specs.Policy.{PlainPolicy, unloaded}
 
 -- a transfer that was accepted, with the number of its zone; zones are numbered from 1
 pub record Entry : Type 0 where
   pub zone : ℕ
   pub transfer : Transfer
 
-abbrev pub zone_at : Policy → ℕ → Option PlainZone
+abbrev pub zone_at : PlainPolicy → ℕ → Option PlainZone
 zone_at policy number = if number == 0 then None else slice_get policy (number - 1)
 
 abbrev pub zone_by : PlainZone → Result PlainZone ApplyFault → PlainZone
@@ -24,17 +22,14 @@ zone_by zone (Err fault) = zone
 abbrev pub zone_after : PlainZone → Transfer → PlainZone
 zone_after zone transfer = zone_by zone (applied zone transfer)
 
-abbrev pub with_zone_after : Policy → Entry → Option PlainZone → Policy
+abbrev pub with_zone_after : PlainPolicy → Entry → Option PlainZone → PlainPolicy
 with_zone_after policy entry None = policy
 with_zone_after policy entry (Some zone) = slice_set policy (entry.zone - 1) (zone_after zone entry.transfer)
 
 -- the policy after one more transfer, which changes its zone alone
-abbrev pub entry_taken : Policy → Entry → Policy
+abbrev pub entry_taken : PlainPolicy → Entry → PlainPolicy
 entry_taken policy entry = with_zone_after policy entry (zone_at policy entry.zone)
 
-abbrev pub unloaded : List (List ℕ) → PlainZone
-unloaded origin = record { origin = origin; content = None }
-
 -- the policy after a list of accepted transfers, each whole, from zones with nothing loaded
-unfoldable pub policy_after : List (List (List ℕ)) → List Entry → Policy
+unfoldable pub policy_after : List (List (List ℕ)) → List Entry → PlainPolicy
 policy_after origins entries = fold entry_taken (map unloaded origins) entries

@@ -4,35 +4,43 @@ use Rattle.script_codec.specs.declared.line.Line.{Line}
 use Rattle.script_codec.specs.declared.line.Line.TheVariants.{Zone, Transfer, Full, Query, Give, Fail, Clock}
 use Rattle.script_codec.specs.declared.output.Output.{Output}
 use Rattle.script_codec.specs.declared.output.Output.TheVariants.{Taken}
-use Rattle.script_codec.specs.declared.state.ScriptState.{ScriptState}
 use Rattle.script_codec.specs.declared.why.Why as line_why
 use Rattle.script_codec.specs.declared.why.Why.TheVariants.{Lines, TooLong}
 use Rattle.script_codec.specs.Line.{unnumbered_line}
 use Rattle.script_codec.specs.Output.{output_line}
-use Rattle.script_codec.specs.State.{new_state, with_zone, with_other}
+use Rattle.script_codec.specs.State.{new_state, with_zone}
 use Rattle.dns_message.specs.Request.{incoming_of}
 use Rattle.zone_rows.specs.declared.zone.Content.{Content}
 use Rattle.zone_rows.specs.declared.zone.PlainZone.{PlainZone}
 use Rattle.rpz_program.specs.declared.why.Why.{Why}
 use Rattle.rpz_program.specs.declared.why.Why.TheVariants as why
-use Rattle.rpz_program.specs.Answer.{answered}
+use Rattle.query_session.specs.declared.fact.Fact.{Fact}
+use Rattle.query_session.specs.declared.fact.Fact.TheVariants.{Broken}
+use Rattle.query_session.specs.declared.fact.Why.TheVariants.{Failed}
+use Rattle.query_session.specs.Fact.{fact_from}
+use Rattle.query_session.specs.Policy.{PlainPolicy}
+use Rattle.rpz_program.specs.declared.waiting.Waiting.{Waiting}
+use Rattle.rpz_program.specs.Desk.{Desk, Turned, no_worker, desk_stood, takes_query, gets_fact}
 use Rattle.rpz_program.specs.Fold as fold
 use Rattle.rpz_program.specs.Offer.{Offer, takes, stays, offered_to}
-use Rattle.rpz_program.specs.Policy.{Policy, Entry, zone_at, policy_after}
+use Rattle.rpz_program.specs.Policy.{Entry, zone_at, policy_after}
 
--- what lines depend on, such as the origins of the zones that were opened, and the accepted transfers, in order
+-- what lines depend on, and the accepted transfers, in order
 pub record World : Type 0 where
-  pub script : ScriptState
+  pub desk : Desk
   pub accepted : List Entry
 
-abbrev pub start : World
-start = record { script = new_state; accepted = [] }
+abbrev pub new_desk : Desk
+new_desk = record { script = new_state; workers = no_worker; last_id = 0 }
 
-abbrev pub policy_of : World → Policy
-policy_of world = policy_after world.script.origins world.accepted
+abbrev pub start : World
+start = record { desk = new_desk; accepted = [] }
+
+abbrev pub policy_of : World → PlainPolicy
+policy_of world = policy_after world.desk.script.origins world.accepted
 
 -- what the zone of a number does with a stream that comes as its transfer
-abbrev pub offered : Policy → ℕ → List ℕ → Option Offer
+abbrev pub offered : PlainPolicy → ℕ → List ℕ → Option Offer
 offered policy number stream = offered_to number (zone_at policy number) stream
 
 abbrev pub taken_content : ℕ → Option Content → Option Output
@@ -44,37 +52,53 @@ taken_zone number None = None
 taken_zone number (Some zone) = taken_content number zone.content
 
 -- what is said of a transfer that was taken
-abbrev pub taken : Policy → ℕ → Option Output
+abbrev pub taken : PlainPolicy → ℕ → Option Output
 taken policy number = taken_zone number (zone_at policy number)
 
 -- a line stood that opens no zone
 abbrev pub stood : World → World
-stood world = record { script = with_other world.script; accepted = world.accepted }
+stood world = record { desk = desk_stood world.desk; accepted = world.accepted }
+
+abbrev pub opened_desk : Desk → List (List ℕ) → Desk
+opened_desk desk origin = record { script = with_zone desk.script origin; workers = desk.workers; last_id = desk.last_id }
 
 -- Opens the first zone. Nothing was accepted before.
 abbrev pub opens : World → List (List ℕ) → Option (World × Option Output)
-opens world origin = if length world.script.origins == 0 then Some (record { script = with_zone world.script origin; accepted = [] }, None) else None
+opens world origin = if length world.desk.script.origins == 0 then Some (record { desk = opened_desk world.desk origin; accepted = [] }, None) else None
 
 -- A transfer that is taken is one entry more. Any other stream changes nothing.
 abbrev pub accepts : World → ℕ → Option Offer → Option (World × Option Output)
 accepts world number None = None
 accepts world number (Some (stays output)) = Some (stood world, Some output)
 accepts world number (Some (takes transfer)) =
-    let next : World = record { script = with_other world.script; accepted = world.accepted ++ record { zone = number; transfer = transfer } ∷ [] } in
+    let next : World = record { desk = desk_stood world.desk; accepted = world.accepted ++ record { zone = number; transfer = transfer } ∷ [] } in
     Some (next, taken (policy_of next) number)
 
-abbrev pub says : {W : Type 0} → W → Option Output → Option (W × Option Output)
-says world None = None
-says world (Some output) = Some (world, Some output)
+abbrev pub does : World → Turned → Option (World × Option Output)
+does world turn = Some (record { desk = turn.desk; accepted = world.accepted }, Some turn.output)
 
--- The world after a line, and what the line outputs; nothing where it isn't built yet. A stream is a transfer that is taken, or names its fault and changes nothing; a query is answered by the policy after the transfers accepted so far. Nothing is asked of servers yet, so no worker waits. Neither `full` nor `clock` changes anything yet.
+abbrev pub may_do : World → Option Turned → Option (World × Option Output)
+may_do world None = None
+may_do world (Some turn) = does world turn
+
+-- nothing came to a worker that asked
+abbrev pub nothing_came : Waiting → Fact
+nothing_came waiting = Broken Failed
+
+-- these bytes came to a worker that asked
+abbrev pub came_for : List ℕ → Waiting → Fact
+came_for octets waiting = fact_from octets waiting.id waiting.question
+
+-- The world after a line, and what the line outputs; nothing where it isn't built yet. A stream is a transfer that is
+-- taken, or names its fault and changes nothing. A query is answered by the policy after the transfers accepted so
+-- far, which the worker keeps while it waits. Neither `full` nor `clock` changes anything yet.
 unfoldable pub world_step : World → Line → Option (World × Option Output)
 world_step world (Zone origin) = opens world origin
 world_step world (Transfer number stream) = accepts world number (offered (policy_of world) number stream)
 world_step world (Full number) = Some (stood world, None)
-world_step world (Query worker transport client message) = says (stood world) (answered (policy_of world) worker (incoming_of message client transport))
-world_step world (Give worker message) = None
-world_step world (Fail worker) = None
+world_step world (Query worker transport client message) = does world (takes_query world.desk (policy_of world) worker (incoming_of message client transport))
+world_step world (Give worker message) = may_do world (gets_fact (came_for message) world.desk worker)
+world_step world (Fail worker) = may_do world (gets_fact nothing_came world.desk worker)
 world_step world (Clock seconds) = Some (stood world, None)
 
 abbrev pub output_of : Option Output → List ℕ
@@ -93,7 +117,7 @@ stepped does world (Ok None) = Ok (world, [])
 stepped does world (Ok (Some line)) = told (does world line)
 
 abbrev pub step : World → List ℕ → Result (World × List ℕ) Why
-step world line = stepped world_step world (unnumbered_line line world.script)
+step world line = stepped world_step world (unnumbered_line line world.desk.script)
 
 -- why a line is refused whatever it says
 abbrev pub too_many : Why

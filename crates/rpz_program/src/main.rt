@@ -1,16 +1,19 @@
 //! `rpz`: answers the queries of a script by a response policy zone (draft-vixie-dnsop-dns-rpz).
 #![tactic(auto)]
 
-mod exact_rules;
+mod desk;
 mod policy_core;
-mod policy_zone;
 mod reader;
 mod run;
 mod script;
+#[cfg(test)]
+mod session_tests;
 mod status;
 #[cfg(test)]
 mod tests;
 mod transfer_bytes;
+mod transfers;
+mod waiting;
 mod why;
 
 use crate::run::run;

@@ -1,41 +1,37 @@
-//! The machine that answers the lines of a script: one policy zone, which is opened, loaded and asked.
+//! The machine that answers the lines of a script: a policy of one zone, and workers that answer by it.
 
-ghost use Rattle.std.specs.Prelude.{◌≡◌, Some, IfOk};
+ghost use Rattle.std.specs.Prelude.{◌≡◌, IfOk};
 ghost use Rattle.dns_message.specs.Request.{incoming_of};
-ghost use Rattle.rpz_program.specs.Answer.{answered, reply_about};
-ghost use Rattle.rpz_program.specs.CoreSteps.{CoreSteps, kept_opens, kept_step, kept_stood, kept_takes, none_kept, zone_reply, zone_takes};
-ghost use Rattle.rpz_program.specs.Offer.{by_applied, offered_to};
-ghost use Rattle.rpz_program.specs.World.{offered, says};
-ghost use Rattle.zone_rows.specs.Zone.{applied};
+ghost use Rattle.rpz_program.specs.CoreSteps.{CoreSteps, kept_does, kept_may_do, kept_opens, kept_step, none_kept, policy_takes, with_policy};
+ghost use Rattle.rpz_program.specs.Desk.{gets_fact, takes_query};
+ghost use Rattle.rpz_program.specs.World.{came_for, nothing_came, offered};
 
-use crate::policy_zone::PolicyZone;
+use crate::desk::Desk;
 use crate::script::{AnswerError, Machine};
-use crate::transfer_bytes::read_stream;
+use crate::transfers::offer_stream;
 use crate::why::Why;
-use axfr_apply::{Taken, TransferError};
-use dns_message::{Incoming, Query, classify, write_message};
 use dns_name::{Name, Octets};
 use ip_prefix::{Addr, Transport};
-use script_codec::{Line, Output, ReadError, Refusal, ScriptState, read_unnumbered, write_output};
+use query_session::{Policy, PolicyZone};
+use script_codec::{Line, Output, ReadError, read_unnumbered, write_output};
 use std::alloc::{AllocError, Global};
 use std::marker::Model;
-use zone_rows::{ApplyError, Transfer};
+use std::sync::Arc;
 
-/// The zone of a script, once it is opened, and what is kept from line to line. Contracts see a policy of
-/// at most one zone.
+/// The policy of a script, and what else is kept from line to line. Contracts see a policy of at most one zone.
+/// A worker that waits holds the policy that its query came under, which stays as it is when a transfer is taken.
 #[derive(Drop)]
 pub struct Core {
-    script: ScriptState,
-    zone: Option<PolicyZone>,
+    desk: Desk,
+    policy: Arc<Policy, Global>,
 }
 
 impl Model for Core {
-    ghost use Rattle.std.specs.Option.{option_to_list};
     ghost use Rattle.rpz_program.specs.CoreSteps.{Kept};
 
     ghost Value = { Kept };
 
-    ghost view = { λ c. record { script = c.script; policy = option_to_list c.zone } };
+    ghost view = { λ c. record { desk = c.desk; policy = c.policy.value } };
 }
 
 impl From<ReadError> for AnswerError<Why> {
@@ -77,7 +73,7 @@ impl Machine for Core {
         line: &[u8],
         reply: &mut Vec<u8>,
     ) -> Result<(), AnswerError<Why>> {
-        let Some(line) = read_unnumbered(alloc, line, &self.script)? else {
+        let Some(line) = read_unnumbered(alloc, line, self.desk.script())? else {
             return Ok(());
         };
         if let Some(output) = self.step(alloc, line)? {
@@ -88,14 +84,13 @@ impl Machine for Core {
 }
 
 impl Core {
-    /// No zone is opened.
-    pub fn new(alloc: Global) -> Self
-        ensures { result ≡ none_kept }
+    /// No zone is opened, and no worker waits.
+    pub fn new(alloc: Global) -> Result<Self, AllocError>
+        ensures { IfOk result (λ core. core ≡ none_kept) }
     {
-        Core {
-            script: ScriptState::new(alloc),
-            zone: None,
-        }
+        let desk = Desk::new(alloc)?;
+        let policy = Arc::new(alloc, Policy::none())?;
+        Ok(Core { desk, policy })
     }
 
     // What a line does, and what it outputs.
@@ -104,7 +99,7 @@ impl Core {
         ensures { CoreSteps (kept_step self.old line) result self.new }
     {
         match line {
-            Line::Zone { origin } => self.open(origin),
+            Line::Zone { origin } => self.open(alloc, origin),
             Line::Transfer { zone, stream } => self.take(alloc, zone, stream),
             Line::Query {
                 worker,
@@ -113,22 +108,24 @@ impl Core {
                 message,
             } => self.ask(alloc, worker, message.as_slice(), client, transport),
             Line::Full { .. } | Line::Clock { .. } => {
-                self.script.other_line();
+                self.desk.other_line();
                 Ok(None)
             }
-            Line::Give { .. } | Line::Fail { .. } => Err(AnswerError::Refused(Why::Unbuilt)),
+            Line::Give { worker, message } => self.give(alloc, worker, message),
+            Line::Fail { worker } => self.fail(alloc, worker),
         }
     }
 
     // Opens the zone, where none is opened.
-    fn open(&mut self, origin: Name) -> Result<Option<Output>, AnswerError<Why>>
+    fn open(&mut self, alloc: Global, origin: Name) -> Result<Option<Output>, AnswerError<Why>>
         ensures { CoreSteps (kept_opens self.old origin) result self.new }
     {
-        if self.script.origins.len() != 0 {
+        if self.desk.script().origins.len() != 0 {
             return Err(AnswerError::Refused(Why::Unbuilt));
         }
-        self.script.zone_opened(origin.clone()?)?;
-        self.zone = Some(PolicyZone::new(origin));
+        let policy = Arc::new(alloc, Policy::of(PolicyZone::new(origin.clone()?)))?;
+        self.desk.zone_opened(origin)?;
+        self.policy = policy;
         Ok(None)
     }
 
@@ -139,16 +136,13 @@ impl Core {
         number: u32,
         stream: Octets,
     ) -> Result<Option<Output>, AnswerError<Why>>
-        ensures { CoreSteps (kept_takes self.old number (offered self.old.policy number stream)) result self.new }
+        ensures { CoreSteps (with_policy self.old (policy_takes self.old.policy number (offered self.old.policy number stream))) result self.new }
     {
-        self.script.other_line();
-        match &mut self.zone {
-            Some(zone) if number == 1 => offer_stream(alloc, zone, stream),
-            _ => Err(AnswerError::Refused(Why::Unbuilt)),
-        }
+        self.desk.other_line();
+        offer_stream(alloc, &mut self.policy, number, stream)
     }
 
-    // Answers a message that came to a worker.
+    // A message came to a worker.
     fn ask(
         &mut self,
         alloc: Global,
@@ -157,102 +151,37 @@ impl Core {
         client: Addr,
         transport: Transport,
     ) -> Result<Option<Output>, AnswerError<Why>>
-        ensures { CoreSteps (says (kept_stood self.old) (answered self.old.policy worker (incoming_of message.now client transport))) result self.new }
+        ensures { CoreSteps (kept_does self.old (takes_query self.old.desk self.old.policy worker (incoming_of message.now client transport))) result self.new }
     {
-        self.script.other_line();
-        let incoming = classify(alloc, message, client, transport)?;
-        match self.answer_to(alloc, worker, incoming)? {
+        let policy = Arc::try_clone(&self.policy)?;
+        let output = self
+            .desk
+            .take_query(alloc, policy, worker, message, client, transport)?;
+        Ok(Some(output))
+    }
+
+    // These bytes came for what a worker asked.
+    fn give(
+        &mut self,
+        alloc: Global,
+        worker: u32,
+        message: Octets,
+    ) -> Result<Option<Output>, AnswerError<Why>>
+        ensures { CoreSteps (kept_may_do self.old (gets_fact (came_for message) self.old.desk worker)) result self.new }
+    {
+        match self.desk.take_answer(alloc, worker, message)? {
             None => Err(AnswerError::Refused(Why::Unbuilt)),
             Some(output) => Ok(Some(output)),
         }
     }
 
-    // What the worker says to what came, where it is built.
-    fn answer_to(
-        &self,
-        alloc: Global,
-        worker: u32,
-        incoming: Incoming,
-    ) -> Result<Option<Output>, AllocError>
-        ensures { IfOk result (λ output. output ≡ answered self.now.policy worker incoming) }
+    // Nothing came for what a worker asked.
+    fn fail(&mut self, alloc: Global, worker: u32) -> Result<Option<Output>, AnswerError<Why>>
+        ensures { CoreSteps (kept_may_do self.old (gets_fact nothing_came self.old.desk worker)) result self.new }
     {
-        match incoming {
-            Incoming::Silent => Ok(Some(Output::Silent { worker })),
-            Incoming::Refuse(message) => {
-                let message = write_message(alloc, &message, 65535)?;
-                Ok(Some(Output::Reply { worker, message }))
-            }
-            Incoming::Query(query) => match self.reply(alloc, &query)? {
-                None => Ok(None),
-                Some(message) => Ok(Some(Output::Reply { worker, message })),
-            },
+        match self.desk.take_failure(alloc, worker)? {
+            None => Err(AnswerError::Refused(Why::Unbuilt)),
+            Some(output) => Ok(Some(output)),
         }
     }
-
-    // The reply to a query, where the zone answers it.
-    fn reply(&self, alloc: Global, query: &Query) -> Result<Option<Octets>, AllocError>
-        ensures { IfOk result (λ reply. reply ≡ reply_about self.now.policy query.now) }
-    {
-        match &self.zone {
-            None => Ok(None),
-            Some(zone) => reply_of(alloc, zone, query),
-        }
-    }
-}
-
-// Offers a stream to the first zone, which takes the transfer that it is, or says why it stays as it is.
-fn offer_stream(
-    alloc: Global,
-    zone: &mut PolicyZone,
-    stream: Octets,
-) -> Result<Option<Output>, AnswerError<Why>>
-    ensures { CoreSteps (zone_takes zone.old (offered_to 1 (Some zone.old) stream)) result zone.new }
-{
-    match read_stream(alloc, stream, zone.origin(), zone.serial()) {
-        Ok(Taken::Current { theirs }) => Ok(Some(Output::Current {
-            zone: 1,
-            serial: theirs,
-        })),
-        Ok(Taken::New(transfer)) => take_transfer(alloc, zone, transfer),
-        Err(TransferError::Fault(fault)) => Ok(Some(Output::Refused {
-            zone: 1,
-            why: Refusal::Transfer(fault),
-        })),
-        Err(TransferError::OutOfMemory) => Err(AnswerError::OutOfMemory),
-    }
-}
-
-// Takes a transfer into the first zone, where its rows are built.
-fn take_transfer(
-    alloc: Global,
-    zone: &mut PolicyZone,
-    transfer: Transfer,
-) -> Result<Option<Output>, AnswerError<Why>>
-    ensures { CoreSteps (zone_takes zone.old (by_applied 1 transfer (applied zone.old transfer))) result zone.new }
-{
-    match zone.after(alloc, transfer) {
-        Ok(next) => {
-            if next.is_built() {
-                *zone = next;
-                Ok(zone.taken(1))
-            } else {
-                Err(AnswerError::Refused(Why::Unbuilt))
-            }
-        }
-        Err(ApplyError::Fault(fault)) => Ok(Some(Output::Refused {
-            zone: 1,
-            why: Refusal::Apply(fault),
-        })),
-        Err(ApplyError::OutOfMemory) => Err(AnswerError::OutOfMemory),
-    }
-}
-
-// The reply of a zone to a query, where it names the name.
-fn reply_of(alloc: Global, zone: &PolicyZone, query: &Query) -> Result<Option<Octets>, AllocError>
-    ensures { IfOk result (λ reply. reply ≡ zone_reply query.now zone.now) }
-{
-    if !zone.names(alloc, &query.question.name)? {
-        return Ok(None);
-    }
-    zone.name_error(alloc, query)
 }

@@ -81,8 +81,10 @@ fn replay_script<S: Source, K: Sink>(
     ensures prefix { Moved (S.left script.old) (S.left script.new) (K.held out.old) (K.held out.new) BeginsTranscript }
     ensures fault { IfErr result (λ stop. Blames stop (Rose (S.faults script.old) (S.faults script.new)) (Rose (K.faults out.old) (K.faults out.new))) }
 {
-    let mut core = Core::new(alloc);
-    replay(alloc, &mut core, script, out)
+    match Core::new(alloc) {
+        Ok(mut core) => replay(alloc, &mut core, script, out),
+        Err(_) => Err(Stop::OutOfMemory),
+    }
 }
 
 /// The transcript of a script in memory, if each of its lines is of the form.

@@ -7,7 +7,7 @@ ghost use Rattle.rpz_program.specs.Replay.{Steps, Moved, Answers, AnswersEnded, 
 
 use crate::reader::{LONGEST, LineReader, Next, ReadError};
 use edge_io::{Sink, Source, write_all};
-use std::alloc::{AllocError, Global};
+use std::alloc::{AllocError, AllocFailed, Global};
 
 /// A script has at most this many lines. Line 1 is the first.
 pub const LINES: u64 = 4_294_967_295;
@@ -25,6 +25,14 @@ impl<W> From<AllocError> for AnswerError<W> {
     ghost from_gives = { λ _ e. e ≡ NoMemory };
 
     fn from(_: AllocError) -> Self {
+        AnswerError::OutOfMemory
+    }
+}
+
+impl<W, T: Drop> From<AllocFailed<T>> for AnswerError<W> {
+    ghost from_gives = { λ _ e. e ≡ NoMemory };
+
+    fn from(_: AllocFailed<T>) -> Self {
         AnswerError::OutOfMemory
     }
 }

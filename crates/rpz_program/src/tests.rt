@@ -28,6 +28,16 @@ const OTHER_TRANSFER: &str =
 const OTHER_QUERY: &str =
     "query 0 udp 192.0.2.7 123401000001000000000000056f74686572076578616d706c650000010001\n";
 
+// What is asked where no row names the name
+const ASK: &str = "ask 0 00010100000100000000000003626164076578616d706c650000010001\n";
+
+const OTHER_ASK: &str = "ask 0 000101000001000000000000056f74686572076578616d706c650000010001\n";
+
+const BUSY_4: Status = Status::BadLine {
+    line: 4,
+    why: Why::Line(LineWhy::Busy),
+};
+
 const WORD_1: Status = Status::BadLine {
     line: 1,
     why: Why::Line(LineWhy::Word),
@@ -114,7 +124,7 @@ fn scripts_are_answered(rt: HostRuntime) -> Result<(), Fail> {
         ([ZONE, "give 0 00\n", "", ""], IDLE_2, ["", "", ""]),
         ([ZONE, "zone other\n", "", ""], MANY_2, ["", "", ""]),
         (["clock 5\n", ZONE, "", ""], LATE_2, ["", "", ""]),
-        ([ZONE, QUERY, "", ""], UNBUILT_2, ["", "", ""]),
+        ([ZONE, QUERY, "", ""], Status::Done, [ASK, "", ""]),
         (
             [ZONE, TRANSFER, TRANSFER, ""],
             Status::Done,
@@ -142,8 +152,8 @@ fn scripts_are_answered(rt: HostRuntime) -> Result<(), Fail> {
         ),
         (
             [ZONE, TRANSFER, OTHER_QUERY, QUERY],
-            UNBUILT_3,
-            [taken, "", ""],
+            BUSY_4,
+            [taken, OTHER_ASK, ""],
         ),
     ];
     for (script, status, out) in &rows {
@@ -472,14 +482,14 @@ fn messages_are_answered(rt: HostRuntime) -> Result<(), Fail> {
             "0 udp 192.0.2.7 00010100000100000000000003626164076578616d706c650000010003",
             "reply 0 00018185000100000000000003626164076578616d706c650000010003\n",
         ),
-        // names that no row names
+        // names that no row names are asked, in small letters
         (
             "0 udp 192.0.2.7 000101000001000000000000016103626164076578616d706c650000010001",
-            "Unbuilt",
+            "ask 0 000101000001000000000000016103626164076578616d706c650000010001\n",
         ),
         (
-            "0 udp 192.0.2.7 000101000001000000000000076578616d706c650000010001",
-            "Unbuilt",
+            "3 udp 192.0.2.7 000101000001000000000000076578416d706c650000ff0001",
+            "ask 3 000101000001000000000000076578616d706c650000ff0001\n",
         ),
         // no line
         ("16 udp 192.0.2.7 -", "NoWorker"),

@@ -1,0 +1,12 @@
+pub mod DigitLemmas
+pub mod Firsts
+pub mod WordLemmas
+pub mod RunLemmas
+pub mod TextLemmas
+pub mod JoinLemmas
+pub mod NumeralLemmas
+pub mod ShortLemmas
+pub mod PatternLaw
+pub mod AddressLaw
+pub mod RangeLaw
+pub mod ReadBack

@@ -1,0 +1,21 @@
+//! Triggers of a response policy zone: what the owner of a rule names (draft-vixie-dnsop-dns-rpz, section 4),
+//! and the one canonical owner of a trigger.
+#![tactic(auto)]
+
+mod address;
+mod canonical;
+mod decode;
+mod digits;
+mod inert;
+pub mod laws;
+mod marker;
+mod runs;
+mod spelling;
+#[cfg(test)]
+mod tests;
+mod trigger;
+
+pub use canonical::owner_of;
+pub use decode::trigger_of;
+pub use inert::{Inert, TriggerError};
+pub use trigger::{Kind, Trigger};

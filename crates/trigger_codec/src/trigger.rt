@@ -1,0 +1,49 @@
+//! What a rule is about.
+
+ghost use Rattle.std.specs.Prelude.{◌≡◌};
+
+use dns_name::Pattern;
+use ip_prefix::Prefix;
+
+/// What a rule of a response policy zone is about (draft-vixie-dnsop-dns-rpz, section 4).
+#[derive(Debug, Drop)]
+pub enum Trigger {
+    /// The address of the client is in the prefix (section 4.1).
+    Client(Prefix),
+    /// The name that is asked for is of the pattern (section 4.2).
+    Qname(Pattern),
+    /// An address of the answer is in the prefix (section 4.3).
+    RespIp(Prefix),
+    /// The name of a name server of the answer is of the pattern (section 4.4).
+    NsName(Pattern),
+    /// The address of a name server of the answer is in the prefix (section 4.5).
+    NsIp(Prefix),
+}
+
+/// The kinds of triggers, in the order in which they come where several rules hold
+/// (draft-vixie-dnsop-dns-rpz, section 5).
+#[derive(Clone, Copy, Debug, PartialEq, Eq, PartialOrd, Ord)]
+pub enum Kind {
+    Client,
+    Qname,
+    RespIp,
+    NsName,
+    NsIp,
+}
+
+impl Trigger {
+    ghost use Rattle.trigger_codec.specs.Kind.{kind_of};
+
+    /// The kind of the trigger.
+    pub fn kind(&self) -> Kind
+        ensures { result ≡ kind_of self.now }
+    {
+        match self {
+            Trigger::Client(_) => Kind::Client,
+            Trigger::Qname(_) => Kind::Qname,
+            Trigger::RespIp(_) => Kind::RespIp,
+            Trigger::NsName(_) => Kind::NsName,
+            Trigger::NsIp(_) => Kind::NsIp,
+        }
+    }
+}
