@@ -113,6 +113,18 @@ def write_stream(out, numbers):
     writer.end()
 
 
+def in_a_child(write, stream):
+    """Writes the stream in a process of its own: what a process held when it started the program would count as the program's memory."""
+    child = os.fork()
+    if child == 0:
+        write()
+        stream.flush()
+        os._exit(0)
+    _, status = os.waitpid(child, 0)
+    if status != 0:
+        sys.exit("the stream was not written")
+
+
 def run(program, path):
     """The seconds and the peak of the memory, in bytes, of one run."""
     with open(path, "rb") as stream:
@@ -127,8 +139,7 @@ def run(program, path):
 
 def measure(program, count, order):
     with tempfile.NamedTemporaryFile(suffix=".stream") as stream:
-        write_stream(stream, order(count))
-        stream.flush()
+        in_a_child(lambda: write_stream(stream, order(count)), stream)
         best = None
         for _ in range(RUNS):
             status, told, seconds, memory = run(program, stream.name)
