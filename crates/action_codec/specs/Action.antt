@@ -1,0 +1,73 @@
+-- What the rows of a rule do (draft-vixie-dnsop-dns-rpz, section 3).
+use Rattle.std.specs.Prelude.{ℕ, Bool, true, false, not, ◌==◌, ◌+◌, ◌||◌, ◌&&◌, nat_lt, if◌then◌else◌, List, [], ◌∷◌, map, length, take, drop, slice_index, Option, Some, None, codes}
+use Rattle.std.specs.List.{list_any}
+use Rattle.std.specs.Str.{bytes_eq}
+use Rattle.dns_name.specs.Alike.{PlainPattern}
+use Rattle.dns_name.specs.Labels.{name_octets}
+use Rattle.trigger_codec.specs.declared.trigger.Trigger.{Trigger}
+use Rattle.trigger_codec.specs.declared.trigger.Trigger.TheVariants.{Client, Qname, RespIp, NsName, NsIp}
+use Rattle.zone_rows.specs.Row.{PlainRow}
+use Rattle.action_codec.specs.declared.action.Action.{Action}
+use Rattle.action_codec.specs.declared.action.Action.TheVariants.{NxDomain, NoData, PassThru, Drop, TcpOnly, Local}
+use Rattle.action_codec.specs.Local.{local_row, rule_rows}
+
+-- not NS, SOA, DNAME, DS, RRSIG, NSEC, DNSKEY, NSEC3 or NSEC3PARAM
+abbrev pub is_live_type : ℕ → Bool
+is_live_type rtype = not (list_any (λ n. rtype == n) (2 ∷ 6 ∷ 39 ∷ 43 ∷ 46 ∷ 47 ∷ 48 ∷ 50 ∷ 51 ∷ []))
+
+abbrev pub is_cname : PlainRow → Bool
+is_cname row = row.rtype == 5
+
+-- the data is this name as it is written
+abbrev pub points_to : List ℕ → List (List ℕ) → Bool
+points_to rdata name = bytes_eq rdata (name_octets name)
+
+-- a name of a single label that begins `rpz-`: one length, its label, and the zero of the root
+abbrev pub is_reserved_name : List ℕ → Bool
+is_reserved_name rdata = nat_lt 4 (length rdata) && (slice_index rdata 0 + 2 == length rdata && bytes_eq (take 4 (drop 1 rdata)) (codes "rpz-"))
+
+-- the name that the owner of a pattern writes
+abbrev pub own_name : PlainPattern → List (List ℕ)
+own_name pattern = if pattern.wild then codes "*" ∷ pattern.base else pattern.base
+
+-- the data is the name that the trigger is about, where it is about a name that is asked for
+abbrev pub is_own_name : Trigger → List ℕ → Bool
+is_own_name (Client prefix) rdata = false
+is_own_name (Qname pattern) rdata = points_to rdata (own_name pattern)
+is_own_name (RespIp prefix) rdata = false
+is_own_name (NsName pattern) rdata = false
+is_own_name (NsIp prefix) rdata = false
+
+-- the row is the answer
+abbrev pub local_alone : PlainRow → Option Action
+local_alone row = Some (Local (local_row row ∷ []))
+
+-- what one CNAME row does
+unfoldable pub cname_action : Trigger → PlainRow → Option Action
+cname_action trigger row =
+    if points_to row.rdata [] then Some NxDomain
+    else (if points_to row.rdata (codes "*" ∷ []) then Some NoData
+    else (if points_to row.rdata (codes "rpz-passthru" ∷ []) then Some PassThru
+    else (if points_to row.rdata (codes "rpz-drop" ∷ []) then Some Drop
+    else (if points_to row.rdata (codes "rpz-tcp-only" ∷ []) then Some TcpOnly
+    else (if is_reserved_name row.rdata then None
+    else (if is_own_name trigger row.rdata then Some PassThru
+    else local_alone row))))))
+
+-- what one row does
+abbrev pub one_action : Trigger → PlainRow → Option Action
+one_action trigger row = if is_cname row then cname_action trigger row else local_alone row
+
+-- what several rows do: nothing where a CNAME row is among them
+abbrev pub several_action : List PlainRow → Option Action
+several_action rows = if list_any is_cname rows then None else Some (Local (map local_row rows))
+
+-- what rows do that are in their order
+abbrev pub rows_action : Trigger → List PlainRow → Option Action
+rows_action trigger [] = None
+rows_action trigger (row ∷ []) = one_action trigger row
+rows_action trigger (row ∷ other ∷ rows) = several_action (row ∷ other ∷ rows)
+
+-- What a rule does that has this trigger and these live rows.
+abbrev pub action_by : Trigger → List PlainRow → Option Action
+action_by trigger rows = rows_action trigger (rule_rows rows)

@@ -1,0 +1,16 @@
+//! What the rules of a response policy zone do (draft-vixie-dnsop-dns-rpz, section 3).
+#![tactic(auto)]
+
+mod action;
+mod live;
+mod local;
+mod order;
+mod table;
+#[cfg(test)]
+mod tests;
+mod words;
+
+pub use action::Action;
+pub use live::is_live_type;
+pub use local::{LocalRow, LocalRows};
+pub use table::action_of;
