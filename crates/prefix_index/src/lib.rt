@@ -1,0 +1,9 @@
+//! Maps from prefixes of addresses, with a look-up of the longest prefix that contains an address.
+#![tactic(auto)]
+
+mod map;
+mod ranked;
+#[cfg(test)]
+mod tests;
+
+pub use map::PrefixMap;

@@ -1,0 +1,4 @@
+pub mod Entries
+pub mod Ranks
+pub mod Scan
+pub mod Turns

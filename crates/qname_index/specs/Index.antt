@@ -1,0 +1,18 @@
+-- What is true of all entries of a map from patterns.
+use Rattle.std.specs.Prelude.{◌≡◌, List}
+use Rattle.std.specs.List.{AllByRecursion}
+use Rattle.std.specs.List.Sorted.{IsStrictlySortedBy}
+use Rattle.std.specs.Map.{keys_of}
+use Rattle.dns_name.specs.Alike.{PlainPattern}
+use Rattle.dns_name.specs.Labels.{IsName, lowered}
+use Rattle.qname_index.specs.Best.{pattern_order}
+
+-- a pattern's base is a name in small letters
+pub record IsKey (pattern : PlainPattern) : Type 0 where
+  pub name : IsName pattern.base
+  pub small : lowered pattern.base ≡ pattern.base
+
+-- Entries in order of precedence, each of a pattern in small letters.
+pub record IsIndex {V : Type 0} (entries : List (PlainPattern × V)) : Type 0 where
+  pub keys : AllByRecursion (λ e. IsKey e.0) entries
+  pub ordered : IsStrictlySortedBy pattern_order (keys_of entries)

@@ -1,0 +1,3 @@
+pub mod Best
+pub mod Index
+pub mod Rank

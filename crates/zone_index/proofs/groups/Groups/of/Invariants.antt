@@ -1,0 +1,6 @@
+use Rattle.std.proofs.Common.{◌≡◌, take}
+use Rattle.zone_index.specs.Rules.{groups_of}
+use Rattle.zone_index.proofs.groups.Groups.of.Given as goal
+
+abbrev pub invariant-loop-row : goal.invariant-loop-row
+invariant-loop-row l = l.groups ≡ groups_of l.fn.origin (take l.row-index l.rows)

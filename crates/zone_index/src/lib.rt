@@ -1,0 +1,11 @@
+//! The rules of a policy zone, and which of them comes first for a name or an address.
+#![tactic(auto)]
+
+mod group;
+mod groups;
+mod kinds;
+mod rules;
+#[cfg(test)]
+mod tests;
+
+pub use rules::Rules;
