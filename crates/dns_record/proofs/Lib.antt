@@ -2,6 +2,7 @@ pub mod Parts
 pub mod Writing
 pub mod Numbers
 pub mod Data
+pub mod Addresses
 pub mod SoaLemmas
 pub mod Binding
 pub mod PartStanding

@@ -4,5 +4,6 @@ pub mod Record
 pub mod Becomes
 pub mod Reading
 pub mod Grammar
+pub mod Address
 pub mod Soa
 pub mod Serial

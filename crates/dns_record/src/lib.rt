@@ -4,6 +4,7 @@
 //! one, and the data of the rest is any bytes.
 #![tactic(auto)]
 
+mod address;
 pub mod class;
 mod fault;
 pub mod laws;
@@ -20,7 +21,7 @@ mod soa_reading;
 pub use fault::{RecordError, RecordFault};
 pub use part::{Part, layout};
 pub use reading::read_record;
-pub use record::Record;
+pub use record::{Record, write_record};
 pub use records::Records;
 pub use serial::serial_newer;
 pub use soa::Soa;

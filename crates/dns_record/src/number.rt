@@ -23,6 +23,14 @@ pub fn u32_at(bytes: &[u8], at: usize) -> u32
     BigEndian::read_u32(&bytes[at..])
 }
 
+/// The number of 128 bits at a place.
+pub fn u128_at(bytes: &[u8], at: usize) -> u128
+    requires { at + 16 ≤ length bytes.now }
+    ensures { result ≡ number_at 16 bytes.now at }
+{
+    BigEndian::read_u128(&bytes[at..])
+}
+
 /// Writes a number of 16 bits at the end. An `Err` leaves what was written before.
 pub fn push_u16(out: &mut Octets, number: u16) -> Result<(), AllocError>
     ensures ok { OnOk result (out.new ≡ out.old ++ number_octets 2 number) }

@@ -88,7 +88,7 @@ impl Record {
         ensures is_record { IsRecord self.now }
     {
         let before = out.len();
-        let written = put(
+        let written = write_record(
             out,
             &self.owner,
             self.rtype,
@@ -103,9 +103,10 @@ impl Record {
     }
 }
 
-// Writes the parts of a record, or the first of them where memory runs out.
+/// Writes a record of these parts at the end, its name in full. The data is written as it is, and has fewer than
+/// 65,536 bytes. An `Err` leaves what was written before, and maybe a part of the record behind it.
 #[tactic(auto, unfolding(crate::specs::Record::record_octets), using(crate::proofs::Writing::regrouped))]
-fn put(
+pub fn write_record(
     out: &mut Octets,
     owner: &Name,
     rtype: u16,

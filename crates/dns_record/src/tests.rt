@@ -3,6 +3,7 @@
 use super::*;
 use crate::number::{push_u16, push_u32, u16_at, u32_at};
 use dns_name::{NameFault, Octets};
+use ip_prefix::Addr;
 use std::test::Fail;
 
 // a. is an alias of www., for 3,600 seconds
@@ -278,6 +279,25 @@ fn numbers_have_the_highest_byte_first(rt: HostRuntime) -> Result<(), Fail> {
     assert_eq!(rt; out.as_slice(), b"\x01\x02\x03\x04\x05\x06".as_slice());
     assert_eq!(rt; u16_at(b"\0\x01\x02", 1), 0x0102);
     assert_eq!(rt; u32_at(b"\0\x03\x04\x05\x06", 1), 0x0304_0506);
+    Ok(())
+}
+
+// The address that the record holds.
+fn address_in(rt: &HostRuntime, message: &[u8]) -> Result<Option<Addr>, RecordError> {
+    let (rr, _) = read_record(rt.alloc(), message, 0)?;
+    Ok(rr.address())
+}
+
+#[test]
+fn addresses_are_told(rt: HostRuntime) -> Result<(), Fail> {
+    let four = b"\0\0\x01\0\x01\0\0\0\0\0\x04\xc0\0\x02\x07".as_slice();
+    let six = b"\0\0\x1c\0\x01\0\0\0\0\0\x10\x20\x01\x0d\xb8\0\0\0\0\0\0\0\0\0\0\0\x07".as_slice();
+    let other_class = b"\0\0\x01\0\x03\0\0\0\0\0\x04\xc0\0\x02\x07".as_slice();
+    assert_eq!(rt; address_in(&rt, four)?, Some(Addr::V4(0xc000_0207)));
+    let want = Addr::V6(0x2001_0db8_0000_0000_0000_0000_0000_0007);
+    assert_eq!(rt; address_in(&rt, six)?, Some(want));
+    assert_eq!(rt; address_in(&rt, other_class)?, None);
+    assert_eq!(rt; address_in(&rt, ALIAS)?, None);
     Ok(())
 }
 

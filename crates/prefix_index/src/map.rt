@@ -6,7 +6,7 @@ ghost use Rattle.std.specs.List.{AllByRecursion};
 ghost use Rattle.std.specs.List.Sorted.{IsStrictlySortedBy};
 ghost use Rattle.std.specs.Map.{keys_of, lookup, remove_entry};
 ghost use Rattle.std.specs.Option.{option_copied, option_map};
-ghost use Rattle.ip_prefix.specs.Prefix.{IsPrefix, prefix_order, width as bits};
+ghost use Rattle.ip_prefix.specs.Prefix.{IsPrefix, prefix_order};
 ghost use Rattle.prefix_index.specs.Longest.{longest};
 
 use crate::ranked::Ranked;
@@ -107,7 +107,7 @@ impl<V> PrefixMap<V> {
         ensures { option_map (λ e. (e.0, e.1.now)) result ≡ longest addr self.now }
     {
         laws::a_prefix_contains_what_agrees();
-        let mut length = width(addr);
+        let mut length = addr.width();
         while length > 0 {
             let prefix = Prefix::of(addr, length);
             if let Some(value) = self.entries.get(&Ranked::of(prefix)) {
@@ -116,15 +116,5 @@ impl<V> PrefixMap<V> {
             length -= 1;
         }
         None
-    }
-}
-
-// how many bits an address has
-fn width(addr: Addr) -> u32
-    ensures { result ≡ bits addr }
-{
-    match addr {
-        Addr::V4(_) => 32,
-        Addr::V6(_) => 128,
     }
 }

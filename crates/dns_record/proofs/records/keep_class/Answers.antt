@@ -1,4 +1,4 @@
-use Rattle.std.proofs.Common.{◌≡◌, rules, ◌==◌}
+use Rattle.std.proofs.Common.{rules, ◌==◌}
 use Rattle.std.proofs.lemmas.Fn.{filter_same}
 use Rattle.dns_record.specs.Record.{PlainRecord}
 use Rattle.dns_record.proofs.records.keep_class.Goals as goal
