@@ -32,3 +32,7 @@ none_written before records = sym (append-nil before)
 -- six pieces after what stands before them
 pub regrouped : (before a b c d e f : List ℕ) → (((((before ++ a) ++ b) ++ c) ++ d) ++ e) ++ f ≡ before ++ (((((a ++ b) ++ c) ++ d) ++ e) ++ f)
 regrouped before a b c d e f = simp append_assoc
+
+-- two pieces after what stands before them
+pub two_regrouped : (before a b : List ℕ) → (before ++ a) ++ b ≡ before ++ (a ++ b)
+two_regrouped before a b = append_assoc before a b

@@ -39,6 +39,10 @@ count_octets questions answers authorities additionals = number_octets 2 questio
 unfoldable pub header_octets : ℕ → Header → ℕ → ℕ → ℕ → ℕ → List ℕ
 header_octets z h questions answers authorities additionals = number_octets 2 h.id ++ (first_flags h ∷ second_flags z h ∷ []) ++ count_octets questions answers authorities additionals
 
+-- the header and the question of a message with so many records in each section, its bits Z 0
+unfoldable pub start_octets : Header → Option Question → ℕ → ℕ → ℕ → List ℕ
+start_octets h question answers authorities additionals = header_octets 0 h (question_count question) answers authorities additionals ++ question_octets question
+
 -- records one after another
 unfoldable pub records_octets : List PlainRecord → List ℕ
 records_octets records = flat_map record_octets records

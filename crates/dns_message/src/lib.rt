@@ -22,7 +22,7 @@ pub use question::Question;
 pub use reading::read_message;
 pub use request::{Incoming, Query};
 pub use triage::{classify, speaks};
-pub use writing::{write_message, write_parts};
+pub use writing::{write_message, write_parts, write_records, write_start};
 
 #[cfg(test)]
 mod tests;

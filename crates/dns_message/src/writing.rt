@@ -2,7 +2,7 @@
 
 ghost use Rattle.std.specs.Prelude.{◌≡◌, ◌≤◌, ◌++◌, length, take, option_copied, IfOk, OnOk, OnErr};
 ghost use Rattle.dns_record.specs.Number.{number_octets};
-ghost use Rattle.dns_message.specs.Spelling.{first_flags as flags_first, second_flags as flags_second, question_octets, records_octets, opt_octets, header_octets, parts_octets, spelled};
+ghost use Rattle.dns_message.specs.Spelling.{first_flags as flags_first, second_flags as flags_second, question_octets, records_octets, opt_octets, header_octets, start_octets, parts_octets, spelled};
 
 use crate::edns::Edns;
 use crate::header::Header;
@@ -62,6 +62,32 @@ pub fn write_parts(
     write_records(out, authority)?;
     write_records(out, additional)?;
     write_opt(out, edns)
+}
+
+/// Writes the header, its bits Z 0, and the question of a message at the end. So many records are to follow in each
+/// section, of which the low 16 bits are written; [`write_records`] and [`dns_record::write_record`] write them. An
+/// `Err` leaves what was written before, and maybe a part of the message behind it.
+#[tactic(auto, unfolding(crate::specs::Spelling::start_octets), using(crate::proofs::Pieces::two_regrouped))]
+pub fn write_start(
+    out: &mut Octets,
+    header: &Header,
+    question: Option<&Question>,
+    answers: usize,
+    authorities: usize,
+    additionals: usize,
+) -> Result<(), AllocError>
+    ensures ok { OnOk result (out.new ≡ out.old ++ start_octets header.now (option_copied question.entry) answers authorities additionals) }
+    ensures begins { take (length out.old) out.new ≡ out.old }
+{
+    write_header(
+        out,
+        header,
+        usize::from(question.is_some()),
+        answers,
+        authorities,
+        additionals,
+    )?;
+    write_question(out, question)
 }
 
 // Writes the header, its bits Z 0.
@@ -128,8 +154,9 @@ fn write_question(out: &mut Octets, question: Option<&Question>) -> Result<(), A
     }
 }
 
-// Writes records one after another.
-fn write_records(out: &mut Octets, records: &[Record]) -> Result<(), AllocError>
+/// Writes records one after another at the end, their names in full. An `Err` leaves what was written before, and
+/// maybe some of the records behind it.
+pub fn write_records(out: &mut Octets, records: &[Record]) -> Result<(), AllocError>
     ensures ok { OnOk result (out.new ≡ out.old ++ records_octets records.now) }
     ensures begins { take (length out.old) out.new ≡ out.old }
 {
