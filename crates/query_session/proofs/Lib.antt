@@ -1,3 +1,0 @@
-pub mod Owners
-pub mod OwnerKeys
-pub mod Answers

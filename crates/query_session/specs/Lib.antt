@@ -1,8 +1,6 @@
-pub mod ExactRules
 pub mod Indexed
-pub mod Kept
-pub mod Fact
-pub mod Reply
 pub mod Policy
+pub mod Finding
+pub mod Seen
 pub mod Talk
 pub mod Session

@@ -1,47 +1,58 @@
 -- What is done with one query, turn by turn.
-use Rattle.std.specs.Prelude.{ℕ, Bool, true, false, List, Option, Some, None}
+use Rattle.std.specs.Prelude.{ℕ, List, [], ◌∷◌, ◌++◌, Option, Some, None}
+use Rattle.dns_message.specs.declared.question.Question.{Question}
 use Rattle.dns_message.specs.declared.request.Incoming.{Incoming}
 use Rattle.dns_message.specs.declared.request.Incoming.TheVariants.{Silent, Refuse, Query as Asks}
 use Rattle.dns_message.specs.declared.request.Query.{Query}
 use Rattle.dns_message.specs.Spelling.{spelled}
-use Rattle.query_session.specs.declared.fact.Fact.{Fact}
-use Rattle.query_session.specs.declared.session.Said.TheVariants as said
+use Rattle.upstream_link.specs.declared.fact.Fact.{Fact}
+use Rattle.upstream_link.specs.Facts.{PlainFacts}
+use Rattle.upstream_link.specs.Question.{main_question}
+use Rattle.reply_build.specs.declared.said.Said.TheVariants as said
+use Rattle.reply_build.specs.Needs.{missing}
+use Rattle.reply_build.specs.Reply.{reply}
+use Rattle.reply_build.specs.Verdict.{PlainVerdict}
 use Rattle.query_session.specs.declared.session.Turn.{Turn}
 use Rattle.query_session.specs.declared.session.Turn.TheVariants.{Ask, Said}
-use Rattle.query_session.specs.Policy.{PlainPolicy, reply_about}
-use Rattle.query_session.specs.Reply.{main_question, reply_by_fact}
+use Rattle.query_session.specs.Finding.{decided}
+use Rattle.query_session.specs.Policy.{PlainPolicy}
 use Rattle.query_session.specs.Talk.{Talk}
 
--- What is done at this point: where the policy says nothing of the name, the question is asked, and once there is a
--- fact the reply is that of the fact.
-abbrev pub unhit_turn : Query → Option Fact → Turn
-unhit_turn query None = Ask (main_question query)
-unhit_turn query (Some fact) = Said (said.Reply (spelled (reply_by_fact query fact)))
+-- what is decided is said, once all is known that the reply needs
+abbrev pub unless_missing : Query → PlainVerdict → PlainFacts → Option Question → Turn
+unless_missing query verdict facts None = Said (reply query verdict facts)
+unless_missing query verdict facts (Some question) = Ask question
 
-abbrev pub query_turn : Option (List ℕ) → Query → Option Fact → Turn
-query_turn (Some octets) query main = Said (said.Reply octets)
-query_turn None query main = unhit_turn query main
+abbrev pub verdict_turn : Query → PlainFacts → Option PlainVerdict → Turn
+verdict_turn query facts None = Ask (main_question query)
+verdict_turn query facts (Some verdict) = unless_missing query verdict facts (missing query verdict facts)
 
-abbrev pub turn_by : PlainPolicy → Incoming → Option Fact → Turn
-turn_by policy Silent main = Said said.Silent
-turn_by policy (Refuse message) main = Said (said.Reply (spelled message))
-turn_by policy (Asks query) main = query_turn (reply_about policy query) query main
+-- What is done at this point.
+abbrev pub turn_by : PlainPolicy → Incoming → PlainFacts → Turn
+turn_by policy Silent facts = Said said.Silent
+turn_by policy (Refuse message) facts = Said (said.Reply (spelled message))
+turn_by policy (Asks query) facts = verdict_turn query facts (decided query facts policy)
 
 abbrev pub turn_of : Talk → Turn
-turn_of talk = turn_by talk.policy talk.incoming talk.main
+turn_of talk = turn_by talk.policy talk.incoming talk.facts
 
 -- at the beginning nothing is known
 abbrev pub begun : PlainPolicy → Incoming → Talk
-begun policy incoming = record { policy = policy; incoming = incoming; main = None; waits = false }
+begun policy incoming = record { policy = policy; incoming = incoming; facts = []; asked = None }
 
-abbrev pub is_ask : Turn → Bool
-is_ask (Ask question) = true
-is_ask (Said s) = false
+abbrev pub asked_in : Turn → Option Question
+asked_in (Ask question) = Some question
+asked_in (Said s) = None
 
 -- after a turn it waits exactly if it asked
 abbrev pub turned : Talk → Talk
-turned talk = record talk { waits = is_ask (turn_of talk) }
+turned talk = record talk { asked = asked_in (turn_of talk) }
+
+-- with one fact more, of the question that was asked
+abbrev pub known_more : PlainFacts → Option Question → Fact → PlainFacts
+known_more facts None fact = facts
+known_more facts (Some question) fact = facts ++ (question, fact) ∷ []
 
 -- after the fact is given that was asked for
 abbrev pub given : Talk → Fact → Talk
-given talk fact = record { policy = talk.policy; incoming = talk.incoming; main = Some fact; waits = false }
+given talk fact = record { policy = talk.policy; incoming = talk.incoming; facts = known_more talk.facts talk.asked fact; asked = None }

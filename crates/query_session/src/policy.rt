@@ -2,13 +2,15 @@
 
 ghost use Rattle.std.specs.Prelude.{◌≡◌, [], ◌∷◌, option_copied, IfOk};
 ghost use Rattle.std.specs.Option.{option_to_list};
-ghost use Rattle.query_session.specs.Policy.{reply_about, zone_reply};
+ghost use Rattle.query_session.specs.Finding.{decided};
+ghost use Rattle.query_session.specs.Seen.{verdict_seen};
 
 use crate::policy_zone::PolicyZone;
 use dns_message::Query;
-use dns_name::Octets;
+use reply_build::Verdict;
 use std::alloc::{AllocError, Global};
 use std::marker::Model;
+use upstream_link::Facts;
 
 /// The policy zones that queries are answered by, at most one for now. Contracts see their list.
 #[derive(Drop)]
@@ -47,23 +49,19 @@ impl Policy {
         self.zone.as_ref()
     }
 
-    /// The reply to a query, where the policy answers it.
-    pub(crate) fn reply(&self, alloc: Global, query: &Query) -> Result<Option<Octets>, AllocError>
-        ensures { IfOk result (λ reply. reply ≡ reply_about self.now query.now) }
+    /// What the policy decides of a query by what is known. `None` where the answer to the query must be known
+    /// first.
+    pub(crate) fn decide(
+        &self,
+        alloc: Global,
+        query: &Query,
+        facts: &Facts,
+    ) -> Result<Option<Verdict<'_>>, AllocError>
+        ensures { IfOk result (λ verdict. verdict_seen verdict ≡ decided query.now facts.now self.now) }
     {
         match &self.zone {
-            None => Ok(None),
-            Some(zone) => reply_of(alloc, zone, query),
+            None => Ok(Some(Verdict::Pass)),
+            Some(zone) => zone.decide(alloc, query, facts),
         }
     }
-}
-
-// The reply of a zone to a query, where it names the name.
-fn reply_of(alloc: Global, zone: &PolicyZone, query: &Query) -> Result<Option<Octets>, AllocError>
-    ensures { IfOk result (λ reply. reply ≡ zone_reply query.now zone.now) }
-{
-    if !zone.names(alloc, &query.question.name)? {
-        return Ok(None);
-    }
-    zone.name_error(alloc, query)
 }

@@ -1,20 +1,24 @@
-//! A policy zone with an index of the names that its rows name.
+//! A policy zone with its rules.
 
-ghost use Rattle.std.specs.Prelude.{◌≡◌, [], ◌∷◌, ◌++◌, Some, None, option_copied, IfOk};
-ghost use Rattle.dns_name.specs.Labels.{name_octets, lowered};
+ghost use Rattle.std.specs.Prelude.{◌≡◌, Some, option_copied, IfOk};
 ghost use Rattle.zone_rows.specs.Zone.{Gives, applied};
-ghost use Rattle.query_session.specs.Indexed.{AreOwners, HasIndex};
-ghost use Rattle.query_session.specs.Policy as form;
-ghost use Rattle.query_session.specs.Policy.{content_count, content_serial, reply_with, unloaded, zone_names};
+ghost use Rattle.reply_build.specs.Verdict.{passes};
+ghost use Rattle.query_session.specs.Finding as form;
+ghost use Rattle.query_session.specs.Finding.{zone_decides};
+ghost use Rattle.query_session.specs.Indexed.{index_of};
+ghost use Rattle.query_session.specs.Policy.{content_count, content_serial, unloaded};
+ghost use Rattle.query_session.specs.Seen.{finding_seen, verdict_seen};
 
-use crate::exact_rules::are_rules;
-use crate::reply::name_error;
+use crate::finding::{Finding, rules_say};
 use dns_message::Query;
-use dns_name::{Name, Octets};
+use dns_name::Name;
 use dns_record::Record;
+use reply_build::Verdict;
 use std::alloc::{AllocError, Global};
 use std::marker::Model;
-use zone_rows::{ApplyError, Content, KeySet, PlainZone, Row, Transfer};
+use upstream_link::Facts;
+use zone_index::Rules;
+use zone_rows::{ApplyError, Content, PlainZone, Transfer};
 
 /// A policy zone: its origin, and what it holds once a transfer was taken. Contracts see these, and not
 /// the index.
@@ -30,8 +34,7 @@ pub struct PolicyZone {
 pub struct Index {
     // The SOA record with the zone's origin as owner, as a reply has it.
     soa_record: Record,
-    // The owners of the rows, as they are written.
-    owners: KeySet,
+    rules: Rules,
 }
 
 impl Model for PolicyZone {
@@ -77,23 +80,13 @@ impl PolicyZone {
         }
     }
 
-    /// The zone after a transfer, with an index of its own, or why it can't take it.
+    /// The zone after a transfer, with rules of its own, or why it can't take it.
     pub fn after(&self, alloc: Global, transfer: Transfer) -> Result<PolicyZone, ApplyError>
         ensures { Gives result (applied self.now transfer) }
     {
         let zone = self.zone.apply(alloc, transfer)?;
-        let index = index_of(alloc, &zone.origin, zone.content.as_ref())?;
+        let index = made_of(alloc, &zone.origin, zone.content.as_ref())?;
         Ok(PolicyZone { zone, index })
-    }
-
-    /// Whether each of its rows makes one name not exist.
-    pub fn is_built(&self) -> bool
-        ensures { result ≡ form.is_built self.now }
-    {
-        match &self.zone.content {
-            None => true,
-            Some(content) => are_rules(&self.zone.origin, content.rows.as_slice()),
-        }
     }
 
     /// How many rows are loaded; `None` where nothing is.
@@ -106,73 +99,51 @@ impl PolicyZone {
         }
     }
 
-    /// Whether some row names this name: its owner is the name followed by the zone's origin. It does not
-    /// walk the zone.
-    pub(crate) fn names(&self, alloc: Global, name: &Name) -> Result<bool, AllocError>
-        ensures { IfOk result (λ named. named ≡ zone_names name.now self.now) }
-    {
-        match &self.index {
-            None => Ok(false),
-            Some(index) => {
-                let owner = owner_octets(alloc, name, &self.zone.origin)?;
-                Ok(index.owners.contains(&owner))
-            }
-        }
-    }
-
-    /// The reply that the name of the query doesn't exist; `None` where the zone isn't loaded.
-    pub(crate) fn name_error(
+    /// What the zone alone decides of a query by what is known. `None` where the answer to the query must be known
+    /// first.
+    pub(crate) fn decide(
         &self,
         alloc: Global,
         query: &Query,
-    ) -> Result<Option<Octets>, AllocError>
-        ensures { IfOk result (λ reply. reply ≡ reply_with query.now self.now.origin self.now.content) }
+        facts: &Facts,
+    ) -> Result<Option<Verdict<'_>>, AllocError>
+        ensures { IfOk result (λ verdict. verdict_seen verdict ≡ zone_decides query.now facts.now self.now.origin self.now.content (Some passes)) }
     {
         match &self.index {
-            None => Ok(None),
-            Some(index) => Ok(Some(name_error(alloc, query, &index.soa_record)?)),
+            None => Ok(Some(Verdict::Pass)),
+            Some(index) => {
+                let finding = rules_say(alloc, query, &index.rules, facts)?;
+                Ok(decided_by(&index.soa_record, finding))
+            }
         }
     }
 }
 
+// What is decided where a rule is found, or none.
+fn decided_by<'a>(soa: &'a Record, finding: Finding<'a>) -> Option<Verdict<'a>>
+    ensures { verdict_seen result ≡ form.decided_by soa.now (finding_seen finding.entry) (Some passes) }
+{
+    match finding {
+        Finding::Found(action) => Some(Verdict::Hit { action, soa }),
+        Finding::Nothing => Some(Verdict::Pass),
+        Finding::Unknown => None,
+    }
+}
+
 // The index of what a zone holds.
-fn index_of(
+fn made_of(
     alloc: Global,
     origin: &Name,
     content: Option<&Content>,
 ) -> Result<Option<Index>, AllocError>
-    ensures { IfOk result (HasIndex origin.now (option_copied content.entry)) }
+    ensures { IfOk result (λ index. index ≡ index_of origin.now (option_copied content.entry)) }
 {
     match content {
         None => Ok(None),
         Some(content) => {
             let soa_record = content.soa.record(alloc, origin.clone()?)?;
-            let owners = owners_of(alloc, content.rows.as_slice())?;
-            Ok(Some(Index { soa_record, owners }))
+            let rules = Rules::of(alloc, origin, content.rows.as_slice())?;
+            Ok(Some(Index { soa_record, rules }))
         }
     }
-}
-
-// The owners of rows, as they are written.
-fn owners_of(alloc: Global, rows: &[Row]) -> Result<KeySet, AllocError>
-    ensures { IfOk result (λ owners. AreOwners owners rows.now) }
-{
-    let mut owners = KeySet::new(alloc);
-    for row in rows {
-        let _new = owners.insert(Vec::from_slice(alloc, row.owner().octets())?)?;
-    }
-    Ok(owners)
-}
-
-// The owner of a row that names the name, as it is written.
-fn owner_octets(alloc: Global, name: &Name, origin: &Name) -> Result<Vec<u8>, AllocError>
-    ensures { IfOk result (λ owner. owner.items ≡ name_octets (lowered (name.now ++ origin.now))) }
-{
-    let front = name.octets();
-    let back = origin.octets();
-    let mut owner = Vec::with_capacity(alloc, front.len() + back.len())?;
-    owner.extend_from_slice(&front[..front.len() - 1])?;
-    owner.extend_from_slice(back)?;
-    owner.make_ascii_lowercase();
-    Ok(owner)
 }

@@ -1,28 +1,19 @@
 //! What is done with one query.
 
-ghost use Rattle.std.specs.Prelude.{◌≡◌, true, option_copied, IfOk, OnOk, OnErr};
+ghost use Rattle.std.specs.Prelude.{◌≡◌, Some, IfOk, IsSome, OnOk, OnErr, option_copied, is_some};
 ghost use Rattle.dns_message.specs.Request.{incoming_of};
-ghost use Rattle.query_session.specs.Policy.{reply_about};
-ghost use Rattle.query_session.specs.Session.{begun, given, is_ask as asks, query_turn, turn_of, turned};
+ghost use Rattle.query_session.specs.Finding.{decided};
+ghost use Rattle.query_session.specs.Seen.{verdict_seen};
+ghost use Rattle.query_session.specs.Session.{asked_in as asks, begun, given, turn_of, turned, verdict_turn};
 
-use crate::asking::main_question;
-use crate::fact::Fact;
 use crate::policy::Policy;
-use crate::reply::reply_by_fact;
 use dns_message::{Incoming, Query, Question, classify, write_message};
-use dns_name::Octets;
 use ip_prefix::{Addr, Transport};
+use reply_build::{Said, Verdict, build, missing};
 use std::alloc::{AllocError, Global};
 use std::marker::Model;
 use std::sync::Arc;
-
-/// What is said to a client.
-#[derive(Debug, Drop)]
-pub enum Said {
-    Reply(Octets),
-    /// Nothing.
-    Silent,
-}
+use upstream_link::{Fact, Facts, main_question};
 
 /// What a session does at a point.
 #[derive(Debug, Drop)]
@@ -34,14 +25,14 @@ pub enum Turn {
 }
 
 /// What is done with one message of a client, under the policy that held when it came. Contracts see that policy,
-/// what came, what is known, and whether it waits.
+/// what came, what is known, and what it asked.
 #[derive(Drop)]
 pub struct Session {
     alloc: Global,
     policy: Arc<Policy, Global>,
     incoming: Incoming,
-    main: Option<Fact>,
-    waits: bool,
+    facts: Facts,
+    asked: Option<Question>,
 }
 
 impl Model for Session {
@@ -49,7 +40,7 @@ impl Model for Session {
 
     ghost Value = { Talk };
 
-    ghost view = { λ s. record { policy = s.policy.value; incoming = s.incoming; main = s.main; waits = s.waits } };
+    ghost view = { λ s. record { policy = s.policy.value; incoming = s.incoming; facts = s.facts; asked = s.asked } };
 }
 
 impl Session {
@@ -69,8 +60,8 @@ impl Session {
             alloc,
             policy,
             incoming,
-            main: None,
-            waits: false,
+            facts: Facts::new(alloc),
+            asked: None,
         })
     }
 
@@ -84,12 +75,7 @@ impl Session {
                 let reply = write_message(self.alloc, message, 65535)?;
                 Ok(Turn::Said(Said::Reply(reply)))
             }
-            Incoming::Query(query) => turn_about(
-                self.alloc,
-                &self.policy,
-                query,
-                self.main.as_ref(),
-            ),
+            Incoming::Query(query) => turn_about(self.alloc, &self.policy, query, &self.facts),
         }
     }
 
@@ -100,31 +86,54 @@ impl Session {
         ensures err { OnErr result (self.new ≡ self.old) }
     {
         let turn = self.next_turn()?;
-        self.waits = is_ask(&turn);
+        self.asked = asked_in(&turn)?;
         Ok(turn)
     }
 
-    /// Gives the fact that the last turn asked for.
-    pub fn give(&mut self, fact: Fact)
-        requires { self.old.waits ≡ true }
-        ensures { self.new ≡ given self.old fact }
+    /// Gives the fact that the last turn asked for. An `Err` leaves the session as it was.
+    pub fn give(&mut self, fact: Fact) -> Result<(), AllocError>
+        requires { IsSome self.old.asked }
+        ensures ok { OnOk result (self.new ≡ given self.old fact) }
     {
-        self.main = Some(fact);
-        self.waits = false;
+        if let Some(question) = self.asked.take() {
+            self.facts.push(question, fact)?;
+        }
+        Ok(())
     }
 
     /// Whether the last turn asked for a fact that wasn't given yet.
     pub fn waits(&self) -> bool
-        ensures { result ≡ self.now.waits }
+        ensures { result ≡ is_some self.now.asked }
     {
-        self.waits
+        self.asked.is_some()
+    }
+
+    /// What the last turn asked for, until a fact is given.
+    pub fn asked(&self) -> Option<&Question>
+        ensures { option_copied result ≡ self.now.asked }
+    {
+        self.asked.as_ref()
     }
 }
 
-fn is_ask(turn: &Turn) -> bool
-    ensures { result ≡ asks turn.now }
+// What a turn asks for.
+fn asked_in(turn: &Turn) -> Result<Option<Question>, AllocError>
+    ensures { IfOk result (λ question. question ≡ asks turn.now) }
 {
-    matches!(turn, Turn::Ask(_))
+    match turn {
+        Turn::Ask(question) => Ok(Some(copied(question)?)),
+        Turn::Said(_) => Ok(None),
+    }
+}
+
+fn copied(question: &Question) -> Result<Question, AllocError>
+    ensures { IfOk result (λ copy. copy ≡ question.now) }
+{
+    Ok(Question {
+        name: question.name.clone()?,
+        qtype: question.qtype,
+        qclass: question.qclass,
+    })
 }
 
 // What is done about a query.
@@ -132,18 +141,31 @@ fn turn_about(
     alloc: Global,
     policy: &Policy,
     query: &Query,
-    main: Option<&Fact>,
+    facts: &Facts,
 ) -> Result<Turn, AllocError>
-    ensures { IfOk result (λ turn. turn ≡ query_turn (reply_about policy.now query.now) query.now (option_copied main.entry)) }
+    ensures { IfOk result (λ turn. turn ≡ verdict_turn query.now facts.now (decided query.now facts.now policy.now)) }
 {
-    if let Some(reply) = policy.reply(alloc, query)? {
-        return Ok(Turn::Said(Said::Reply(reply)));
-    }
-    match main {
-        None => Ok(Turn::Ask(main_question(query)?)),
-        Some(fact) => {
-            let reply = reply_by_fact(alloc, query, fact)?;
-            Ok(Turn::Said(Said::Reply(reply)))
+    let verdict = policy.decide(alloc, query, facts)?;
+    verdict_turn_of(alloc, query, facts, verdict)
+}
+
+// What is done by a verdict.
+fn verdict_turn_of(
+    alloc: Global,
+    query: &Query,
+    facts: &Facts,
+    verdict: Option<Verdict<'_>>,
+) -> Result<Turn, AllocError>
+    ensures { IfOk result (λ turn. turn ≡ verdict_turn query.now facts.now (verdict_seen verdict.entry)) }
+{
+    let Some(verdict) = verdict else {
+        return Ok(Turn::Ask(main_question(query)?));
+    };
+    match missing(alloc, query, verdict, facts)? {
+        Some(question) => Ok(Turn::Ask(question)),
+        None => {
+            let said = build(alloc, query, verdict, facts)?;
+            Ok(Turn::Said(said))
         }
     }
 }

@@ -5,7 +5,7 @@ use Rattle.edge_io.specs.Edge.{appended}
 use Rattle.edge_io.proofs.Edges.{prepended-nil, appended-nil}
 use Rattle.rpz_program.specs.declared.script.Stop.{Stop}
 use Rattle.rpz_program.specs.declared.script.Stop.TheVariants.{BadLine, ReadFault, WriteFault, OutOfMemory}
-use Rattle.rpz_program.specs.declared.why.Why.{Why}
+use Rattle.script_codec.specs.declared.why.Why.{Why}
 use Rattle.rpz_program.specs.Abstraction.{ran_along, verdict_along}
 use Rattle.rpz_program.specs.Fold as fold
 use Rattle.rpz_program.specs.Fold.{Ran, ran}

@@ -10,8 +10,7 @@ use Rattle.dns_message.specs.Request.{incoming_of}
 use Rattle.std.specs.declared.alloc.AllocError.{AllocError}
 use Rattle.rpz_program.specs.declared.script.AnswerError.{AnswerError}
 use Rattle.rpz_program.specs.declared.script.AnswerError.TheVariants.{Refused, OutOfMemory}
-use Rattle.rpz_program.specs.declared.why.Why.{Why}
-use Rattle.rpz_program.specs.declared.why.Why.TheVariants.{Line as OfLine, Unbuilt}
+use Rattle.script_codec.specs.declared.why.Why.{Why}
 use Rattle.query_session.specs.Policy.{PlainPolicy, unloaded}
 use Rattle.rpz_program.specs.Desk.{Desk, Turned, desk_stood, takes_query, gets_fact}
 use Rattle.rpz_program.specs.Offer.{Offer, takes, stays}
@@ -36,70 +35,61 @@ none_kept = record { desk = new_desk; policy = [] }
 abbrev pub kept_stood : Kept → Kept
 kept_stood kept = record { desk = desk_stood kept.desk; policy = kept.policy }
 
-abbrev pub kept_opens : Kept → List (List ℕ) → Option (Kept × Option Output)
-kept_opens kept origin = if length kept.desk.script.origins == 0 then Some (record { desk = opened_desk kept.desk origin; policy = unloaded origin ∷ [] }, None) else None
+abbrev pub kept_opens : Kept → List (List ℕ) → Kept
+kept_opens kept origin = if length kept.desk.script.origins == 0 then record { desk = opened_desk kept.desk origin; policy = unloaded origin ∷ [] } else kept
 
 -- what an offer does to the policy
-abbrev pub policy_takes : PlainPolicy → ℕ → Option Offer → Option (PlainPolicy × Option Output)
-policy_takes policy number None = None
-policy_takes policy number (Some (stays output)) = Some (policy, Some output)
+abbrev pub policy_takes : PlainPolicy → ℕ → Option Offer → PlainPolicy × Option Output
+policy_takes policy number None = (policy, None)
+policy_takes policy number (Some (stays output)) = (policy, Some output)
 policy_takes policy number (Some (takes transfer)) =
     let next = entry_taken policy (record { zone = number; transfer = transfer }) in
-    Some (next, taken next number)
+    (next, taken next number)
 
-abbrev pub with_policy : Kept → Option (PlainPolicy × Option Output) → Option (Kept × Option Output)
-with_policy kept None = None
-with_policy kept (Some next) = Some (record { desk = desk_stood kept.desk; policy = next.0 }, next.1)
+abbrev pub with_policy : Kept → PlainPolicy × Option Output → Kept × Option Output
+with_policy kept next = (record { desk = desk_stood kept.desk; policy = next.0 }, next.1)
 
-abbrev pub kept_does : Kept → Turned → Option (Kept × Option Output)
-kept_does kept turn = Some (record { desk = turn.desk; policy = kept.policy }, Some turn.output)
+abbrev pub kept_does : Kept → Turned → Kept × Option Output
+kept_does kept turn = (record { desk = turn.desk; policy = kept.policy }, turn.output)
 
-abbrev pub kept_may_do : Kept → Option Turned → Option (Kept × Option Output)
-kept_may_do kept None = None
-kept_may_do kept (Some turn) = kept_does kept turn
-
-unfoldable pub kept_step : Kept → Line → Option (Kept × Option Output)
-kept_step kept (Zone origin) = kept_opens kept origin
+unfoldable pub kept_step : Kept → Line → Kept × Option Output
+kept_step kept (Zone origin) = (kept_opens kept origin, None)
 kept_step kept (Transfer number stream) = with_policy kept (policy_takes kept.policy number (offered kept.policy number stream))
-kept_step kept (Full number) = Some (kept_stood kept, None)
+kept_step kept (Full number) = (kept_stood kept, None)
 kept_step kept (Query worker transport client message) = kept_does kept (takes_query kept.desk kept.policy worker (incoming_of message client transport))
-kept_step kept (Give worker message) = kept_may_do kept (gets_fact (came_for message) kept.desk worker)
-kept_step kept (Fail worker) = kept_may_do kept (gets_fact nothing_came kept.desk worker)
-kept_step kept (Clock seconds) = Some (kept_stood kept, None)
+kept_step kept (Give worker message) = kept_does kept (gets_fact (came_for message) kept.desk worker)
+kept_step kept (Fail worker) = kept_does kept (gets_fact nothing_came kept.desk worker)
+kept_step kept (Clock seconds) = (kept_stood kept, None)
 
 abbrev pub core_step : Kept → List ℕ → Result (Kept × List ℕ) Why
 core_step kept line = stepped kept_step kept (unnumbered_line line kept.desk.script)
 
--- the step was made, or refused; want of memory says nothing
-abbrev pub CoreSteps : {W : Type 0} → Option (W × Option Output) → Result (Option Output) (AnswerError Why) → W → Type 0
-CoreSteps gives (Ok output) new = gives ≡ Some (new, output)
-CoreSteps gives (Err (Refused why)) new = (gives ≡ None) × (why ≡ Unbuilt)
-CoreSteps gives (Err OutOfMemory) new = ⊤
+-- the step was made; want of memory says nothing
+abbrev pub Makes : {W : Type 0} → W × Option Output → Result (Option Output) AllocError → W → Type 0
+Makes gives (Ok output) new = gives ≡ (new, output)
+Makes gives (Err e) new = ⊤
 
 -- the error of a line
 abbrev pub Refuses : ReadError → AnswerError Why → Type 0
 Refuses read_error.OutOfMemory e = e ≡ OutOfMemory
-Refuses (read_error.Refused why) e = e ≡ Refused (OfLine why)
+Refuses (read_error.Refused why) e = e ≡ Refused why
 
--- a turn was made; want of memory says nothing
+-- a turn was made that outputs something; want of memory says nothing
 abbrev pub TakesTurn : Turned → Result Output AllocError → Desk → Type 0
-TakesTurn gives (Ok output) new = gives ≡ record { desk = new; output = output }
+TakesTurn gives (Ok output) new = gives ≡ record { desk = new; output = Some output }
 TakesTurn gives (Err e) new = ⊤
 
--- the same of a turn that may be none
-abbrev pub MayTakeTurn : Option Turned → Result (Option Output) AllocError → Desk → Type 0
-MayTakeTurn gives (Ok None) new = gives ≡ None
-MayTakeTurn gives (Ok (Some output)) new = gives ≡ Some (record { desk = new; output = output })
+-- the same where it may output nothing
+abbrev pub MayTakeTurn : Turned → Result (Option Output) AllocError → Desk → Type 0
+MayTakeTurn gives (Ok output) new = gives ≡ record { desk = new; output = output }
 MayTakeTurn gives (Err e) new = ⊤
 
 -- what a zone does with what it is offered
-abbrev pub TakesTo : PlainZone → Option Offer → PlainZone → Type 0
-TakesTo zone None next = ⊥
-TakesTo zone (Some (stays output)) next = ⊥
-TakesTo zone (Some (takes transfer)) next = next ≡ zone_after zone transfer
+abbrev pub TakesTo : PlainZone → Offer → PlainZone → Type 0
+TakesTo zone (stays output) next = ⊥
+TakesTo zone (takes transfer) next = next ≡ zone_after zone transfer
 
-abbrev pub Offers : PlainZone → Option Offer → Result Offered (AnswerError Why) → Type 0
-Offers zone offer (Ok (Stays output)) = offer ≡ Some (stays output)
+abbrev pub Offers : PlainZone → Offer → Result Offered AllocError → Type 0
+Offers zone offer (Ok (Stays output)) = offer ≡ stays output
 Offers zone offer (Ok (Takes next)) = TakesTo zone offer next
-Offers zone offer (Err (Refused why)) = (offer ≡ None) × (why ≡ Unbuilt)
-Offers zone offer (Err OutOfMemory) = ⊤
+Offers zone offer (Err e) = ⊤

@@ -1,14 +1,14 @@
 -- What lines depend on but for the policy: what was told, what workers wait with, and the identifier of the last question.
-use Rattle.std.specs.Prelude.{ℕ, ◌+◌, ◌%◌, true, false, if◌then◌else◌, List, replicate, Option, Some, None, slice_index_or, slice_set}
+use Rattle.std.specs.Prelude.{ℕ, ◌+◌, ◌%◌, true, false, List, replicate, Option, Some, None, slice_index_or, slice_set}
 use Rattle.dns_message.specs.declared.question.Question.{Question}
 use Rattle.dns_message.specs.declared.request.Incoming.{Incoming}
 use Rattle.dns_message.specs.Spelling.{spelled}
 use Rattle.zone_rows.specs.declared.zone.PlainZone.{PlainZone}
-use Rattle.query_session.specs.declared.fact.Fact.{Fact}
-use Rattle.query_session.specs.declared.session.Said.TheVariants as said
+use Rattle.upstream_link.specs.declared.fact.Fact.{Fact}
+use Rattle.reply_build.specs.declared.said.Said.TheVariants as said
 use Rattle.query_session.specs.declared.session.Turn.{Turn}
 use Rattle.query_session.specs.declared.session.Turn.TheVariants.{Ask, Said}
-use Rattle.query_session.specs.Reply.{question_message}
+use Rattle.upstream_link.specs.Question.{question_message}
 use Rattle.query_session.specs.Session.{begun, given, turn_of, turned}
 use Rattle.query_session.specs.Talk.{Talk}
 use Rattle.script_codec.specs.declared.output.Output.{Output}
@@ -39,14 +39,14 @@ pub record Desk : Type 0 where
 abbrev pub next_id : ℕ → ℕ
 next_id last = (last + 1) % 65536
 
-abbrev pub waiting_with : Talk → Question → ℕ → Waiting
-waiting_with talk question id = record { session = talk; question = question; id = id }
+abbrev pub waiting_with : Talk → ℕ → Waiting
+waiting_with talk id = record { session = talk; id = id }
 
 -- a worker's turn: it asks and waits, or says what it says and waits no more
 abbrev pub after_turn : Desk → ℕ → Talk → Turn → Desk
 after_turn desk worker talk (Ask question) = record {
   script = with_worker desk.script worker true;
-  workers = with_slot desk.workers worker (Some (waiting_with talk question (next_id desk.last_id)));
+  workers = with_slot desk.workers worker (Some (waiting_with talk (next_id desk.last_id)));
   last_id = next_id desk.last_id;
 }
 after_turn desk worker talk (Said s) = record {
@@ -60,13 +60,13 @@ turn_output desk worker (Ask question) = output.Ask worker (spelled (question_me
 turn_output desk worker (Said (said.Reply octets)) = output.Reply worker octets
 turn_output desk worker (Said said.Silent) = output.Silent worker
 
--- the desk after a turn, and what it outputs
+-- the desk after a line, and what the line outputs
 pub record Turned : Type 0 where
   pub desk : Desk
-  pub output : Output
+  pub output : Option Output
 
 abbrev pub take_turn : Desk → ℕ → Talk → Turned
-take_turn desk worker talk = record { desk = after_turn desk worker (turned talk) (turn_of talk); output = turn_output desk worker (turn_of talk) }
+take_turn desk worker talk = record { desk = after_turn desk worker (turned talk) (turn_of talk); output = Some (turn_output desk worker (turn_of talk)) }
 
 -- a line stood that opens no zone
 abbrev pub desk_stood : Desk → Desk
@@ -80,14 +80,19 @@ takes_query desk policy worker incoming = take_turn (desk_stood desk) worker (be
 abbrev pub desk_freed : Desk → ℕ → Desk
 desk_freed desk worker = record { script = desk.script; workers = with_slot desk.workers worker None; last_id = desk.last_id }
 
--- a session that waits goes on
-abbrev pub resumed : Turned → Talk → Option Turned
-resumed turn talk = if talk.waits then Some turn else None
+-- nothing is said of a worker that waits for nothing
+abbrev pub no_turn : Desk → Turned
+no_turn desk = record { desk = desk; output = None }
 
-abbrev pub fact_for : (Waiting → Fact) → Desk → ℕ → Option Waiting → Option Turned
-fact_for fact desk worker None = None
-fact_for fact desk worker (Some waiting) = resumed (take_turn (desk_freed desk worker) worker (given waiting.session (fact waiting))) waiting.session
+-- a session that asked goes on with what came
+abbrev pub resumed : (Question → Fact) → Desk → ℕ → Talk → Option Question → Turned
+resumed fact desk worker talk None = no_turn desk
+resumed fact desk worker talk (Some question) = take_turn desk worker (given talk (fact question))
 
--- a worker that waits gets the fact that it asked for
-abbrev pub gets_fact : (Waiting → Fact) → Desk → ℕ → Option Turned
-gets_fact fact desk worker = fact_for fact (desk_stood desk) worker (slot_at desk.workers worker)
+abbrev pub goes_on : (ℕ → Question → Fact) → Desk → ℕ → Option Waiting → Turned
+goes_on fact desk worker None = no_turn desk
+goes_on fact desk worker (Some waiting) = resumed (fact waiting.id) desk worker waiting.session waiting.session.asked
+
+-- a worker that waits gets what came for the question that it asked in a message of this identifier
+abbrev pub gets_fact : (ℕ → Question → Fact) → Desk → ℕ → Turned
+gets_fact fact desk worker = goes_on fact (desk_freed (desk_stood desk) worker) worker (slot_at desk.workers worker)

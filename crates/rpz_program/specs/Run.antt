@@ -6,7 +6,7 @@ use Rattle.rpz_program.specs.declared.script.Stop.{Stop}
 use Rattle.rpz_program.specs.declared.script.Stop.TheVariants as stop
 use Rattle.rpz_program.specs.declared.status.Status.{Status}
 use Rattle.rpz_program.specs.declared.status.Status.TheVariants.{Done, BadLine}
-use Rattle.rpz_program.specs.declared.why.Why.{Why}
+use Rattle.script_codec.specs.declared.why.Why.{Why}
 use Rattle.rpz_program.specs.Fold.{ran}
 use Rattle.rpz_program.specs.Lines.{ended_lines}
 use Rattle.rpz_program.specs.Replay.{IsPrefix, Moved}

@@ -1,10 +1,8 @@
 -- What a run ends with, as the number of the process and as text on standard error.
 use Rattle.std.specs.Prelude.{ℕ, List, ◌++◌, Option, Some, None, codes, decimal}
-use Rattle.script_codec.specs.Why as line
+use Rattle.script_codec.specs.Why.{why_text}
 use Rattle.rpz_program.specs.declared.status.Status.{Status}
 use Rattle.rpz_program.specs.declared.status.Status.TheVariants.{Done, Usage, BadLine, ReadFault, WriteFault, OutOfMemory}
-use Rattle.rpz_program.specs.declared.why.Why.{Why}
-use Rattle.rpz_program.specs.declared.why.Why.TheVariants.{Line, Unbuilt}
 
 abbrev pub code_of : Status → ℕ
 code_of Done = 0
@@ -13,10 +11,6 @@ code_of (BadLine number why) = 3
 code_of ReadFault = 4
 code_of WriteFault = 5
 code_of OutOfMemory = 9
-
-abbrev pub why_text : Why → List ℕ
-why_text (Line why) = line.why_text why
-why_text Unbuilt = codes "Unbuilt"
 
 -- nothing where the run is done
 abbrev pub text_of : Status → Option (List ℕ)

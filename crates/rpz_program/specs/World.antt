@@ -1,10 +1,10 @@
 -- The world of a script: what its lines depend on, and the transfers that were accepted; and what each line does to it.
-use Rattle.std.specs.Prelude.{ℕ, ◌==◌, if◌then◌else◌, List, [], ◌∷◌, ◌++◌, length, Option, Some, None, Result, Ok, Err, is_some}
+use Rattle.std.specs.Prelude.{ℕ, ◌==◌, if◌then◌else◌, List, [], ◌∷◌, ◌++◌, length, Option, Some, None, Result, Ok, Err}
 use Rattle.script_codec.specs.declared.line.Line.{Line}
 use Rattle.script_codec.specs.declared.line.Line.TheVariants.{Zone, Transfer, Full, Query, Give, Fail, Clock}
 use Rattle.script_codec.specs.declared.output.Output.{Output}
 use Rattle.script_codec.specs.declared.output.Output.TheVariants.{Taken}
-use Rattle.script_codec.specs.declared.why.Why as line_why
+use Rattle.script_codec.specs.declared.why.Why.{Why}
 use Rattle.script_codec.specs.declared.why.Why.TheVariants.{Lines, TooLong}
 use Rattle.script_codec.specs.Line.{unnumbered_line}
 use Rattle.script_codec.specs.Output.{output_line}
@@ -12,14 +12,12 @@ use Rattle.script_codec.specs.State.{new_state, with_zone}
 use Rattle.dns_message.specs.Request.{incoming_of}
 use Rattle.zone_rows.specs.declared.zone.Content.{Content}
 use Rattle.zone_rows.specs.declared.zone.PlainZone.{PlainZone}
-use Rattle.rpz_program.specs.declared.why.Why.{Why}
-use Rattle.rpz_program.specs.declared.why.Why.TheVariants as why
-use Rattle.query_session.specs.declared.fact.Fact.{Fact}
-use Rattle.query_session.specs.declared.fact.Fact.TheVariants.{Broken}
-use Rattle.query_session.specs.declared.fact.Why.TheVariants.{Failed}
-use Rattle.query_session.specs.Fact.{fact_from}
+use Rattle.upstream_link.specs.declared.fact.Fact.{Fact}
+use Rattle.upstream_link.specs.declared.fact.Fact.TheVariants.{Broken}
+use Rattle.upstream_link.specs.declared.fact.Why.TheVariants.{Failed}
+use Rattle.upstream_link.specs.Fact.{fact_from}
 use Rattle.query_session.specs.Policy.{PlainPolicy}
-use Rattle.rpz_program.specs.declared.waiting.Waiting.{Waiting}
+use Rattle.dns_message.specs.declared.question.Question.{Question}
 use Rattle.rpz_program.specs.Desk.{Desk, Turned, no_worker, desk_stood, takes_query, gets_fact}
 use Rattle.rpz_program.specs.Fold as fold
 use Rattle.rpz_program.specs.Offer.{Offer, takes, stays, offered_to}
@@ -62,69 +60,65 @@ stood world = record { desk = desk_stood world.desk; accepted = world.accepted }
 abbrev pub opened_desk : Desk → List (List ℕ) → Desk
 opened_desk desk origin = record { script = with_zone desk.script origin; workers = desk.workers; last_id = desk.last_id }
 
--- Opens the first zone. Nothing was accepted before.
-abbrev pub opens : World → List (List ℕ) → Option (World × Option Output)
-opens world origin = if length world.desk.script.origins == 0 then Some (record { desk = opened_desk world.desk origin; accepted = [] }, None) else None
+-- Opens the first zone. Nothing was accepted before. (The line of a second zone is refused.)
+abbrev pub opens : World → List (List ℕ) → World
+opens world origin = if length world.desk.script.origins == 0 then record { desk = opened_desk world.desk origin; accepted = [] } else world
 
 -- A transfer that is taken is one entry more. Any other stream changes nothing.
-abbrev pub accepts : World → ℕ → Option Offer → Option (World × Option Output)
-accepts world number None = None
-accepts world number (Some (stays output)) = Some (stood world, Some output)
+abbrev pub accepts : World → ℕ → Option Offer → World × Option Output
+accepts world number None = (stood world, None)
+accepts world number (Some (stays output)) = (stood world, Some output)
 accepts world number (Some (takes transfer)) =
     let next : World = record { desk = desk_stood world.desk; accepted = world.accepted ++ record { zone = number; transfer = transfer } ∷ [] } in
-    Some (next, taken (policy_of next) number)
+    (next, taken (policy_of next) number)
 
-abbrev pub does : World → Turned → Option (World × Option Output)
-does world turn = Some (record { desk = turn.desk; accepted = world.accepted }, Some turn.output)
+abbrev pub does : World → Turned → World × Option Output
+does world turn = (record { desk = turn.desk; accepted = world.accepted }, turn.output)
 
-abbrev pub may_do : World → Option Turned → Option (World × Option Output)
-may_do world None = None
-may_do world (Some turn) = does world turn
+-- nothing came for a question
+abbrev pub nothing_came : ℕ → Question → Fact
+nothing_came id question = Broken Failed
 
--- nothing came to a worker that asked
-abbrev pub nothing_came : Waiting → Fact
-nothing_came waiting = Broken Failed
+-- these bytes came for a question that was asked in a message of this identifier
+abbrev pub came_for : List ℕ → ℕ → Question → Fact
+came_for octets id question = fact_from octets id question
 
--- these bytes came to a worker that asked
-abbrev pub came_for : List ℕ → Waiting → Fact
-came_for octets waiting = fact_from octets waiting.id waiting.question
-
--- The world after a line, and what the line outputs; nothing where it isn't built yet. A stream is a transfer that is
--- taken, or names its fault and changes nothing. A query is answered by the policy after the transfers accepted so
--- far, which the worker keeps while it waits. Neither `full` nor `clock` changes anything yet.
-unfoldable pub world_step : World → Line → Option (World × Option Output)
-world_step world (Zone origin) = opens world origin
+-- The world after a line, and what the line outputs. A stream is a transfer that is taken, or names its fault and changes
+-- nothing. A query is answered by the policy after the transfers accepted so far, which the worker keeps while it waits.
+-- Neither `full` nor `clock` changes anything yet. (The line of a zone or worker that is none is refused, and so is a fact
+-- for a worker that asked nothing.)
+unfoldable pub world_step : World → Line → World × Option Output
+world_step world (Zone origin) = (opens world origin, None)
 world_step world (Transfer number stream) = accepts world number (offered (policy_of world) number stream)
-world_step world (Full number) = Some (stood world, None)
+world_step world (Full number) = (stood world, None)
 world_step world (Query worker transport client message) = does world (takes_query world.desk (policy_of world) worker (incoming_of message client transport))
-world_step world (Give worker message) = may_do world (gets_fact (came_for message) world.desk worker)
-world_step world (Fail worker) = may_do world (gets_fact nothing_came world.desk worker)
-world_step world (Clock seconds) = Some (stood world, None)
+world_step world (Give worker message) = does world (gets_fact (came_for message) world.desk worker)
+world_step world (Fail worker) = does world (gets_fact nothing_came world.desk worker)
+world_step world (Clock seconds) = (stood world, None)
 
 abbrev pub output_of : Option Output → List ℕ
 output_of None = []
 output_of (Some output) = output_line output
 
 -- what a line does, written out
-abbrev pub told : {W : Type 0} → Option (W × Option Output) → Result (W × List ℕ) Why
-told None = Err why.Unbuilt
-told (Some next) = Ok (next.0, output_of next.1)
+abbrev pub told : {W : Type 0} → W × Option Output → W × List ℕ
+told next = (next.0, output_of next.1)
 
 -- what the bytes of a line do: nothing where the line is skipped
-abbrev pub stepped : {W : Type 0} → (W → Line → Option (W × Option Output)) → W → Result (Option Line) line_why.Why → Result (W × List ℕ) Why
-stepped does world (Err refused) = Err (why.Line refused)
+abbrev pub stepped : {W : Type 0} → (W → Line → W × Option Output) → W → Result (Option Line) Why → Result (W × List ℕ) Why
+stepped does world (Err why) = Err why
 stepped does world (Ok None) = Ok (world, [])
-stepped does world (Ok (Some line)) = told (does world line)
+stepped does world (Ok (Some line)) = Ok (told (does world line))
 
 abbrev pub step : World → List ℕ → Result (World × List ℕ) Why
 step world line = stepped world_step world (unnumbered_line line world.desk.script)
 
 -- why a line is refused whatever it says
 abbrev pub too_many : Why
-too_many = why.Line Lines
+too_many = Lines
 
 abbrev pub too_long : Why
-too_long = why.Line TooLong
+too_long = TooLong
 
 -- The transcript of a script: the outputs of its lines from the start on, up to the first that is refused.
 abbrev pub transcript : List ℕ → List ℕ

@@ -1,10 +1,10 @@
 //! What lines depend on but for the policy, and the turns of workers.
 
-ghost use Rattle.std.specs.Prelude.{◌≡◌, List, length, IfOk, OnOk};
+ghost use Rattle.std.specs.Prelude.{◌≡◌, List, length, Some, IfOk, IsSome, OnOk};
 ghost use Rattle.dns_message.specs.Request.{incoming_of};
 ghost use Rattle.rpz_program.specs.CoreSteps.{MayTakeTurn, TakesTurn};
 ghost use Rattle.rpz_program.specs.Desk.{after_turn, desk_freed, desk_stood, gets_fact, resumed, slot_at, take_turn as turn_taken, takes_query, turn_output};
-ghost use Rattle.rpz_program.specs.World.{came_for, new_desk, nothing_came, opened_desk};
+ghost use Rattle.rpz_program.specs.World.{came_for, new_desk, nothing_came as nothing, opened_desk};
 ghost use Rattle.query_session.specs.declared.session.Turn.TheVariants as turns;
 ghost use Rattle.query_session.specs.Session.{given};
 ghost use Rattle.query_session.specs.Talk.{Talk};
@@ -13,11 +13,13 @@ use crate::waiting::{Waiting, none_waiting, put_waiting, take_waiting};
 use dns_message::Question;
 use dns_name::{Name, Octets};
 use ip_prefix::{Addr, Transport};
-use query_session::{Fact, Policy, Said, Session, Turn, Why, fact_of, question_bytes};
+use query_session::{Policy, Session, Turn};
+use reply_build::Said;
 use script_codec::{Output, ScriptState};
 use std::alloc::{AllocError, Global};
 use std::marker::Model;
 use std::sync::Arc;
+use upstream_link::{Fact, Why, fact_of, question_bytes};
 
 /// What lines depend on but for the policy: what is kept from line to line, what workers wait with, and the
 /// identifier of the last question. Contracts see the three.
@@ -78,16 +80,12 @@ impl Desk {
         session: Session,
         question: Question,
     ) -> Result<Output, AllocError>
-        ensures { TakesTurn (record { desk = after_turn self.old worker session (turns.Ask question); output = turn_output self.old worker (turns.Ask question) }) result self.new }
+        ensures { TakesTurn (record { desk = after_turn self.old worker session (turns.Ask question); output = Some (turn_output self.old worker (turns.Ask question)) }) result self.new }
     {
         let id = self.last_id.wrapping_add(1);
         let message = question_bytes(alloc, id, &question)?;
         self.script.waits(worker);
-        let waiting = Waiting {
-            session,
-            question,
-            id,
-        };
+        let waiting = Waiting { session, id };
         put_waiting(&mut self.workers, worker, waiting);
         self.last_id = id;
         Ok(Output::Ask { worker, message })
@@ -130,12 +128,12 @@ impl Desk {
         message: &[u8],
         client: Addr,
         transport: Transport,
-    ) -> Result<Output, AllocError>
-        ensures { TakesTurn (takes_query self.old policy.value worker (incoming_of message.now client transport)) result self.new }
+    ) -> Result<Option<Output>, AllocError>
+        ensures { MayTakeTurn (takes_query self.old policy.value worker (incoming_of message.now client transport)) result self.new }
     {
         self.script.other_line();
         let session = Session::start(alloc, policy, message, client, transport)?;
-        self.take_turn(alloc, worker, session)
+        Ok(Some(self.take_turn(alloc, worker, session)?))
     }
 
     // Takes what a worker waits with.
@@ -146,7 +144,7 @@ impl Desk {
         take_waiting(&mut self.workers, worker)
     }
 
-    // A worker's session gets a fact.
+    // A worker's session gets a fact, which it asked for.
     fn resume(
         &mut self,
         alloc: Global,
@@ -154,13 +152,45 @@ impl Desk {
         mut session: Session,
         fact: Fact,
     ) -> Result<Option<Output>, AllocError>
-        ensures { MayTakeTurn (resumed (turn_taken self.old worker (given session fact)) session) result self.new }
+        requires { IsSome session.asked }
+        ensures { MayTakeTurn (turn_taken self.old worker (given session fact)) result self.new }
     {
+        session.give(fact)?;
+        Ok(Some(self.take_turn(alloc, worker, session)?))
+    }
+
+    // These bytes came for what a session asked in a message of this identifier.
+    fn answer_came(
+        &mut self,
+        alloc: Global,
+        worker: u32,
+        waiting: Waiting,
+        message: Octets,
+    ) -> Result<Option<Output>, AllocError>
+        ensures { MayTakeTurn (resumed (came_for message waiting.id) self.old worker waiting.session waiting.session.asked) result self.new }
+    {
+        let Waiting { session, id } = waiting;
+        let Some(question) = session.asked() else {
+            return Ok(None);
+        };
+        let fact = fact_of(alloc, message, id, question)?;
+        self.resume(alloc, worker, session, fact)
+    }
+
+    // Nothing came for what a session asked.
+    fn nothing_came(
+        &mut self,
+        alloc: Global,
+        worker: u32,
+        waiting: Waiting,
+    ) -> Result<Option<Output>, AllocError>
+        ensures { MayTakeTurn (resumed (nothing waiting.id) self.old worker waiting.session waiting.session.asked) result self.new }
+    {
+        let Waiting { session, .. } = waiting;
         if !session.waits() {
             return Ok(None);
         }
-        session.give(fact);
-        Ok(Some(self.take_turn(alloc, worker, session)?))
+        self.resume(alloc, worker, session, Fact::Broken(Why::Failed))
     }
 
     /// These bytes came for what a worker asked; `None` where it didn't.
@@ -175,29 +205,18 @@ impl Desk {
         self.script.other_line();
         match self.free(worker) {
             None => Ok(None),
-            Some(
-                Waiting {
-                    session,
-                    question,
-                    id,
-                },
-            ) => {
-                let fact = fact_of(alloc, message, id, &question)?;
-                self.resume(alloc, worker, session, fact)
-            }
+            Some(waiting) => self.answer_came(alloc, worker, waiting, message),
         }
     }
 
     /// Nothing came for what a worker asked; `None` where it didn't.
     pub fn take_failure(&mut self, alloc: Global, worker: u32) -> Result<Option<Output>, AllocError>
-        ensures { MayTakeTurn (gets_fact nothing_came self.old worker) result self.new }
+        ensures { MayTakeTurn (gets_fact nothing self.old worker) result self.new }
     {
         self.script.other_line();
         match self.free(worker) {
             None => Ok(None),
-            Some(Waiting { session, .. }) => {
-                self.resume(alloc, worker, session, Fact::Broken(Why::Failed))
-            }
+            Some(waiting) => self.nothing_came(alloc, worker, waiting),
         }
     }
 }

@@ -1,9 +1,17 @@
 //! `rpz`: answers the queries of a script by a response policy zone (draft-vixie-dnsop-dns-rpz).
 #![tactic(auto)]
 
+#[cfg(test)]
+mod capture_script;
+#[cfg(test)]
+mod capture_tests;
+#[cfg(test)]
+mod capture_transcript;
 mod desk;
 mod policy_core;
 mod reader;
+#[cfg(test)]
+mod rule_tests;
 mod run;
 mod script;
 #[cfg(test)]
@@ -14,7 +22,6 @@ mod tests;
 mod transfer_bytes;
 mod transfers;
 mod waiting;
-mod why;
 
 use crate::run::run;
 use edge_io::{ReaderSource, WriterSink};

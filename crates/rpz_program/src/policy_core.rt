@@ -1,19 +1,18 @@
 //! The machine that answers the lines of a script: a policy of one zone, and workers that answer by it.
 
-ghost use Rattle.std.specs.Prelude.{◌≡◌, IfOk};
+ghost use Rattle.std.specs.Prelude.{◌≡◌, IfOk, OnOk};
 ghost use Rattle.dns_message.specs.Request.{incoming_of};
-ghost use Rattle.rpz_program.specs.CoreSteps.{CoreSteps, kept_does, kept_may_do, kept_opens, kept_step, none_kept, policy_takes, with_policy};
+ghost use Rattle.rpz_program.specs.CoreSteps.{Makes, kept_does, kept_opens, kept_step, none_kept, policy_takes, with_policy};
 ghost use Rattle.rpz_program.specs.Desk.{gets_fact, takes_query};
 ghost use Rattle.rpz_program.specs.World.{came_for, nothing_came, offered};
 
 use crate::desk::Desk;
 use crate::script::{AnswerError, Machine};
 use crate::transfers::offer_stream;
-use crate::why::Why;
 use dns_name::{Name, Octets};
 use ip_prefix::{Addr, Transport};
 use query_session::{Policy, PolicyZone};
-use script_codec::{Line, Output, ReadError, read_unnumbered, write_output};
+use script_codec::{Line, Output, ReadError, Why, read_unnumbered, write_output};
 use std::alloc::{AllocError, Global};
 use std::marker::Model;
 use std::sync::Arc;
@@ -42,7 +41,7 @@ impl From<ReadError> for AnswerError<Why> {
     fn from(error: ReadError) -> Self {
         match error {
             ReadError::OutOfMemory => AnswerError::OutOfMemory,
-            ReadError::Refused(why) => AnswerError::Refused(Why::Line(why)),
+            ReadError::Refused(why) => AnswerError::Refused(why),
         }
     }
 }
@@ -60,11 +59,11 @@ impl Machine for Core {
     ghost too_long = { world.too_long };
 
     fn too_many() -> Why {
-        Why::Line(script_codec::Why::Lines)
+        Why::Lines
     }
 
     fn too_long() -> Why {
-        Why::Line(script_codec::Why::TooLong)
+        Why::TooLong
     }
 
     fn answer(
@@ -95,11 +94,14 @@ impl Core {
 
     // What a line does, and what it outputs.
     #[tactic(auto, unfolding(crate::specs::CoreSteps::kept_step))]
-    fn step(&mut self, alloc: Global, line: Line) -> Result<Option<Output>, AnswerError<Why>>
-        ensures { CoreSteps (kept_step self.old line) result self.new }
+    fn step(&mut self, alloc: Global, line: Line) -> Result<Option<Output>, AllocError>
+        ensures { Makes (kept_step self.old line) result self.new }
     {
         match line {
-            Line::Zone { origin } => self.open(alloc, origin),
+            Line::Zone { origin } => {
+                self.open(alloc, origin)?;
+                Ok(None)
+            }
             Line::Transfer { zone, stream } => self.take(alloc, zone, stream),
             Line::Query {
                 worker,
@@ -117,16 +119,16 @@ impl Core {
     }
 
     // Opens the zone, where none is opened.
-    fn open(&mut self, alloc: Global, origin: Name) -> Result<Option<Output>, AnswerError<Why>>
-        ensures { CoreSteps (kept_opens self.old origin) result self.new }
+    fn open(&mut self, alloc: Global, origin: Name) -> Result<(), AllocError>
+        ensures { OnOk result (self.new ≡ kept_opens self.old origin) }
     {
         if self.desk.script().origins.len() != 0 {
-            return Err(AnswerError::Refused(Why::Unbuilt));
+            return Ok(());
         }
         let policy = Arc::new(alloc, Policy::of(PolicyZone::new(origin.clone()?)))?;
         self.desk.zone_opened(origin)?;
         self.policy = policy;
-        Ok(None)
+        Ok(())
     }
 
     // Offers a stream to the zone of this number.
@@ -135,8 +137,8 @@ impl Core {
         alloc: Global,
         number: u32,
         stream: Octets,
-    ) -> Result<Option<Output>, AnswerError<Why>>
-        ensures { CoreSteps (with_policy self.old (policy_takes self.old.policy number (offered self.old.policy number stream))) result self.new }
+    ) -> Result<Option<Output>, AllocError>
+        ensures { Makes (with_policy self.old (policy_takes self.old.policy number (offered self.old.policy number stream))) result self.new }
     {
         self.desk.other_line();
         offer_stream(alloc, &mut self.policy, number, stream)
@@ -150,14 +152,12 @@ impl Core {
         message: &[u8],
         client: Addr,
         transport: Transport,
-    ) -> Result<Option<Output>, AnswerError<Why>>
-        ensures { CoreSteps (kept_does self.old (takes_query self.old.desk self.old.policy worker (incoming_of message.now client transport))) result self.new }
+    ) -> Result<Option<Output>, AllocError>
+        ensures { Makes (kept_does self.old (takes_query self.old.desk self.old.policy worker (incoming_of message.now client transport))) result self.new }
     {
         let policy = Arc::try_clone(&self.policy)?;
-        let output = self
-            .desk
-            .take_query(alloc, policy, worker, message, client, transport)?;
-        Ok(Some(output))
+        self.desk
+            .take_query(alloc, policy, worker, message, client, transport)
     }
 
     // These bytes came for what a worker asked.
@@ -166,22 +166,16 @@ impl Core {
         alloc: Global,
         worker: u32,
         message: Octets,
-    ) -> Result<Option<Output>, AnswerError<Why>>
-        ensures { CoreSteps (kept_may_do self.old (gets_fact (came_for message) self.old.desk worker)) result self.new }
+    ) -> Result<Option<Output>, AllocError>
+        ensures { Makes (kept_does self.old (gets_fact (came_for message) self.old.desk worker)) result self.new }
     {
-        match self.desk.take_answer(alloc, worker, message)? {
-            None => Err(AnswerError::Refused(Why::Unbuilt)),
-            Some(output) => Ok(Some(output)),
-        }
+        self.desk.take_answer(alloc, worker, message)
     }
 
     // Nothing came for what a worker asked.
-    fn fail(&mut self, alloc: Global, worker: u32) -> Result<Option<Output>, AnswerError<Why>>
-        ensures { CoreSteps (kept_may_do self.old (gets_fact nothing_came self.old.desk worker)) result self.new }
+    fn fail(&mut self, alloc: Global, worker: u32) -> Result<Option<Output>, AllocError>
+        ensures { Makes (kept_does self.old (gets_fact nothing_came self.old.desk worker)) result self.new }
     {
-        match self.desk.take_failure(alloc, worker)? {
-            None => Err(AnswerError::Refused(Why::Unbuilt)),
-            Some(output) => Ok(Some(output)),
-        }
+        self.desk.take_failure(alloc, worker)
     }
 }

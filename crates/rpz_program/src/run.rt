@@ -9,8 +9,8 @@ ghost use Rattle.rpz_program.specs.World.{transcript, verdict};
 use crate::policy_core::Core;
 use crate::script::{Stop, replay};
 use crate::status::Status;
-use crate::why::Why;
 use edge_io::{Bytes, ListSink, Sink, Source};
+use script_codec::Why;
 use std::alloc::{AllocError, Global};
 
 /// Runs the command that the words name: `replay` reads a script from the source, and writes a line for
@@ -46,7 +46,7 @@ pub fn run<S: Source, K: Sink>(
     ensures source_failed { result ≡ Status.ReadFault → Rose (S.faults script.old) (S.faults script.new) }
     ensures sink_failed { result ≡ Status.WriteFault → Rose (K.faults out.old) (K.faults out.new) }
 
-    // With no fault and with memory, a script of the form is done, and another is refused at its first bad line.
+    // With no fault and with memory, a script of the grammar is done, and another is refused at its first bad line.
     ensures complete { IsReplay words.now → (Rose (S.faults script.old) (S.faults script.new) → ⊥) → (Rose (K.faults out.old) (K.faults out.new) → ⊥) →
         result ≢ Status.OutOfMemory → IfSome (S.left script.old) (λ bytes. IsVerdict (verdict bytes) result) }
 {

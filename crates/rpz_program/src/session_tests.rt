@@ -2,8 +2,7 @@
 
 use super::run::replayed;
 use super::status::Status;
-use super::why::Why;
-use script_codec::Why as LineWhy;
+use script_codec::Why;
 use std::alloc::{AllocError, Global};
 use std::test::Fail;
 
@@ -273,16 +272,16 @@ fn workers_wait(rt: HostRuntime) -> Result<(), Fail> {
 #[test]
 fn workers_are_busy_or_idle(rt: HostRuntime) -> Result<(), Fail> {
     let alloc = rt.alloc();
-    let cases: [(&[&str], u64, LineWhy); 5] = [
-        (&[QUERY, QUERY], 2, LineWhy::Busy),
-        (&[QUERY, GIVE, GIVE], 3, LineWhy::Idle),
-        (&[QUERY, "fail 0\n", "fail 0\n"], 3, LineWhy::Idle),
-        (&[QUERY, GIVE_1], 2, LineWhy::Idle),
-        (&[QUERY, "give 0 zz\n"], 2, LineWhy::Hex),
+    let cases: [(&[&str], u64, Why); 5] = [
+        (&[QUERY, QUERY], 2, Why::Busy),
+        (&[QUERY, GIVE, GIVE], 3, Why::Idle),
+        (&[QUERY, "fail 0\n", "fail 0\n"], 3, Why::Idle),
+        (&[QUERY, GIVE_1], 2, Why::Idle),
+        (&[QUERY, "give 0 zz\n"], 2, Why::Hex),
     ];
     for (script, line, why) in &cases {
         let got = transcript(alloc, script)?;
-        let why = Why::Line(*why);
+        let why = *why;
         assert_eq!(rt;
             got.err(),
             Some(Status::BadLine { line: *line, why }),

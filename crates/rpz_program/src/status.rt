@@ -3,7 +3,7 @@
 ghost use Rattle.std.specs.Prelude.{◌≡◌, IfOk, option_map, string_bytes};
 ghost use Rattle.rpz_program.specs.Status.{code_of, text_of};
 
-use crate::why::Why;
+use script_codec::Why;
 use std::alloc::{AllocError, Global};
 
 /// What a run ends with.

@@ -2,9 +2,8 @@
 
 use super::run::{replayed, run};
 use super::status::Status;
-use super::why::Why;
 use edge_io::{Bytes, Discard, ListSink, ListSource};
-use script_codec::Why as LineWhy;
+use script_codec::Why;
 use std::alloc::{AllocError, Global};
 use std::test::Fail;
 
@@ -35,42 +34,32 @@ const OTHER_ASK: &str = "ask 0 000101000001000000000000056f74686572076578616d706
 
 const BUSY_4: Status = Status::BadLine {
     line: 4,
-    why: Why::Line(LineWhy::Busy),
+    why: Why::Busy,
 };
 
 const WORD_1: Status = Status::BadLine {
     line: 1,
-    why: Why::Line(LineWhy::Word),
+    why: Why::Word,
 };
 
 const NO_ZONE_1: Status = Status::BadLine {
     line: 1,
-    why: Why::Line(LineWhy::NoZone),
+    why: Why::NoZone,
 };
 
 const IDLE_2: Status = Status::BadLine {
     line: 2,
-    why: Why::Line(LineWhy::Idle),
+    why: Why::Idle,
 };
 
 const MANY_2: Status = Status::BadLine {
     line: 2,
-    why: Why::Line(LineWhy::Many),
+    why: Why::Many,
 };
 
 const LATE_2: Status = Status::BadLine {
     line: 2,
-    why: Why::Line(LineWhy::Late),
-};
-
-const UNBUILT_2: Status = Status::BadLine {
-    line: 2,
-    why: Why::Unbuilt,
-};
-
-const UNBUILT_3: Status = Status::BadLine {
-    line: 3,
-    why: Why::Unbuilt,
+    why: Why::Late,
 };
 
 fn words(alloc: Global) -> Result<Vec<String>, AllocError> {
@@ -79,7 +68,7 @@ fn words(alloc: Global) -> Result<Vec<String>, AllocError> {
     Ok(words)
 }
 
-fn joined(alloc: Global, parts: &[&str]) -> Result<Vec<u8>, AllocError> {
+pub fn joined(alloc: Global, parts: &[&str]) -> Result<Vec<u8>, AllocError> {
     let mut script = Vec::new(alloc);
     for part in parts {
         script.extend_from_slice(part.as_bytes())?;
@@ -234,7 +223,7 @@ fn words_and_texts(rt: HostRuntime) -> Result<(), Fail> {
     for (status, code, text) in [
         (Status::Done, 0, None),
         (Status::Usage, 2, Some("rpz: usage")),
-        (UNBUILT_3, 3, Some("rpz: line 3: Unbuilt")),
+        (BUSY_4, 3, Some("rpz: line 4: Busy")),
         (WORD_1, 3, Some("rpz: line 1: Word")),
         (Status::ReadFault, 4, Some("rpz: read fault")),
         (Status::WriteFault, 5, Some("rpz: write fault")),
@@ -300,13 +289,17 @@ fn said_of(alloc: Global, records: &[&str]) -> Result<Result<Vec<u8>, Status>, A
 // Which streams are taken, and with how many rows, and how the others are refused.
 #[test]
 fn transfers_are_taken_or_refused(rt: HostRuntime) -> Result<(), Fail> {
-    let cases: [(&[&str], &str); 15] = [
+    let cases: [(&[&str], &str); 19] = [
         (&[SOA, BAD, SOA], "taken 1 1 1\n"),
         (&[SOA, SOA], "taken 1 1 0\n"),
         (&[SOA, BAD, BAD_AGAIN, SOA], "taken 1 1 1\n"),
         (&[SOA, RESERVED_FIRST, BAD, SOA], "taken 1 1 2\n"),
         (&[SOA_2, SOA_2], "taken 1 2 0\n"),
         (&[SOA, COMPRESSED, SOA], "taken 1 1 1\n"),
+        (&[SOA, ASTERISK, SOA], "taken 1 1 1\n"),
+        (&[SOA, RESERVED, SOA], "taken 1 1 1\n"),
+        (&[SOA, APEX, SOA], "taken 1 1 1\n"),
+        (&[SOA, TO_A_NAME, SOA], "taken 1 1 1\n"),
         (&[SOA, SOA_2], "refused 1 SoaDiffers 1 2\n"),
         (&[SOA], "refused 1 EndedEarly\n"),
         (&[], "refused 1 EndedEarly\n"),
@@ -321,22 +314,6 @@ fn transfers_are_taken_or_refused(rt: HostRuntime) -> Result<(), Fail> {
         let got = said_of(rt.alloc(), records)?;
         let got = got.ok().ok_or("a transcript")?;
         assert_eq!(rt; got.as_slice(), text.as_bytes(), "{records:?}");
-    }
-    Ok(())
-}
-
-// Rows that aren't built yet.
-#[test]
-fn other_rows_are_not_built(rt: HostRuntime) -> Result<(), Fail> {
-    let cases: [&[&str]; 4] = [
-        &[SOA, ASTERISK, SOA],
-        &[SOA, RESERVED, SOA],
-        &[SOA, APEX, SOA],
-        &[SOA, TO_A_NAME, SOA],
-    ];
-    for records in &cases {
-        let got = said_of(rt.alloc(), records)?;
-        assert_eq!(rt; got.err(), Some(UNBUILT_2), "{records:?}");
     }
     Ok(())
 }

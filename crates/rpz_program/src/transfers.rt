@@ -3,19 +3,17 @@
 ghost use Rattle.std.specs.Prelude.{◌≡◌, ◌∷◌, [], Some, option_copied, IfSome};
 ghost use Rattle.std.specs.Arc.{arc_value};
 ghost use Rattle.zone_rows.specs.Zone.{applied};
-ghost use Rattle.rpz_program.specs.CoreSteps.{CoreSteps, Offers, policy_takes};
-ghost use Rattle.rpz_program.specs.Offer.{by_applied, offered_to};
+ghost use Rattle.rpz_program.specs.CoreSteps.{Makes, Offers, policy_takes};
+ghost use Rattle.rpz_program.specs.Offer.{by_applied, zone_offered};
 ghost use Rattle.rpz_program.specs.Policy.{zone_at as zone_in};
 ghost use Rattle.rpz_program.specs.World.{offered, taken_content};
 
-use crate::script::AnswerError;
 use crate::transfer_bytes::read_stream;
-use crate::why::Why;
 use axfr_apply::{Taken, TransferError};
 use dns_name::Octets;
 use query_session::{Policy, PolicyZone};
 use script_codec::{Output, Refusal};
-use std::alloc::Global;
+use std::alloc::{AllocError, Global};
 use std::sync::Arc;
 use zone_rows::{ApplyError, Transfer};
 
@@ -59,22 +57,16 @@ fn offer_transfer(
     zone: &PolicyZone,
     number: u32,
     transfer: Transfer,
-) -> Result<Offered, AnswerError<Why>>
+) -> Result<Offered, AllocError>
     ensures { Offers zone.now (by_applied number transfer (applied zone.now transfer)) result }
 {
     match zone.after(alloc, transfer) {
-        Ok(next) => {
-            if next.is_built() {
-                Ok(Offered::Takes(next))
-            } else {
-                Err(AnswerError::Refused(Why::Unbuilt))
-            }
-        }
+        Ok(next) => Ok(Offered::Takes(next)),
         Err(ApplyError::Fault(fault)) => Ok(Offered::Stays(Output::Refused {
             zone: number,
             why: Refusal::Apply(fault),
         })),
-        Err(ApplyError::OutOfMemory) => Err(AnswerError::OutOfMemory),
+        Err(ApplyError::OutOfMemory) => Err(AllocError),
     }
 }
 
@@ -84,8 +76,8 @@ fn offer(
     zone: &PolicyZone,
     number: u32,
     stream: Octets,
-) -> Result<Offered, AnswerError<Why>>
-    ensures { Offers zone.now (offered_to number (Some zone.now) stream) result }
+) -> Result<Offered, AllocError>
+    ensures { Offers zone.now (zone_offered number zone.now stream) result }
 {
     match read_stream(alloc, stream, zone.origin(), zone.serial()) {
         Ok(Taken::Current { theirs }) => Ok(Offered::Stays(Output::Current {
@@ -97,22 +89,22 @@ fn offer(
             zone: number,
             why: Refusal::Transfer(fault),
         })),
-        Err(TransferError::OutOfMemory) => Err(AnswerError::OutOfMemory),
+        Err(TransferError::OutOfMemory) => Err(AllocError),
     }
 }
 
 /// Offers a stream to the zone of a number, which takes the transfer that it is, or says why it stays as it is. A
-/// policy that is held elsewhere stays as it is in any case.
+/// policy that is held elsewhere stays as it is in any case. `None` where there is no such zone.
 pub fn offer_stream(
     alloc: Global,
     policy: &mut Arc<Policy, Global>,
     number: u32,
     stream: Octets,
-) -> Result<Option<Output>, AnswerError<Why>>
-    ensures { CoreSteps (policy_takes (arc_value policy.old) number (offered (arc_value policy.old) number stream)) result (arc_value policy.new) }
+) -> Result<Option<Output>, AllocError>
+    ensures { Makes (policy_takes (arc_value policy.old) number (offered (arc_value policy.old) number stream)) result (arc_value policy.new) }
 {
     let Some(zone) = zone_at(policy, number) else {
-        return Err(AnswerError::Refused(Why::Unbuilt));
+        return Ok(None);
     };
     match offer(alloc, zone, number, stream)? {
         Offered::Stays(output) => Ok(Some(output)),

@@ -3,16 +3,14 @@
 ghost use Rattle.std.specs.Prelude.{◌≡◌, ◌∷◌, [], ◌++◌, replicate, Some, None, IfOk};
 ghost use Rattle.rpz_program.specs.Desk.{no_worker, with_slot, slot_at};
 
-use dns_message::Question;
 use query_session::Session;
 use script_codec::WORKERS;
 use std::alloc::{AllocError, Global};
 
-/// What a worker waits with: its session, and the question that it asked with its identifier.
+/// What a worker waits with: its session, and the identifier of the message that asked its question.
 #[derive(Drop)]
 pub struct Waiting {
     pub session: Session,
-    pub question: Question,
     pub id: u16,
 }
 

@@ -1,5 +1,5 @@
 -- What stands at the triggers of a zone, for each kind of trigger in order of precedence.
-use Rattle.std.specs.Prelude.{ℕ, List}
+use Rattle.std.specs.Prelude.{List}
 use Rattle.dns_name.specs.Alike.{PlainPattern}
 use Rattle.ip_prefix.specs.Prefix.{PlainPrefix}
 use Rattle.zone_rows.specs.Row.{PlainRow}

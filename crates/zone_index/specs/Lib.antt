@@ -1,3 +1,5 @@
 pub mod Kinds
+pub mod Addresses
+pub mod Earlier
 pub mod Rules
 pub mod Triggers

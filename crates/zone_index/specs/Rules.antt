@@ -3,8 +3,7 @@ use Rattle.std.specs.Prelude.{ℕ, if◌then◌else◌, List, [], ◌∷◌, ◌
 use Rattle.std.specs.BTreeMap.{insert_entry, is_at}
 use Rattle.std.specs.Map.{lookup, remove_entry}
 use Rattle.std.specs.declared.cmp.Ordering.{Ordering}
-use Rattle.dns_name.specs.Alike.{PlainPattern}
-use Rattle.ip_prefix.specs.Prefix.{PlainPrefix, prefix_order}
+use Rattle.ip_prefix.specs.Prefix.{prefix_order}
 use Rattle.qname_index.specs.Best.{pattern_order}
 use Rattle.trigger_codec.specs.Decode.{trigger}
 use Rattle.trigger_codec.specs.declared.inert.Inert.{Inert}

@@ -4,12 +4,15 @@ ghost use Rattle.std.specs.Prelude.{◌≡◌, IfOk};
 ghost use Rattle.std.specs.Option.{option_map};
 ghost use Rattle.prefix_index.specs.Longest.{longest};
 ghost use Rattle.qname_index.specs.Best.{best};
+ghost use Rattle.zone_index.specs.Addresses.{first_about as first_of, has_some};
 ghost use Rattle.zone_index.specs.Rules.{rules_in, rules_of};
 
+use crate::addresses::first_about;
 use crate::groups::Groups;
 use crate::kinds::{NameKind, PrefixKind, name_rules, prefix_rules};
 use action_codec::Action;
 use dns_name::{Name, Pattern};
+use dns_record::Record;
 use ip_prefix::{Addr, Prefix};
 use prefix_index::PrefixMap;
 use qname_index::NameMap;
@@ -77,11 +80,19 @@ impl Rules {
         self.qname.best(alloc, name)
     }
 
-    /// The rule that comes first of those about an answer with this address.
-    pub fn resp_ip(&self, addr: Addr) -> Option<(Prefix, &Action)>
-        ensures { option_map (λ e. (e.0, e.1.now)) result ≡ longest addr self.now.resp_ip }
+    /// Whether there are rules about the addresses of answers.
+    pub fn has_resp_ip(&self) -> bool
+        ensures { result ≡ has_some self.now.resp_ip }
     {
-        self.resp_ip.longest(addr)
+        self.resp_ip.len() > 0
+    }
+
+    /// The rule that comes first of those about an answer: its prefix contains some address that the records hold
+    /// for the name. Its time is linear in the number of records.
+    pub fn resp_ip(&self, owner: &Name, records: &[Record]) -> Option<(Prefix, &Action)>
+        ensures { option_map (λ e. (e.0, e.1.now)) result ≡ first_of owner.now records.now self.now.resp_ip }
+    {
+        first_about(&self.resp_ip, owner, records)
     }
 
     /// The rule that comes first of those about a name server of this name. It takes the memory of one name.

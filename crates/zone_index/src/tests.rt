@@ -4,7 +4,7 @@
 use super::*;
 use action_codec::Action;
 use dns_name::Name;
-use dns_record::{class, read_record};
+use dns_record::{Record, class, read_record};
 use ip_prefix::Addr;
 use std::alloc::Global;
 use std::test::Fail;
@@ -117,40 +117,69 @@ fn names_meet_their_rules(rt: HostRuntime) -> Result<(), Fail> {
     Ok(())
 }
 
-#[test]
-fn addresses_meet_their_rules(rt: HostRuntime) -> Result<(), Fail> {
-    let rules = rules(&rt)?;
-    // 192.0.2.1, 192.0.2.2, 192.0.3.1, 2001:db8::1 and 2001:db9::1
-    for (addr, wanted) in [
-        (Addr::V4(0xc000_0201), "NXDOMAIN"),
-        (Addr::V4(0xc000_0202), "DROP"),
-        (Addr::V4(0xc000_0301), "none"),
-        (
-            Addr::V6(0x2001_0db8_0000_0000_0000_0000_0000_0001),
-            "NODATA",
-        ),
-        (Addr::V6(0x2001_0db9_0000_0000_0000_0000_0000_0001), "none"),
-    ] {
-        let found = match rules.resp_ip(addr) {
-            Some((_, action)) => word(action),
-            None => "none",
-        };
-        assert_eq!(rt; found, wanted);
+// The record of `x.test` with this address of version 4 or 6.
+fn address(alloc: Global, addr: &[u8]) -> Result<Record, Fail> {
+    let rtype = if addr.len() == 4 { 1 } else { 28 };
+    let mut message = Vec::from_slice(alloc, b"\x01x\x04test\0")?;
+    message.extend_from_slice(&[0, rtype, 0, 1, 0, 0, 0, 60, 0])?;
+    message.push((addr.len() % 256) as u8)?;
+    message.extend_from_slice(addr)?;
+    let (rr, _) = read_record(alloc, message.as_slice(), 0)?;
+    Ok(rr)
+}
+
+// What the rule does that comes first for an answer to the name with these addresses of `x.test`.
+fn answered(
+    rt: &HostRuntime,
+    rules: &Rules,
+    name: &[u8],
+    addrs: [&[u8]; 2],
+) -> Result<&'static str, Fail> {
+    let alloc = rt.alloc();
+    let mut records = Vec::new(alloc);
+    for addr in addrs {
+        records.push(address(alloc, addr)?)?;
     }
-    // 10.1.2.3, 11.1.2.3, and 192.0.2.53
-    assert!(rt;
-        matches!(
-            rules.client(Addr::V4(0x0a01_0203)),
-            Some((_, Action::PassThru))
-        )
-    );
+    let name = Name::from_text(alloc, name)?;
+    match rules.resp_ip(&name, records.as_slice()) {
+        Some((_, action)) => Ok(word(action)),
+        None => Ok("none"),
+    }
+}
+
+#[test]
+fn answers_meet_their_rules(rt: HostRuntime) -> Result<(), Fail> {
+    let rules = rules(&rt)?;
+    assert!(rt; rules.has_resp_ip());
+    // 192.0.2.1, 192.0.2.2, 192.0.3.1, 2001:db8::1 and 2001:db9::1
+    let first = b"\xc0\0\x02\x01".as_slice();
+    let second = b"\xc0\0\x02\x02".as_slice();
+    let third = b"\xc0\0\x03\x01".as_slice();
+    let six = b"\x20\x01\x0d\xb8\0\0\0\0\0\0\0\0\0\0\0\x01".as_slice();
+    let other_six = b"\x20\x01\x0d\xb9\0\0\0\0\0\0\0\0\0\0\0\x01".as_slice();
+    for (addrs, wanted) in [
+        ([first, third], "NXDOMAIN"),
+        ([second, first], "NXDOMAIN"),
+        ([second, third], "DROP"),
+        ([six, second], "DROP"),
+        ([other_six, six], "NODATA"),
+        ([third, other_six], "none"),
+    ] {
+        assert_eq!(rt; answered(&rt, &rules, b"X.test", addrs)?, wanted);
+    }
+    assert_eq!(rt; answered(&rt, &rules, b"y.test", [first, second])?, "none");
+    Ok(())
+}
+
+#[test]
+fn clients_and_servers_meet_their_rules(rt: HostRuntime) -> Result<(), Fail> {
+    let rules = rules(&rt)?;
+    // 10.1.2.3, 11.1.2.3, 192.0.2.53 and 192.0.2.1
+    let inside = rules.client(Addr::V4(0x0a01_0203));
+    assert!(rt; matches!(inside, Some((_, Action::PassThru))));
     assert!(rt; rules.client(Addr::V4(0x0b01_0203)).is_none());
-    assert!(rt;
-        matches!(
-            rules.ns_ip(Addr::V4(0xc000_0235)),
-            Some((_, Action::TcpOnly))
-        )
-    );
+    let server = rules.ns_ip(Addr::V4(0xc000_0235));
+    assert!(rt; matches!(server, Some((_, Action::TcpOnly))));
     assert!(rt; rules.ns_ip(Addr::V4(0xc000_0201)).is_none());
     Ok(())
 }
@@ -161,5 +190,6 @@ fn a_zone_without_rows_has_no_rules(rt: HostRuntime) -> Result<(), Fail> {
     let rules = Rules::of(rt.alloc(), &origin, &[])?;
     assert_eq!(rt; asked(&rt, &rules, b"bad.test")?, "none");
     assert!(rt; rules.client(Addr::V4(0x0a01_0203)).is_none());
+    assert!(rt; !rules.has_resp_ip());
     Ok(())
 }

@@ -1,5 +1,0 @@
-use Rattle.query_session.proofs.Answers.{is_answer}
-use Rattle.query_session.proofs.answer.Answer.of.Goals as goal
-
-pub invariant_of-result : goal.invariant_of-result
-invariant_of-result c = rw (c.retain_class.ensures, c.first_soa.ensures) (is_answer c.args.message c.requires)

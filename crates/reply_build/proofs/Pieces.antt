@@ -1,0 +1,96 @@
+-- Replies that are written piece by piece.
+use Rattle.std.proofs.Common.{◌≡◌, ℕ, ◌+◌, Bool, true, false, cond, List, [], ◌∷◌, ◌++◌, length, map, filter, drop, get_or, Option, Some, None, refl, sym, ap, ◌∙◌, append_assoc, arith}
+use Rattle.std.specs.Prelude.{◌<◌, ◌≤◌}
+use Rattle.std.proofs.lemmas.List.{append-nil, length-map, at_drop_more, drop_all}
+use Rattle.dns_record.specs.Record.{PlainRecord, record_octets}
+use Rattle.dns_message.specs.declared.header.Header.{Header}
+use Rattle.dns_message.specs.declared.question.Question.{Question}
+use Rattle.dns_message.specs.declared.request.Query.{Query}
+use Rattle.dns_message.specs.Spelling.{start_octets, records_octets, opt_octets, parts_octets, spelled}
+use Rattle.action_codec.specs.Local.{PlainLocal}
+use Rattle.reply_build.specs.Reply.{reply_header, reply_of, local_record, is_asked, local_answer}
+
+-- a message without an OPT record in pieces
+pub in_pieces : (h : Header) (q : Option Question) (answer authority additional : List PlainRecord)
+    → (((start_octets h q (length answer) (length authority) (length additional) ++ records_octets answer) ++ records_octets authority) ++ records_octets additional)
+    ≡ parts_octets 0 h q answer authority additional None
+unfolding start_octets parts_octets opt_octets
+in_pieces h q answer authority additional =
+    let zero : length additional + 0 ≡ length additional = omega arith in
+    rw (zero, append-nil (start_octets h q (length answer) (length authority) (length additional) ++ records_octets answer ++ records_octets authority ++ records_octets additional)) refl
+
+no_records : (octets : List ℕ) → octets ++ records_octets [] ≡ octets
+unfolding records_octets
+no_records octets = append-nil octets
+
+first_record : (r : PlainRecord) (rs : List PlainRecord) → records_octets (r ∷ rs) ≡ record_octets r ++ records_octets rs
+unfolding records_octets
+first_record r rs = refl
+
+pub local_pieces : (query : Query) (rows : List PlainLocal) (soa : PlainRecord) (a b c : List ℕ)
+    → a ≡ [] ++ start_octets (reply_header false 0 query) (Some query.question) (length (filter (is_asked query.question.qtype) rows)) 0 1
+    → b ≡ a ++ records_octets (map (local_record query.question.name) (filter (is_asked query.question.qtype) rows))
+    → c ≡ b ++ records_octets (soa ∷ [])
+    → c ≡ spelled (local_answer query rows soa)
+local_pieces query rows soa a b c ea eb ec =
+    let asked = filter (is_asked query.question.qtype) rows in
+    let answer = map (local_record query.question.name) asked in
+    let h = reply_header false 0 query in
+    let start : a ≡ start_octets h (Some query.question) (length answer) 0 1 = ea ∙ ap (λ (n : ℕ). start_octets h (Some query.question) n 0 1) (sym (length-map asked (local_record query.question.name))) in
+    ec
+    ∙ ap (λ (l : List ℕ). l ++ records_octets (soa ∷ [])) (eb ∙ ap (λ (l : List ℕ). l ++ records_octets answer) start ∙ sym (no_records (start_octets h (Some query.question) (length answer) 0 1 ++ records_octets answer)))
+    ∙ in_pieces h (Some query.question) answer [] (soa ∷ [])
+
+pub alias_pieces : (rcode : ℕ) (query : Query) (alias soa : PlainRecord) (answers authority : List PlainRecord) (a b c d e : List ℕ)
+    → a ≡ [] ++ start_octets (reply_header false rcode query) (Some query.question) (length answers + 1) (length authority) 1
+    → b ≡ a ++ record_octets alias
+    → c ≡ b ++ records_octets answers
+    → d ≡ c ++ records_octets authority
+    → e ≡ d ++ records_octets (soa ∷ [])
+    → e ≡ spelled (reply_of rcode query (alias ∷ answers) authority (soa ∷ []))
+alias_pieces rcode query alias soa answers authority a b c d e ea eb ec ed ee =
+    let h = reply_header false rcode query in
+    let start = start_octets h (Some query.question) (length (alias ∷ answers)) (length authority) 1 in
+    let one : length answers + 1 ≡ length (alias ∷ answers) = omega arith in
+    let begins : a ≡ start = ea ∙ ap (λ (n : ℕ). start_octets h (Some query.question) n (length authority) 1) one in
+    let all : c ≡ start ++ records_octets (alias ∷ answers) =
+    ec ∙ ap (λ (l : List ℕ). l ++ records_octets answers) (eb ∙ ap (λ (l : List ℕ). l ++ record_octets alias) begins)
+    ∙ append_assoc start (record_octets alias) (records_octets answers)
+    ∙ ap (λ (l : List ℕ). start ++ l) (sym (first_record alias answers)) in
+    ee
+    ∙ ap (λ (l : List ℕ). l ++ records_octets (soa ∷ [])) (ed ∙ ap (λ (l : List ℕ). l ++ records_octets authority) all)
+    ∙ in_pieces h (Some query.question) (alias ∷ answers) authority (soa ∷ [])
+
+-- the rows that are asked for, as records of this owner
+abbrev pub asked_octets : List (List ℕ) → ℕ → List PlainLocal → List ℕ
+asked_octets owner qtype rows = records_octets (map (local_record owner) (filter (is_asked qtype) rows))
+
+asked_by : (owner : List (List ℕ)) (qtype : ℕ) (row : PlainLocal) (rows : List PlainLocal) (b : Bool)
+    → records_octets (map (local_record owner) (cond b (row ∷ filter (is_asked qtype) rows) (filter (is_asked qtype) rows))) ≡ records_octets (map (local_record owner) (cond b (row ∷ []) [])) ++ asked_octets owner qtype rows
+unfolding records_octets
+asked_by owner qtype row rows true = ap (λ (l : List ℕ). l ++ asked_octets owner qtype rows) (sym (append-nil (record_octets (local_record owner row))))
+asked_by owner qtype row rows false = refl
+
+-- one row and the others
+pub asked_first : (owner : List (List ℕ)) (qtype : ℕ) (row : PlainLocal) (rows : List PlainLocal) → asked_octets owner qtype (row ∷ rows) ≡ asked_octets owner qtype (row ∷ []) ++ asked_octets owner qtype rows
+asked_first owner qtype row rows = asked_by owner qtype row rows (is_asked qtype row)
+
+pub asked_more : (owner : List (List ℕ)) (qtype : ℕ) (rows : List PlainLocal) (i : ℕ) (row : PlainLocal) (out next whole : List ℕ) → i < length rows → next ≡ out ++ asked_octets owner qtype (get_or rows i row ∷ [])
+    → out ++ asked_octets owner qtype (drop i rows) ≡ whole → next ++ asked_octets owner qtype (drop (i + 1) rows) ≡ whole
+asked_more owner qtype rows i row out next whole lt e h =
+    let one = asked_octets owner qtype (get_or rows i row ∷ []) in
+    let others = asked_octets owner qtype (drop (i + 1) rows) in
+    ap (λ (l : List ℕ). l ++ others) e
+    ∙ append_assoc out one others
+    ∙ ap (λ (l : List ℕ). out ++ l) (sym (at_drop_more (asked_octets owner qtype) rows i row lt ∙ asked_first owner qtype (get_or rows i row) (drop (i + 1) rows)))
+    ∙ h
+
+pub asked_all : (owner : List (List ℕ)) (qtype : ℕ) (rows : List PlainLocal) (i : ℕ) (out whole : List ℕ) → length rows ≤ i → out ++ asked_octets owner qtype (drop i rows) ≡ whole → out ≡ whole
+asked_all owner qtype rows i out whole le h = sym (ap (λ (l : List PlainLocal). out ++ asked_octets owner qtype l) (drop_all i rows le) ∙ no_records out) ∙ h
+
+pub one_asked : (owner : List (List ℕ)) (qtype : ℕ) (row : PlainLocal) (old new : List ℕ) → is_asked qtype row ≡ true → new ≡ old ++ record_octets (local_record owner row) → new ≡ old ++ asked_octets owner qtype (row ∷ [])
+unfolding records_octets
+one_asked owner qtype row old new t e = rw (t, append-nil (record_octets (local_record owner row))) e
+
+pub none_asked : (owner : List (List ℕ)) (qtype : ℕ) (row : PlainLocal) (old : List ℕ) → is_asked qtype row ≡ false → old ≡ old ++ asked_octets owner qtype (row ∷ [])
+none_asked owner qtype row old f = rw f (sym (no_records old))

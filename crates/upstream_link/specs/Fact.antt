@@ -1,0 +1,48 @@
+-- What the bytes that came in answer to a question say.
+use Rattle.std.specs.Prelude.{ℕ, ◌==◌, ◌&&◌, ◌||◌, Bool, false, not, if◌then◌else◌, List, filter, Option, Some, None, Result, Ok, Err}
+use Rattle.std.specs.List.{find}
+use Rattle.dns_name.specs.Alike.{same_name}
+use Rattle.dns_record.specs.Record.{PlainRecord}
+use Rattle.dns_message.specs.declared.fault.MessageFault.{MessageFault}
+use Rattle.dns_message.specs.declared.message.Message.{Message}
+use Rattle.dns_message.specs.declared.question.Question.{Question}
+use Rattle.dns_message.specs.Reading.{message_of}
+use Rattle.upstream_link.specs.Kept.{PlainAnswer}
+use Rattle.upstream_link.specs.declared.fact.Fact.{Fact}
+use Rattle.upstream_link.specs.declared.fact.Fact.TheVariants.{Answer, Broken}
+use Rattle.upstream_link.specs.declared.fact.Why.TheVariants.{Unusable, Rcode}
+
+-- questions are alike; capitals of ASCII count as small letters in their names (RFC 1035, section 2.3.3)
+abbrev pub same_question : Question → Question → Bool
+same_question a b = same_name a.name b.name && (a.qtype == b.qtype && a.qclass == b.qclass)
+
+abbrev pub asks : Question → Option Question → Bool
+asks question None = false
+asks question (Some other) = same_question other question
+
+-- a whole response to the question in a message of this identifier (RFC 1035, section 4.1.1)
+abbrev pub answers_to : ℕ → Question → Message → Bool
+answers_to id question m = m.header.id == id && (m.header.qr && (m.header.opcode == 0 && (not m.header.tc && asks question m.question)))
+
+-- a SOA record of class IN
+abbrev pub is_soa : PlainRecord → Bool
+is_soa r = r.rtype == 6 && r.class == 1
+
+-- of the answers those of class IN, and of the authority section the first SOA record of class IN (RFC 2308, section 2)
+abbrev pub answer_in : Message → PlainAnswer
+answer_in m = record { rcode = m.header.rcode; answers = filter (λ r. r.class == 1) m.answer; soa = find is_soa m.authority }
+
+-- the rcode says that there is an answer, or that the name doesn't exist
+abbrev pub is_told : ℕ → Bool
+is_told rcode = rcode == 0 || rcode == 3
+
+abbrev pub told_in : Message → Fact
+told_in m = if is_told m.header.rcode then Answer (answer_in m) else Broken (Rcode m.header.rcode)
+
+abbrev pub fact_by : List ℕ → ℕ → Question → Result Message MessageFault → Fact
+fact_by octets id question (Ok m) = if answers_to id question m then told_in m else Broken (Unusable octets)
+fact_by octets id question (Err fault) = Broken (Unusable octets)
+
+-- What the bytes say that came for a question in a message of this identifier.
+unfoldable pub fact_from : List ℕ → ℕ → Question → Fact
+fact_from octets id question = fact_by octets id question (message_of octets)

@@ -1,0 +1,4 @@
+pub mod Question
+pub mod Kept
+pub mod Fact
+pub mod Facts

@@ -1,0 +1,25 @@
+-- What is asked of the server.
+use Rattle.std.specs.Prelude.{ℕ, true, false, List, [], Some, None}
+use Rattle.dns_name.specs.Labels.{lowered}
+use Rattle.dns_message.specs.declared.message.Message.{Message}
+use Rattle.dns_message.specs.declared.question.Question.{Question}
+use Rattle.dns_message.specs.declared.request.Query.{Query}
+
+-- a question of class IN
+abbrev pub question_of : List (List ℕ) → ℕ → Question
+question_of name qtype = record { name = name; qtype = qtype; qclass = 1 }
+
+-- what is asked about a query: its own question
+abbrev pub main_question : Query → Question
+main_question query = question_of query.question.name query.question.qtype
+
+-- a message that asks this: RD is 1, and the name in small letters (RFC 1035, section 4.1.1)
+abbrev pub question_message : ℕ → Question → Message
+question_message id question = record {
+  header = record { id = id; qr = false; opcode = 0; aa = false; tc = false; rd = true; ra = false; rcode = 0 };
+  question = Some (record { name = lowered question.name; qtype = question.qtype; qclass = question.qclass });
+  answer = [];
+  authority = [];
+  additional = [];
+  edns = None;
+}

@@ -1,0 +1,94 @@
+//! What is learned from the server.
+
+ghost use Rattle.std.specs.Prelude.{◌≡◌, option_copied, IfOk};
+ghost use Rattle.upstream_link.specs.Fact as form;
+ghost use Rattle.upstream_link.specs.Fact.{fact_from, told_in};
+
+use crate::answer::Answer;
+use dns_message::{Message, MessageError, Question, read_message};
+use dns_name::Octets;
+use std::alloc::{AllocError, Global};
+
+/// What is learned of a question.
+#[derive(Debug, Drop)]
+pub enum Fact {
+    Answer(Answer),
+    /// There is no answer.
+    Broken(Why),
+}
+
+/// Why there is no answer.
+#[derive(Debug, Drop)]
+pub enum Why {
+    /// Nothing came.
+    Failed,
+    /// What came is no response to the question: it can't be read, its identifier is another, QR is 0, the opcode
+    /// isn't 0, it is truncated, or its question is another.
+    Unusable(Octets),
+    /// The response has this rcode, which is neither 0 nor 3.
+    Rcode(u8),
+}
+
+// Whether the questions are alike, without case.
+fn same_question(a: &Question, b: &Question) -> bool
+    ensures { result ≡ form.same_question a.now b.now }
+{
+    a.name.is_same(&b.name) && a.qtype == b.qtype && a.qclass == b.qclass
+}
+
+// Whether this is the question.
+fn asks(question: &Question, other: Option<&Question>) -> bool
+    ensures { result ≡ form.asks question.now (option_copied other.entry) }
+{
+    match other {
+        None => false,
+        Some(other) => same_question(other, question),
+    }
+}
+
+// Whether the message is a whole response to the question.
+fn answers_to(id: u16, question: &Question, message: &Message) -> bool
+    ensures { result ≡ form.answers_to id question.now message.now }
+{
+    let header = message.header;
+    header.id == id
+        && header.qr
+        && header.opcode == 0
+        && !header.tc
+        && asks(question, message.question.as_ref())
+}
+
+// What a response says.
+fn told(message: Message) -> Fact
+    ensures { result ≡ told_in message }
+{
+    let rcode = message.header.rcode;
+    if rcode == 0 || rcode == 3 {
+        Fact::Answer(Answer::of(message))
+    } else {
+        Fact::Broken(Why::Rcode(rcode))
+    }
+}
+
+/// What the bytes say that came for a question which was asked in a message of this identifier.
+#[tactic(auto, unfolding(crate::specs::Fact::fact_from))]
+pub fn fact_of(
+    alloc: Global,
+    bytes: Octets,
+    id: u16,
+    question: &Question,
+) -> Result<Fact, AllocError>
+    ensures { IfOk result (λ fact. fact ≡ fact_from bytes id question.now) }
+{
+    match read_message(alloc, bytes.as_slice()) {
+        Ok(message) => {
+            if answers_to(id, question, &message) {
+                Ok(told(message))
+            } else {
+                Ok(Fact::Broken(Why::Unusable(bytes)))
+            }
+        }
+        Err(MessageError::OutOfMemory) => Err(AllocError),
+        Err(MessageError::Fault(_)) => Ok(Fact::Broken(Why::Unusable(bytes))),
+    }
+}

@@ -1,0 +1,71 @@
+//! What is known of several questions.
+
+ghost use Rattle.std.specs.Prelude.{◌≡◌, [], ◌∷◌, ◌++◌, option_copied, OnOk, OnErr};
+ghost use Rattle.std.specs.List.{find};
+ghost use Rattle.upstream_link.specs.Fact as form;
+ghost use Rattle.upstream_link.specs.Facts.{known};
+ghost use Rattle.upstream_link.specs.Question.{question_of};
+
+use crate::fact::Fact;
+use dns_message::Question;
+use dns_name::Name;
+use dns_record::class;
+use std::alloc::{AllocError, Global};
+use std::marker::Model;
+
+/// What is known: facts, each beside the question that it answers. Contracts see their list, in the order in which
+/// they came.
+#[derive(Debug, Drop)]
+pub struct Facts {
+    facts: Vec<(Question, Fact)>,
+}
+
+impl Model for Facts {
+    ghost use Rattle.upstream_link.specs.Facts.{PlainFacts};
+
+    ghost Value = { PlainFacts };
+
+    ghost view = { λ f. f.facts.items };
+}
+
+impl Facts {
+    /// Nothing is known. It takes no memory.
+    pub fn new(alloc: Global) -> Self
+        ensures { result ≡ [] }
+    {
+        Facts {
+            facts: Vec::new(alloc),
+        }
+    }
+
+    /// Puts a fact behind the others. An `Err` leaves them as they were, and drops the fact.
+    pub fn push(&mut self, question: Question, fact: Fact) -> Result<(), AllocError>
+        ensures ok { OnOk result (self.new ≡ self.old ++ (question, fact) ∷ []) }
+        ensures err { OnErr result (self.new ≡ self.old) }
+    {
+        self.facts.push((question, fact))?;
+        Ok(())
+    }
+
+    /// What is known of the question of this name and type in class IN, capitals of ASCII counting as small letters in
+    /// the name. Its time is linear in the number of facts.
+    pub fn get(&self, name: &Name, qtype: u16) -> Option<&Fact>
+        ensures { option_copied result ≡ known self.now (question_of name.now qtype) }
+    {
+        let found = self
+            .facts
+            .iter()
+            .find(|entry| is_about(&entry.0, name, qtype));
+        match found {
+            Some(entry) => Some(&entry.1),
+            None => None,
+        }
+    }
+}
+
+// Whether this is the question of the name and type in class IN.
+fn is_about(question: &Question, name: &Name, qtype: u16) -> bool
+    ensures { result ≡ form.same_question question.now (question_of name.now qtype) }
+{
+    question.name.is_same(name) && question.qtype == qtype && question.qclass == class::IN
+}

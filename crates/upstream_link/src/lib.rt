@@ -1,0 +1,14 @@
+//! What is asked of the server behind the forwarder, and what is learned from it.
+#![tactic(auto)]
+
+mod answer;
+mod asking;
+mod fact;
+mod facts;
+#[cfg(test)]
+mod tests;
+
+pub use answer::Answer;
+pub use asking::{main_question, question_bytes};
+pub use fact::{Fact, Why, fact_of};
+pub use facts::Facts;

@@ -1,0 +1,13 @@
+use Rattle.std.proofs.Common.{ap, ◌∙◌, option_map}
+use Rattle.zone_index.proofs.FirstRule.{rule_at}
+use Rattle.zone_index.proofs.addresses.first_about.Goals as goal
+
+pub returns-in-None : goal.returns-in-None
+returns-in-None c =
+    let at = rule_at c.args.owner.now c.args.records.now c.args.rules.now c.in_ok-prefix.prefix c.in_ok-prefix.ensures.sorted c.in_ok-prefix.ensures.prefix in
+    ap (option_map (λ v. (c.in_ok-prefix.prefix, v))) c.in-None.ensures ∙ at
+
+pub returns-in-Some : goal.returns-in-Some
+returns-in-Some c =
+    let at = rule_at c.args.owner.now c.args.records.now c.args.rules.now c.in_ok-prefix.prefix c.in_ok-prefix.ensures.sorted c.in_ok-prefix.ensures.prefix in
+    ap (option_map (λ v. (c.in_ok-prefix.prefix, v))) c.in-Some.ensures ∙ at

@@ -1,0 +1,94 @@
+//! The rule that comes first of those about the addresses of an answer.
+
+ghost use Rattle.std.specs.Prelude.{◌≡◌};
+ghost use Rattle.std.specs.List.{find};
+ghost use Rattle.std.specs.List.Sorted.{IsStrictlySortedBy};
+ghost use Rattle.std.specs.Map.{keys_of};
+ghost use Rattle.std.specs.Option.{option_map};
+ghost use Rattle.ip_prefix.specs.Prefix.{prefix_order};
+ghost use Rattle.prefix_index.specs.Longest.{longest};
+ghost use Rattle.zone_index.specs.Addresses.{first_about as first_of, holds_within};
+ghost use Rattle.zone_index.specs.Earlier.{earlier_key};
+
+use action_codec::Action;
+use dns_name::Name;
+use dns_record::Record;
+use ip_prefix::{Addr, Prefix};
+use prefix_index::PrefixMap;
+use std::cmp::Ordering;
+
+/// The prefix of the rule that comes first of those whose prefix contains some address that the records hold for the
+/// name.
+pub(crate) fn first_prefix(
+    rules: &PrefixMap<Action>,
+    owner: &Name,
+    records: &[Record],
+) -> Option<Prefix>
+    ensures prefix { result ≡ option_map (λ e. e.0) (first_of owner.now records.now rules.now) }
+    ensures sorted { IsStrictlySortedBy prefix_order (keys_of rules.now) }
+{
+    // what its clause says is wanted here: that the rules stand in order
+    let _count = rules.len();
+    let mut first = None;
+    for rr in records {
+        first = earlier(first, about_record(rules, owner, rr));
+    }
+    first
+}
+
+// The prefix of the rule that comes first of those whose prefix contains the address that the record holds for the
+// name.
+#[tactic(auto, using(crate::proofs::FirstRule::by_address))]
+fn about_record(rules: &PrefixMap<Action>, owner: &Name, rr: &Record) -> Option<Prefix>
+    ensures { result ≡ option_map (λ e. e.0) (find (λ e. holds_within e.0 owner.now rr.now) rules.now) }
+{
+    if !rr.owner().is_same(owner) {
+        return None;
+    }
+    match rr.address() {
+        None => None,
+        Some(addr) => longest_prefix(rules, addr),
+    }
+}
+
+// The longest prefix that contains the address and has a rule.
+fn longest_prefix(rules: &PrefixMap<Action>, addr: Addr) -> Option<Prefix>
+    ensures { result ≡ option_map (λ e. e.0) (longest addr rules.now) }
+{
+    match rules.longest(addr) {
+        None => None,
+        Some((prefix, _)) => Some(prefix),
+    }
+}
+
+// The one of two prefixes that comes first.
+fn earlier(first: Option<Prefix>, other: Option<Prefix>) -> Option<Prefix>
+    ensures { result ≡ earlier_key prefix_order first other }
+{
+    match (first, other) {
+        (None, other) => other,
+        (first, None) => first,
+        (Some(first), Some(other)) => {
+            if first.rank_cmp(&other) == Ordering::Less {
+                Some(first)
+            } else {
+                Some(other)
+            }
+        }
+    }
+}
+
+/// The rule of this prefix, which comes first of those about an answer.
+pub(crate) fn first_about<'a>(
+    rules: &'a PrefixMap<Action>,
+    owner: &Name,
+    records: &[Record],
+) -> Option<(Prefix, &'a Action)>
+    ensures { option_map (λ e. (e.0, e.1.now)) result ≡ first_of owner.now records.now rules.now }
+{
+    let prefix = first_prefix(rules, owner, records)?;
+    match rules.get(prefix) {
+        None => None,
+        Some(action) => Some((prefix, action)),
+    }
+}
