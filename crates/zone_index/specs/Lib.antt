@@ -1,5 +1,6 @@
 pub mod Kinds
 pub mod Addresses
 pub mod Earlier
+pub mod Laws
 pub mod Rules
 pub mod Triggers

@@ -5,6 +5,7 @@ mod addresses;
 mod group;
 mod groups;
 mod kinds;
+pub mod laws;
 mod rules;
 #[cfg(test)]
 mod tests;

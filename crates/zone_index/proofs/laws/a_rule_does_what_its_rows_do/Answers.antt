@@ -1,0 +1,8 @@
+use Rattle.zone_index.proofs.Gathered.{rule_of_rows, rules_in_order}
+use Rattle.zone_index.proofs.laws.a_rule_does_what_its_rows_do.Goals as goal
+
+pub returns-clause-at : goal.returns-clause-at
+returns-clause-at c = rule_of_rows
+
+pub returns-clause-ordered : goal.returns-clause-ordered
+returns-clause-ordered c = rules_in_order

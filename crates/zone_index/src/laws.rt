@@ -1,0 +1,27 @@
+//! Laws of the rules of a zone. Each function is its clauses, and does nothing.
+
+ghost use Rattle.std.specs.Prelude.{◌≡◌, ◌↔◌, ℕ, List, Some, IsTrue};
+ghost use Rattle.action_codec.specs.Action.{action_by};
+ghost use Rattle.dns_name.specs.Labels.{IsName};
+ghost use Rattle.trigger_codec.specs.declared.trigger.Trigger.{Trigger};
+ghost use Rattle.zone_index.specs.Laws.{IsInOrder, IsNamed, is_of, is_same, rows_of, rule_at};
+ghost use Rattle.zone_index.specs.Rules.{live_trigger, rules_of};
+ghost use Rattle.zone_rows.specs.Row.{PlainRow};
+
+use dns_name::laws::a_name_is_told_by_its_octets;
+
+/// What the rules of a zone do at a trigger is what the live rows of this trigger do, in the order of the zone,
+/// and they have none for it where these do nothing. The rules stand in order of precedence, each trigger once.
+pub fn a_rule_does_what_its_rows_do()
+    ensures at { (origin : List (List ℕ)) (rows : List PlainRow) (t : Trigger) → rule_at (rules_of origin rows) t ≡ action_by t (rows_of origin rows t) }
+    ensures ordered { (origin : List (List ℕ)) (rows : List PlainRow) → IsInOrder (rules_of origin rows) }
+{}
+
+/// Triggers of one kind of which neither comes before the other are the same, where the bases of their patterns
+/// are names. So the rows of a trigger are those that are live with just this trigger.
+pub fn a_trigger_is_told_by_its_place()
+    ensures same { (t u : Trigger) → IsNamed t → IsNamed u → IsTrue (is_same t u) ↔ (t ≡ u) }
+    ensures row { (origin : List (List ℕ)) (row : PlainRow) (t : Trigger) → IsName row.owner → IsNamed t → IsTrue (is_of t (live_trigger origin row)) ↔ (live_trigger origin row ≡ Some t) }
+{
+    a_name_is_told_by_its_octets();
+}
