@@ -2,6 +2,7 @@
 #![tactic(auto)]
 
 mod action;
+pub mod laws;
 mod live;
 mod local;
 mod order;

@@ -1,7 +1,9 @@
 pub mod ByKey
 pub mod Entries
 pub mod Gathered
+pub mod OneList
 pub mod Patterns
 pub mod FirstRule
+pub mod OnlyRules
 pub mod SameAction
 pub mod Told

@@ -3,9 +3,6 @@
 use Rattle.std.proofs.Common.{◌≡◌, ℕ, ◌-◌, ◌==◌, Bool, true, false, IsTrue, ◌↔◌, List, [], ◌∷◌, length, take, Option, Some, None, Result, Ok, Err, sym, ap, ◌∙◌, true≢false}
 use Rattle.std.specs.Prelude.{if◌then◌else◌, slice_get}
 use Rattle.std.specs.BTreeMap.{is_at}
-use Rattle.std.specs.Cmp.{IsTotalOrder, tied_itself}
-use Rattle.std.specs.Ordering.{is_eq}
-use Rattle.std.specs.declared.cmp.Ordering.{Ordering}
 use Rattle.dns_name.specs.Alike.{PlainPattern, is_within}
 use Rattle.dns_name.specs.Labels.{IsName, name_octets, lowered}
 use Rattle.dns_name.proofs.PartLemmas.{IsName-take}
@@ -25,7 +22,7 @@ use Rattle.zone_rows.specs.Row.{PlainRow}
 use Rattle.action_codec.specs.Action.{is_live_type}
 use Rattle.zone_index.specs.Laws.{is_same, is_of, IsNamed}
 use Rattle.zone_index.specs.Rules.{named, live_trigger}
-use Rattle.zone_index.proofs.Entries.{tied_if}
+use Rattle.zone_index.proofs.Entries.{tied_if, at_itself}
 use Rattle.zone_index.proofs.SameAction.{pattern_order_total, tied_patterns}
 
 -- names are told apart by their octets
@@ -34,13 +31,10 @@ AreTold = (name other : List (List ℕ)) → IsName name → IsName other → na
 
 -- ---- triggers at one place
 
-at_itself : {K : Type 0} {R : K → K → Ordering} → IsTotalOrder R → (k : K) → is_at (R k) k ≡ true
-at_itself o k = ap is_eq (tied_itself o k)
-
-prefix_told : (p q : PlainPrefix) → is_at (prefix_order p) q ≡ true → p ≡ q
+pub prefix_told : (p q : PlainPrefix) → is_at (prefix_order p) q ≡ true → p ≡ q
 prefix_told p q h = same_prefix p q (tied_if (prefix_order p q) h)
 
-pattern_told : AreTold → (p q : PlainPattern) → IsName p.base → IsName q.base → is_at (pattern_order p) q ≡ true → p ≡ q
+pub pattern_told : AreTold → (p q : PlainPattern) → IsName p.base → IsName q.base → is_at (pattern_order p) q ≡ true → p ≡ q
 pattern_told told p q is_p is_q h =
     let ties = tied_patterns p q h in
     let base = told p.base q.base is_p is_q ties.octets in
@@ -66,7 +60,7 @@ same_is told t u is_t is_u = (told_apart told t u is_t is_u, λ e. ap (is_same t
 
 -- ---- the triggers of rows
 
-abbrev AllNamed : Option Trigger → Type 0
+abbrev pub AllNamed : Option Trigger → Type 0
 AllNamed None = Unit {0}
 AllNamed (Some t) = IsNamed t
 
@@ -119,7 +113,7 @@ named_if : (b : Bool) (live : Option Trigger) → AllNamed live → AllNamed (if
 named_if true live h = h
 named_if false live h = tt
 
-named_live : (origin : List (List ℕ)) (row : PlainRow) → IsName row.owner → AllNamed (live_trigger origin row)
+pub named_live : (origin : List (List ℕ)) (row : PlainRow) → IsName row.owner → AllNamed (live_trigger origin row)
 named_live origin row h = named_if (is_live_type row.rtype) (named (trigger row.owner origin)) (named_some (trigger row.owner origin) (named_trigger row.owner origin h))
 
 told_live : AreTold → (t : Trigger) (live : Option Trigger) → IsNamed t → AllNamed live → is_of t live ≡ true → live ≡ Some t

@@ -1,8 +1,10 @@
 -- What the laws of the rules of a zone say.
 use Rattle.std.specs.Prelude.{ℕ, Bool, false, List, filter, Option, Some, None}
 use Rattle.std.specs.BTreeMap.{is_at}
+use Rattle.std.specs.List.{AllByRecursion}
 use Rattle.std.specs.List.Sorted.{IsStrictlySortedBy}
 use Rattle.std.specs.Map.{keys_of, lookup}
+use Rattle.dns_name.specs.Alike.{PlainPattern}
 use Rattle.dns_name.specs.Labels.{IsName}
 use Rattle.ip_prefix.specs.Prefix.{prefix_order}
 use Rattle.qname_index.specs.Best.{pattern_order}
@@ -47,10 +49,19 @@ pub record IsInOrder (rules : PlainRules) : Type 0 where
   pub ns_name : IsStrictlySortedBy pattern_order (keys_of rules.ns_name)
   pub ns_ip : IsStrictlySortedBy prefix_order (keys_of rules.ns_ip)
 
--- the base of the trigger's pattern, if it has one, is a name
+-- the pattern's base is a name
+abbrev pub HasBase : PlainPattern → Type 0
+HasBase pattern = IsName pattern.base
+
+-- the trigger's pattern, if it has one, is of a name
 abbrev pub IsNamed : Trigger → Type 0
 IsNamed (Client prefix) = Unit {0}
-IsNamed (Qname pattern) = IsName pattern.base
+IsNamed (Qname pattern) = HasBase pattern
 IsNamed (RespIp prefix) = Unit {0}
-IsNamed (NsName pattern) = IsName pattern.base
+IsNamed (NsName pattern) = HasBase pattern
 IsNamed (NsIp prefix) = Unit {0}
+
+-- the patterns of the rules are of names
+pub record AreNamed (rules : PlainRules) : Type 0 where
+  pub qname : AllByRecursion HasBase (keys_of rules.qname)
+  pub ns_name : AllByRecursion HasBase (keys_of rules.ns_name)

@@ -1,21 +1,29 @@
 //! Laws of the rules of a zone. Each function is its clauses, and does nothing.
 
-ghost use Rattle.std.specs.Prelude.{◌≡◌, ◌↔◌, ℕ, List, Some, IsTrue};
+ghost use Rattle.std.specs.Prelude.{◌≡◌, ◌↔◌, ℕ, All, List, Some, IsTrue};
 ghost use Rattle.action_codec.specs.Action.{action_by};
+ghost use Rattle.action_codec.specs.Laws.{HaveOneTtl, HaveSameRows};
 ghost use Rattle.dns_name.specs.Labels.{IsName};
 ghost use Rattle.trigger_codec.specs.declared.trigger.Trigger.{Trigger};
-ghost use Rattle.zone_index.specs.Laws.{IsInOrder, IsNamed, is_of, is_same, rows_of, rule_at};
+ghost use Rattle.zone_index.specs.Kinds.{PlainRules};
+ghost use Rattle.zone_index.specs.Laws.{AreNamed, IsInOrder, IsNamed, is_of, is_same, rows_of, rule_at};
 ghost use Rattle.zone_index.specs.Rules.{live_trigger, rules_of};
-ghost use Rattle.zone_rows.specs.Row.{PlainRow};
+ghost use Rattle.zone_rows.specs.Row.{IsRow, PlainRow};
 
+use action_codec::laws::the_order_of_rows_does_not_matter;
 use dns_name::laws::a_name_is_told_by_its_octets;
 
 /// What the rules of a zone do at a trigger is what the live rows of this trigger do, in the order of the zone,
 /// and they have none for it where these do nothing. The rules stand in order of precedence, each trigger once.
+/// Of a zone of rows, no other rules do.
 pub fn a_rule_does_what_its_rows_do()
     ensures at { (origin : List (List ℕ)) (rows : List PlainRow) (t : Trigger) → rule_at (rules_of origin rows) t ≡ action_by t (rows_of origin rows t) }
     ensures ordered { (origin : List (List ℕ)) (rows : List PlainRow) → IsInOrder (rules_of origin rows) }
-{}
+    ensures named { (origin : List (List ℕ)) (rows : List PlainRow) → All IsRow rows → AreNamed (rules_of origin rows) }
+    ensures only { (origin : List (List ℕ)) (rows : List PlainRow) (rules : PlainRules) → All IsRow rows → AreNamed rules → IsInOrder rules → ((t : Trigger) → rule_at rules t ≡ action_by t (rows_of origin rows t)) → rules ≡ rules_of origin rows }
+{
+    a_name_is_told_by_its_octets();
+}
 
 /// Triggers of one kind of which neither comes before the other are the same, where the bases of their patterns
 /// are names. So the rows of a trigger are those that are live with just this trigger.
@@ -24,4 +32,12 @@ pub fn a_trigger_is_told_by_its_place()
     ensures row { (origin : List (List ℕ)) (row : PlainRow) (t : Trigger) → IsName row.owner → IsNamed t → IsTrue (is_of t (live_trigger origin row)) ↔ (live_trigger origin row ≡ Some t) }
 {
     a_name_is_told_by_its_octets();
+}
+
+/// The rules of a zone are the same in whatever order it has its rows, where no two differ in the TTL alone.
+pub fn the_order_of_a_zone_does_not_matter()
+    ensures { (origin : List (List ℕ)) (rows other : List PlainRow) → All IsRow rows → HaveOneTtl rows → HaveSameRows rows other → rules_of origin rows ≡ rules_of origin other }
+{
+    a_name_is_told_by_its_octets();
+    the_order_of_rows_does_not_matter();
 }

@@ -1,4 +1,5 @@
 use Rattle.zone_index.proofs.Gathered.{rule_of_rows, rules_in_order}
+use Rattle.zone_index.proofs.OnlyRules.{only_rules, rules_named}
 use Rattle.zone_index.proofs.laws.a_rule_does_what_its_rows_do.Goals as goal
 
 pub returns-clause-at : goal.returns-clause-at
@@ -6,3 +7,9 @@ returns-clause-at c = rule_of_rows
 
 pub returns-clause-ordered : goal.returns-clause-ordered
 returns-clause-ordered c = rules_in_order
+
+pub returns-clause-named : goal.returns-clause-named
+returns-clause-named c = rules_named
+
+pub returns-clause-only : goal.returns-clause-only
+returns-clause-only c = only_rules c.a_name_is_told_by_its_octets.ensures

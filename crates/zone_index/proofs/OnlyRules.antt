@@ -1,0 +1,139 @@
+-- The rules of a zone are the only ones in order that do at each trigger what its rows do, so that they depend on no order of the rows.
+use Rattle.std.proofs.Common.{◌≡◌, ℕ, ◌<◌, Bool, true, false, cond, Option, Some, None, List, [], ◌∷◌, ◌++◌, length, get_or, zero, suc, sym, ap, ◌∙◌, arith, true≢false}
+use Rattle.std.specs.Prelude.{fold, filter}
+use Rattle.std.specs.BTreeMap.{is_at}
+use Rattle.std.specs.List.{All, AllByRecursion, Contains}
+use Rattle.std.specs.List.Sorted.{IsStrictlySortedBy}
+use Rattle.std.specs.Map.{keys_of, lookup, remove_entry}
+use Rattle.std.proofs.lemmas.List.Elements.{All-contains, All-filter, All-contains_itself, Contains-get_or, filter_passes}
+use Rattle.dns_name.specs.Alike.{PlainPattern}
+use Rattle.ip_prefix.specs.Prefix.{PlainPrefix, prefix_order}
+use Rattle.prefix_index.specs.Order.{prefix_order_total}
+use Rattle.qname_index.specs.Best.{pattern_order}
+use Rattle.trigger_codec.specs.declared.trigger.Trigger.{Trigger}
+use Rattle.trigger_codec.specs.declared.trigger.Trigger.TheVariants.{Client, Qname, RespIp, NsName, NsIp}
+use Rattle.zone_rows.specs.Row.{PlainRow, IsRow}
+use Rattle.action_codec.specs.Action.{action_by}
+use Rattle.action_codec.specs.Laws.{HaveOneTtl, HaveSameRows}
+use Rattle.action_codec.specs.declared.action.Action.{Action}
+use Rattle.zone_index.specs.Kinds.{PlainGroups, PlainRules}
+use Rattle.zone_index.specs.Laws.{AreNamed, HasBase, IsInOrder, is_of, rows_of, rule_at}
+use Rattle.zone_index.specs.Rules.{live_trigger, no_groups, put_live, groups_of, rules_of, with_row, with_rule, put_rule, rows_in}
+use Rattle.zone_index.proofs.Gathered.{rule_of_rows, rules_in_order}
+use Rattle.zone_index.proofs.OneList.{keys-insert, keys-remove, same_entries}
+use Rattle.zone_index.proofs.SameAction.{pattern_order_total}
+use Rattle.zone_index.proofs.Told.{AreTold, AllNamed, named_live, prefix_told, pattern_told}
+
+-- ---- the patterns of a zone's rules have names for bases
+
+named-with_row : (pattern : PlainPattern) (row : PlainRow) (groups : List (PlainPattern × List PlainRow)) → HasBase pattern → AllByRecursion HasBase (keys_of groups)
+    → AllByRecursion HasBase (keys_of (with_row pattern_order groups pattern row))
+named-with_row pattern row groups is h =
+    keys-insert pattern_order HasBase pattern (rows_in (lookup (is_at (pattern_order pattern)) groups) ++ row ∷ []) (remove_entry (is_at (pattern_order pattern)) groups) is (keys-remove HasBase (is_at (pattern_order pattern)) groups h)
+
+named-put_rule : (rules : List (PlainPattern × Action)) (pattern : PlainPattern) (action : Option Action) → HasBase pattern → AllByRecursion HasBase (keys_of rules)
+    → AllByRecursion HasBase (keys_of (put_rule pattern_order rules pattern action))
+named-put_rule rules pattern None is h = h
+named-put_rule rules pattern (Some action) is h = keys-insert pattern_order HasBase pattern action rules is h
+
+named-rules : (kind : PlainPattern → Trigger) (rules : List (PlainPattern × Action)) (groups : List (PlainPattern × List PlainRow)) → AllByRecursion HasBase (keys_of rules) → AllByRecursion HasBase (keys_of groups)
+    → AllByRecursion HasBase (keys_of (fold (with_rule pattern_order kind) rules groups))
+named-rules kind rules [] h k = h
+named-rules kind rules (g ∷ gs) h k = named-rules kind (with_rule pattern_order kind rules g) gs (named-put_rule rules g.0 (action_by (kind g.0) g.1) k.0 h) k.1
+
+record AreNamedGroups (groups : PlainGroups) : Type 0 where
+  qname : AllByRecursion HasBase (keys_of groups.qname)
+  ns_name : AllByRecursion HasBase (keys_of groups.ns_name)
+
+named-put_live : (live : Option Trigger) (groups : PlainGroups) (row : PlainRow) → AllNamed live → AreNamedGroups groups → AreNamedGroups (put_live groups row live)
+named-put_live None groups row is h = h
+named-put_live (Some (Client p)) groups row is h = record { qname = h.qname; ns_name = h.ns_name }
+named-put_live (Some (Qname p)) groups row is h = record { qname = named-with_row p row groups.qname is h.qname; ns_name = h.ns_name }
+named-put_live (Some (RespIp p)) groups row is h = record { qname = h.qname; ns_name = h.ns_name }
+named-put_live (Some (NsName p)) groups row is h = record { qname = h.qname; ns_name = named-with_row p row groups.ns_name is h.ns_name }
+named-put_live (Some (NsIp p)) groups row is h = record { qname = h.qname; ns_name = h.ns_name }
+
+named-fold : (origin : List (List ℕ)) (groups : PlainGroups) (rows : List PlainRow) → All IsRow rows → AreNamedGroups groups
+    → AreNamedGroups (fold (λ groups row. put_live groups row (live_trigger origin row)) groups rows)
+named-fold origin groups [] are h = h
+named-fold origin groups (row ∷ rows) are h =
+    let first : IsRow row = are 0 row (omega arith) in
+    let others : All IsRow rows = λ (k : ℕ) (d : PlainRow) (lt : k < length rows). are (suc k) d (omega arith) in
+    named-fold origin (put_live groups row (live_trigger origin row)) rows others (named-put_live (live_trigger origin row) groups row (named_live origin row first.is_owner) h)
+
+pub rules_named : (origin : List (List ℕ)) (rows : List PlainRow) → All IsRow rows → AreNamed (rules_of origin rows)
+rules_named origin rows are =
+    let groups = named-fold origin no_groups rows are (record { qname = tt; ns_name = tt }) in
+    record { qname = named-rules Qname [] (groups_of origin rows).qname tt groups.qname; ns_name = named-rules NsName [] (groups_of origin rows).ns_name tt groups.ns_name }
+
+-- ---- the only rules
+
+any_prefix : (es : List (PlainPrefix × Action)) → AllByRecursion (λ _. Unit {0}) (keys_of es)
+any_prefix [] = tt
+any_prefix (e ∷ es) = (tt, any_prefix es)
+
+same_prefixes : (es fs : List (PlainPrefix × Action)) → IsStrictlySortedBy prefix_order (keys_of es) → IsStrictlySortedBy prefix_order (keys_of fs) → ((q : PlainPrefix) → lookup (is_at (prefix_order q)) es ≡ lookup (is_at (prefix_order q)) fs) → es ≡ fs
+same_prefixes es fs s t same = same_entries prefix_order_total (λ _. Unit {0}) (λ p q _ _ h. prefix_told p q h) es fs s t (any_prefix es) (any_prefix fs) same
+
+same_patterns : AreTold → (es fs : List (PlainPattern × Action)) → IsStrictlySortedBy pattern_order (keys_of es) → IsStrictlySortedBy pattern_order (keys_of fs) → AllByRecursion HasBase (keys_of es) → AllByRecursion HasBase (keys_of fs)
+    → ((q : PlainPattern) → lookup (is_at (pattern_order q)) es ≡ lookup (is_at (pattern_order q)) fs) → es ≡ fs
+same_patterns told es fs s t is_e is_f same = same_entries pattern_order_total HasBase (pattern_told told) es fs s t is_e is_f same
+
+same_rules : AreTold → (rules other : PlainRules) → IsInOrder rules → IsInOrder other → AreNamed rules → AreNamed other → ((t : Trigger) → rule_at rules t ≡ rule_at other t) → rules ≡ other
+same_rules told rules other s t is_r is_o same =
+    let client = same_prefixes rules.client other.client s.client t.client (λ q. same (Client q)) in
+    let qname = same_patterns told rules.qname other.qname s.qname t.qname is_r.qname is_o.qname (λ q. same (Qname q)) in
+    let resp_ip = same_prefixes rules.resp_ip other.resp_ip s.resp_ip t.resp_ip (λ q. same (RespIp q)) in
+    let ns_name = same_patterns told rules.ns_name other.ns_name s.ns_name t.ns_name is_r.ns_name is_o.ns_name (λ q. same (NsName q)) in
+    let ns_ip = same_prefixes rules.ns_ip other.ns_ip s.ns_ip t.ns_ip (λ q. same (NsIp q)) in
+    λ i. record { client = client i; qname = qname i; resp_ip = resp_ip i; ns_name = ns_name i; ns_ip = ns_ip i }
+
+pub only_rules : AreTold → (origin : List (List ℕ)) (rows : List PlainRow) (rules : PlainRules) → All IsRow rows → AreNamed rules → IsInOrder rules
+    → ((t : Trigger) → rule_at rules t ≡ action_by t (rows_of origin rows t)) → rules ≡ rules_of origin rows
+only_rules told origin rows rules are named ordered same =
+    same_rules told rules (rules_of origin rows) ordered (rules_in_order origin rows) named (rules_named origin rows are)
+    (λ t. same t ∙ sym (rule_of_rows origin rows t))
+
+-- ---- the order of the rows
+
+contains_first : (b : Bool) (y x : PlainRow) (rest : List PlainRow) → b ≡ true → y ≡ x → Contains (cond b (y ∷ rest) rest) x
+contains_first true y x rest h e = (0, omega arith, e)
+contains_first false y x rest h e = absurd (true≢false (sym h))
+
+contains_further : (b : Bool) (y x : PlainRow) (rest : List PlainRow) → Contains rest x → Contains (cond b (y ∷ rest) rest) x
+contains_further true y x rest h = let lt : h.0 < length rest = h.1 in (suc h.0, omega arith, h.2)
+contains_further false y x rest h = h
+
+module _ (p : PlainRow → Bool) where
+  passes_at : (x : PlainRow) (rows : List PlainRow) (k : ℕ) → k < length rows → get_or rows k x ≡ x → p x ≡ true → Contains (filter p rows) x
+  passes_at x [] k lt e h = absurd (omega arith)
+  passes_at x (y ∷ rows) zero lt e h = contains_first (p y) y x (filter p rows) (ap p e ∙ h) e
+  passes_at x (y ∷ rows) (suc k) lt e h = contains_further (p y) y x (filter p rows) (passes_at x rows k (omega arith) e h)
+
+  within : (rows : List PlainRow) (x : PlainRow) → Contains (filter p rows) x → Contains rows x
+  within rows x h = All-contains (Contains rows) (filter p rows) x (All-filter p (Contains rows) rows (All-contains_itself rows)) h
+
+  passes : (rows : List PlainRow) (x : PlainRow) → Contains (filter p rows) x → p x ≡ true
+  passes rows x h = All-contains (λ y. p y ≡ true) (filter p rows) x (filter_passes p rows) h
+
+  same_passing : (rows other : List PlainRow) → ((x : PlainRow) → Contains rows x → Contains other x) → (x : PlainRow) → Contains (filter p rows) x → Contains (filter p other) x
+  same_passing rows other to x h = let there = to x (within rows x h) in passes_at x other there.0 there.1 there.2 (passes rows x h)
+
+-- what rows do doesn't depend on their order
+abbrev pub DoSameInAnyOrder : Type 0
+DoSameInAnyOrder = (t : Trigger) (rows other : List PlainRow) → All IsRow rows → HaveOneTtl rows → HaveSameRows rows other → action_by t rows ≡ action_by t other
+
+rows_in_any_order : DoSameInAnyOrder → (origin : List (List ℕ)) (rows other : List PlainRow) (t : Trigger) → All IsRow rows → HaveOneTtl rows → HaveSameRows rows other → action_by t (rows_of origin rows t) ≡ action_by t (rows_of origin other t)
+rows_in_any_order do_same origin rows other t are one_ttl same =
+    let p : PlainRow → Bool = λ (row : PlainRow). is_of t (live_trigger origin row) in
+    do_same t (filter p rows) (filter p other) (All-filter p IsRow rows are)
+    (λ a b in_a in_b alike. one_ttl a b (within p rows a in_a) (within p rows b in_b) alike)
+    (λ x. (same_passing p rows other (λ y. (same y).0) x, same_passing p other rows (λ y. (same y).1) x))
+
+rows_of_other : (rows other : List PlainRow) → All IsRow rows → HaveSameRows rows other → All IsRow other
+rows_of_other rows other are same = λ k d lt. All-contains IsRow rows (get_or other k d) are ((same (get_or other k d)).1 (Contains-get_or other k d lt))
+
+pub rules_in_any_order : AreTold → DoSameInAnyOrder → (origin : List (List ℕ)) (rows other : List PlainRow) → All IsRow rows → HaveOneTtl rows → HaveSameRows rows other → rules_of origin rows ≡ rules_of origin other
+rules_in_any_order told do_same origin rows other are one_ttl same =
+    only_rules told origin other (rules_of origin rows) (rows_of_other rows other are same) (rules_named origin rows are) (rules_in_order origin rows)
+    (λ t. rule_of_rows origin rows t ∙ rows_in_any_order do_same origin rows other t are one_ttl same)
