@@ -56,19 +56,19 @@ module _ {K X : Type 0} {R : K → K → Ordering} (o : IsTotalOrder R) where
 
   module _ (P : K → Type 0) (told : (p q : K) → P p → P q → is_at (R p) q ≡ true → p ≡ q) where
     pub same_entries : (es fs : List (K × X)) → IsStrictlySortedBy R (keys_of es) → IsStrictlySortedBy R (keys_of fs) → AllByRecursion P (keys_of es) → AllByRecursion P (keys_of fs)
-        → ((q : K) → lookup (is_at (R q)) es ≡ lookup (is_at (R q)) fs) → es ≡ fs
+        → ((q : K) → P q → lookup (is_at (R q)) es ≡ lookup (is_at (R q)) fs) → es ≡ fs
     same_entries [] [] s t is_e is_f same = refl
-    same_entries [] (f ∷ fs) s t is_e is_f same = absurd (some-none f.1 (sym (found_first f.0 f fs (at_itself o f.0)) ∙ sym (same f.0)))
-    same_entries (e ∷ es) [] s t is_e is_f same = absurd (some-none e.1 (sym (found_first e.0 e es (at_itself o e.0)) ∙ same e.0))
+    same_entries [] (f ∷ fs) s t is_e is_f same = absurd (some-none f.1 (sym (found_first f.0 f fs (at_itself o f.0)) ∙ sym (same f.0 is_f.0)))
+    same_entries (e ∷ es) [] s t is_e is_f same = absurd (some-none e.1 (sym (found_first e.0 e es (at_itself o e.0)) ∙ same e.0 is_e.0))
     same_entries (e ∷ es) (f ∷ fs) s t is_e is_f same =
         elim (R e.0 f.0) as (λ c. R e.0 f.0 ≡ c → (e ∷ es) ≡ (f ∷ fs)) [
-          | Less ↦ λ h. absurd (not_before e f es fs t (same e.0) h)
+          | Less ↦ λ h. absurd (not_before e f es fs t (same e.0 is_e.0) h)
           | Equal ↦ λ h.
               let key : e.0 ≡ f.0 = told e.0 f.0 is_e.0 is_f.0 (ap is_eq h) in
-              let value : Some e.1 ≡ Some f.1 = sym (found_first e.0 e es (at_itself o e.0)) ∙ same e.0 ∙ found_first e.0 f fs (ap is_eq h) in
+              let value : Some e.1 ≡ Some f.1 = sym (found_first e.0 e es (at_itself o e.0)) ∙ same e.0 is_e.0 ∙ found_first e.0 f fs (ap is_eq h) in
               let others : es ≡ fs =
               same_entries es fs (ordered-others o e es s) (ordered-others o f fs t) is_e.1 is_f.1
-              (λ q. others_alike (is_at (R q) e.0) q e f es fs refl key s t (same q)) in
+              (λ q is. others_alike (is_at (R q) e.0) q e f es fs refl key s t (same q is)) in
               λ i. (key i, unwrap_or (value i) e.1) ∷ others i
-          | Greater ↦ λ h. absurd (not_before f e fs es s (sym (same f.0)) (o.antisymm f.0 e.0 ∙ ap ordering_reverse h))
+          | Greater ↦ λ h. absurd (not_before f e fs es s (sym (same f.0 is_f.0)) (o.antisymm f.0 e.0 ∙ ap ordering_reverse h))
         ] refl

@@ -17,7 +17,7 @@ use Rattle.action_codec.specs.Action.{action_by}
 use Rattle.action_codec.specs.Laws.{HaveOneTtl, HaveSameRows}
 use Rattle.action_codec.specs.declared.action.Action.{Action}
 use Rattle.zone_index.specs.Kinds.{PlainGroups, PlainRules}
-use Rattle.zone_index.specs.Laws.{AreNamed, HasBase, IsInOrder, is_of, rows_of, rule_at}
+use Rattle.zone_index.specs.Laws.{AreNamed, HasBase, IsInOrder, IsNamed, is_of, rows_of, rule_at}
 use Rattle.zone_index.specs.Rules.{live_trigger, no_groups, put_live, groups_of, rules_of, with_row, with_rule, put_rule, rows_in}
 use Rattle.zone_index.proofs.Gathered.{rule_of_rows, rules_in_order}
 use Rattle.zone_index.proofs.OneList.{keys-insert, keys-remove, same_entries}
@@ -73,26 +73,26 @@ any_prefix [] = tt
 any_prefix (e ∷ es) = (tt, any_prefix es)
 
 same_prefixes : (es fs : List (PlainPrefix × Action)) → IsStrictlySortedBy prefix_order (keys_of es) → IsStrictlySortedBy prefix_order (keys_of fs) → ((q : PlainPrefix) → lookup (is_at (prefix_order q)) es ≡ lookup (is_at (prefix_order q)) fs) → es ≡ fs
-same_prefixes es fs s t same = same_entries prefix_order_total (λ _. Unit {0}) (λ p q _ _ h. prefix_told p q h) es fs s t (any_prefix es) (any_prefix fs) same
+same_prefixes es fs s t same = same_entries prefix_order_total (λ _. Unit {0}) (λ p q _ _ h. prefix_told p q h) es fs s t (any_prefix es) (any_prefix fs) (λ q _. same q)
 
 same_patterns : AreTold → (es fs : List (PlainPattern × Action)) → IsStrictlySortedBy pattern_order (keys_of es) → IsStrictlySortedBy pattern_order (keys_of fs) → AllByRecursion HasBase (keys_of es) → AllByRecursion HasBase (keys_of fs)
-    → ((q : PlainPattern) → lookup (is_at (pattern_order q)) es ≡ lookup (is_at (pattern_order q)) fs) → es ≡ fs
+    → ((q : PlainPattern) → HasBase q → lookup (is_at (pattern_order q)) es ≡ lookup (is_at (pattern_order q)) fs) → es ≡ fs
 same_patterns told es fs s t is_e is_f same = same_entries pattern_order_total HasBase (pattern_told told) es fs s t is_e is_f same
 
-same_rules : AreTold → (rules other : PlainRules) → IsInOrder rules → IsInOrder other → AreNamed rules → AreNamed other → ((t : Trigger) → rule_at rules t ≡ rule_at other t) → rules ≡ other
+same_rules : AreTold → (rules other : PlainRules) → IsInOrder rules → IsInOrder other → AreNamed rules → AreNamed other → ((t : Trigger) → IsNamed t → rule_at rules t ≡ rule_at other t) → rules ≡ other
 same_rules told rules other s t is_r is_o same =
-    let client = same_prefixes rules.client other.client s.client t.client (λ q. same (Client q)) in
-    let qname = same_patterns told rules.qname other.qname s.qname t.qname is_r.qname is_o.qname (λ q. same (Qname q)) in
-    let resp_ip = same_prefixes rules.resp_ip other.resp_ip s.resp_ip t.resp_ip (λ q. same (RespIp q)) in
-    let ns_name = same_patterns told rules.ns_name other.ns_name s.ns_name t.ns_name is_r.ns_name is_o.ns_name (λ q. same (NsName q)) in
-    let ns_ip = same_prefixes rules.ns_ip other.ns_ip s.ns_ip t.ns_ip (λ q. same (NsIp q)) in
+    let client = same_prefixes rules.client other.client s.client t.client (λ q. same (Client q) tt) in
+    let qname = same_patterns told rules.qname other.qname s.qname t.qname is_r.qname is_o.qname (λ q is. same (Qname q) is) in
+    let resp_ip = same_prefixes rules.resp_ip other.resp_ip s.resp_ip t.resp_ip (λ q. same (RespIp q) tt) in
+    let ns_name = same_patterns told rules.ns_name other.ns_name s.ns_name t.ns_name is_r.ns_name is_o.ns_name (λ q is. same (NsName q) is) in
+    let ns_ip = same_prefixes rules.ns_ip other.ns_ip s.ns_ip t.ns_ip (λ q. same (NsIp q) tt) in
     λ i. record { client = client i; qname = qname i; resp_ip = resp_ip i; ns_name = ns_name i; ns_ip = ns_ip i }
 
 pub only_rules : AreTold → (origin : List (List ℕ)) (rows : List PlainRow) (rules : PlainRules) → All IsRow rows → AreNamed rules → IsInOrder rules
-    → ((t : Trigger) → rule_at rules t ≡ action_by t (rows_of origin rows t)) → rules ≡ rules_of origin rows
+    → ((t : Trigger) → IsNamed t → rule_at rules t ≡ action_by t (rows_of origin rows t)) → rules ≡ rules_of origin rows
 only_rules told origin rows rules are named ordered same =
     same_rules told rules (rules_of origin rows) ordered (rules_in_order origin rows) named (rules_named origin rows are)
-    (λ t. same t ∙ sym (rule_of_rows origin rows t))
+    (λ t is. same t is ∙ sym (rule_of_rows origin rows t))
 
 -- ---- the order of the rows
 
@@ -136,4 +136,4 @@ rows_of_other rows other are same = λ k d lt. All-contains IsRow rows (get_or o
 pub rules_in_any_order : AreTold → DoSameInAnyOrder → (origin : List (List ℕ)) (rows other : List PlainRow) → All IsRow rows → HaveOneTtl rows → HaveSameRows rows other → rules_of origin rows ≡ rules_of origin other
 rules_in_any_order told do_same origin rows other are one_ttl same =
     only_rules told origin other (rules_of origin rows) (rows_of_other rows other are same) (rules_named origin rows are) (rules_in_order origin rows)
-    (λ t. rule_of_rows origin rows t ∙ rows_in_any_order do_same origin rows other t are one_ttl same)
+    (λ t is. rule_of_rows origin rows t ∙ rows_in_any_order do_same origin rows other t are one_ttl same)

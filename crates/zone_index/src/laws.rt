@@ -20,7 +20,7 @@ pub fn a_rule_does_what_its_rows_do()
     ensures at { (origin : List (List ℕ)) (rows : List PlainRow) (t : Trigger) → rule_at (rules_of origin rows) t ≡ action_by t (rows_of origin rows t) }
     ensures ordered { (origin : List (List ℕ)) (rows : List PlainRow) → IsInOrder (rules_of origin rows) }
     ensures named { (origin : List (List ℕ)) (rows : List PlainRow) → All IsRow rows → AreNamed (rules_of origin rows) }
-    ensures only { (origin : List (List ℕ)) (rows : List PlainRow) (rules : PlainRules) → All IsRow rows → AreNamed rules → IsInOrder rules → ((t : Trigger) → rule_at rules t ≡ action_by t (rows_of origin rows t)) → rules ≡ rules_of origin rows }
+    ensures only { (origin : List (List ℕ)) (rows : List PlainRow) (rules : PlainRules) → All IsRow rows → AreNamed rules → IsInOrder rules → ((t : Trigger) → IsNamed t → rule_at rules t ≡ action_by t (rows_of origin rows t)) → rules ≡ rules_of origin rows }
 {
     a_name_is_told_by_its_octets();
 }
