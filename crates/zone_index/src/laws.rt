@@ -15,7 +15,7 @@ use dns_name::laws::a_name_is_told_by_its_octets;
 
 /// What the rules of a zone do at a trigger is what the live rows of this trigger do, in the order of the zone,
 /// and they have none for it where these do nothing. The rules stand in order of precedence, each trigger once.
-/// Of a zone of rows, no other rules do.
+/// There are no other rules of which this is true.
 pub fn a_rule_does_what_its_rows_do()
     ensures at { (origin : List (List ℕ)) (rows : List PlainRow) (t : Trigger) → rule_at (rules_of origin rows) t ≡ action_by t (rows_of origin rows t) }
     ensures ordered { (origin : List (List ℕ)) (rows : List PlainRow) → IsInOrder (rules_of origin rows) }
