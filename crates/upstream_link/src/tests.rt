@@ -12,7 +12,7 @@ const ANSWER: &[u8] =
 
 // The question `x.Example`, type A.
 fn question(alloc: Global) -> Result<Question, AllocError> {
-    let name = Name::from_text(alloc, "x.Example").map_err(|_| AllocError)?;
+    let name = Name::from_text(alloc, b"x.Example").map_err(|_| AllocError)?;
     Ok(Question {
         name,
         qtype: 1,
@@ -40,7 +40,7 @@ fn facts_are_found_by_their_question(rt: HostRuntime) -> Result<(), Fail> {
     let alloc = rt.alloc();
     let mut facts = Facts::new(alloc);
     facts.push(question(alloc)?, told(alloc, 7)?)?;
-    let name = Name::from_text(alloc, "X.example").map_err(|_| AllocError)?;
+    let name = Name::from_text(alloc, b"X.example").map_err(|_| AllocError)?;
     assert!(rt; facts.get(&name, 28).is_none());
     let known = facts.get(&name, 1).ok_or("a fact")?;
     match known {
