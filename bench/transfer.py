@@ -13,84 +13,20 @@ the ratio of the two times.
 
 import os
 import random
-import struct
 import subprocess
 import sys
 import tempfile
 import time
 
+from stream import write_zone
+
 COUNTS = (100_000, 1_000_000)
 RUNS = 3
-SIZE = 65_535
 GROUP = 100  # rows of one gJ.example.rpz.example
 
-TTL = 60
-ZONE = 12  # where the question's name begins
-ORIGIN = b"\x03rpz\x07example\x00"
-QUESTION = ORIGIN + struct.pack(">HH", 252, 1)
-SOA_DATA = b"\x00\x00" + struct.pack(">IIIII", 1, 3600, 600, 86400, 60)
 
-
-def pointer(place):
-    return struct.pack(">H", 0xC000 | place)
-
-
-def record(owner, rtype, data):
-    return owner + struct.pack(">HHIH", rtype, 1, TTL, len(data)) + data
-
-
-def label(text):
-    return bytes([len(text)]) + text.encode()
-
-
-class Writer:
-    """Writes records into messages, each behind its length."""
-
-    def __init__(self, out):
-        self.out = out
-        self.begin()
-
-    def begin(self):
-        self.body = bytearray(12) + QUESTION
-        self.answers = 0
-        self.places = {}  # where the names that begin with these labels stand in the message
-
-    def end(self):
-        struct.pack_into(">HHHHHH", self.body, 0, 0, 0x8400, 1, self.answers, 0, 0)
-        self.out.write(struct.pack(">H", len(self.body)) + self.body)
-        self.begin()
-
-    def put(self, data):
-        self.body += data
-        self.answers += 1
-
-    def soa(self):
-        data = record(pointer(ZONE), 6, SOA_DATA)
-        if len(self.body) + len(data) > SIZE:
-            self.end()
-        self.put(data)
-
-    def row(self, number):
-        data, places = self.cname(number)
-        if len(self.body) + len(data) > SIZE:
-            self.end()
-            data, places = self.cname(number)
-        self.places.update(places)
-        self.put(data)
-
-    def cname(self, number):
-        """The row, and where the names that it writes out will stand."""
-        group, host = divmod(number, GROUP)
-        owner = label(f"h{host}")
-        new = {}
-        for text in (f"g{group}", "example"):
-            if text in self.places:
-                return record(owner + pointer(self.places[text]), 5, b"\x00"), new
-            at = len(self.body) + len(owner)
-            if at < 0x4000:  # a pointer reaches no further
-                new[text] = at
-            owner += label(text)
-        return record(owner + pointer(ZONE), 5, b"\x00"), new
+def owner(number):
+    return (f"h{number % GROUP}", f"g{number // GROUP}", "example")
 
 
 def in_canonical_order(count):
@@ -102,15 +38,6 @@ def shuffled(count):
     numbers = list(range(count))
     random.Random(count).shuffle(numbers)
     return numbers
-
-
-def write_stream(out, numbers):
-    writer = Writer(out)
-    writer.soa()
-    for number in numbers:
-        writer.row(number)
-    writer.soa()
-    writer.end()
 
 
 def in_a_child(write, stream):
@@ -139,7 +66,7 @@ def run(program, path):
 
 def measure(program, count, order):
     with tempfile.NamedTemporaryFile(suffix=".stream") as stream:
-        in_a_child(lambda: write_stream(stream, order(count)), stream)
+        in_a_child(lambda: write_zone(stream, map(owner, order(count))), stream)
         best = None
         for _ in range(RUNS):
             status, told, seconds, memory = run(program, stream.name)

@@ -7,7 +7,6 @@ use Rattle.dns_record.specs.Record.{PlainRecord}
 use Rattle.dns_record.specs.Soa.{soa_record}
 use Rattle.dns_message.specs.declared.request.Query.{Query}
 use Rattle.zone_rows.specs.declared.zone.Content.{Content}
-use Rattle.zone_rows.specs.declared.zone.PlainZone.{PlainZone}
 use Rattle.action_codec.specs.declared.action.Action.{Action}
 use Rattle.prefix_index.specs.Longest.{longest}
 use Rattle.qname_index.specs.Best.{best}

@@ -1,9 +1,7 @@
 -- What an indexed zone stands for, and that its index agrees with its rows.
 use Rattle.std.specs.Prelude.{◌≡◌, ℕ, List, Option, Some, None}
-use Rattle.dns_record.specs.Record.{PlainRecord}
 use Rattle.dns_record.specs.Soa.{soa_record}
 use Rattle.zone_rows.specs.declared.zone.Content.{Content}
-use Rattle.zone_index.specs.Kinds.{PlainRules}
 use Rattle.zone_index.specs.Rules.{rules_of}
 use Rattle.query_session.specs.declared.policy_zone.Index.{Index}
 use Rattle.query_session.specs.declared.policy_zone.PolicyZone.TheInside.{Inside}

@@ -1,5 +1,5 @@
 -- What is known at a point: facts, each beside the question that it answers.
-use Rattle.std.specs.Prelude.{ℕ, ◌==◌, ◌&&◌, Bool, List, Option}
+use Rattle.std.specs.Prelude.{List, Option}
 use Rattle.std.specs.List.{find}
 use Rattle.std.specs.Option.{option_map}
 use Rattle.dns_message.specs.declared.question.Question.{Question}

@@ -1,0 +1,154 @@
+#!/usr/bin/env python3
+"""How fast queries are answered by the rules of a zone, and how this changes with their number.
+
+    python3 bench/queries.py QUERY_BENCH RPZ
+
+QUERY_BENCH and RPZ are the built programs query_bench and rpz_program. Half of the rules of a zone are
+hK.gJ.example CNAME . and half *.wK.gJ.example CNAME . (every name doesn't exist). Exact hits ask for names of the first
+kind, wildcard hits for x.wK.gJ.example, and passes for pK.gJ.example, which the server answers with one address.
+The names are drawn at random, the same at each run.
+
+The first table is that of query_bench, which reads a transfer and then messages, for 1,000 and 1,000,000 rules: the
+queries per second once the zone is loaded. The second is that of `rpz replay` for 1,000 rules and for as many as one
+line of a script holds, without the time of a script that has no queries. Each is the best of three runs.
+"""
+
+import io
+import random
+import struct
+import subprocess
+import sys
+import tempfile
+import time
+
+from stream import label, write_zone
+
+RUNS = 3
+GROUP = 100  # rows of one gJ.example
+BENCH_RULES = (1_000, 1_000_000)
+BENCH_QUERIES = 300_000
+LINE = 200_000  # bytes that a line of a script has at most
+REPLAY_RULES = (1_000, 4_000)
+REPLAY_QUERIES = 100_000
+
+
+def rules(count):
+    half = count // 2
+    rows = [(f"h{number % GROUP}", f"g{number // GROUP}", "example") for number in range(half)]
+    rows += [("*", f"w{number % GROUP}", f"g{number // GROUP}", "example") for number in range(half)]
+    return rows
+
+
+def asked(kind, number):
+    group, host = divmod(number, GROUP)
+    if kind == "exact hits":
+        return (f"h{host}", f"g{group}", "example")
+    if kind == "wildcard hits":
+        return ("x", f"w{host}", f"g{group}", "example")
+    return (f"p{host}", f"g{group}", "example")
+
+
+def question(labels):
+    return b"".join(map(label, labels)) + b"\x00" + struct.pack(">HH", 1, 1)
+
+
+def query(labels):
+    return struct.pack(">HHHHHH", 0x1234, 0x0100, 1, 0, 0, 0) + question(labels)
+
+
+def answer(identifier, labels):
+    """What the server answers: the address 192.0.2.9."""
+    head = struct.pack(">HHHHHH", identifier, 0x8180, 1, 1, 0, 0)
+    return head + question(labels) + bytes.fromhex("c00c000100010000012c0004c0000209")
+
+
+def drawn(kind, count, queries):
+    """The names of queries, the same at each run."""
+    draw = random.Random(f"{kind} {count}")
+    return (asked(kind, draw.randrange(count // 2)) for _ in range(queries))
+
+
+def frame(message):
+    return struct.pack(">H", len(message)) + message
+
+
+def write_bench(out, kind, count):
+    write_zone(out, rules(count))
+    for labels in drawn(kind, count, BENCH_QUERIES):
+        out.write(frame(query(labels)))
+        if kind == "passes":
+            out.write(frame(answer(0, labels)))
+
+
+def bench_seconds(program, path, count):
+    """The seconds from the line that tells that the zone is loaded to the end."""
+    with open(path, "rb") as stream:
+        child = subprocess.Popen([program], stdin=stream, stdout=subprocess.PIPE)
+        told = child.stdout.readline()
+        start = time.perf_counter()
+        rest = child.stdout.read()
+        seconds = time.perf_counter() - start
+        status = child.wait()
+    if status != 0 or told != f"rows {count}\n".encode() or not rest.startswith(f"replies {BENCH_QUERIES} silent 0 ".encode()):
+        sys.exit(f"{count} rules: status {status}, {told!r}, {rest!r}")
+    return seconds
+
+
+def write_script(out, kind, count, queries):
+    transfer = io.BytesIO()
+    write_zone(transfer, rules(count))
+    line = f"xfer 1 {transfer.getvalue().hex()}"
+    if len(line) > LINE:
+        sys.exit(f"{count} rules are too many for a line")
+    out.write(f"zone rpz.example\n{line}\n".encode())
+    for number, labels in enumerate(drawn(kind, count, queries)):
+        out.write(f"query 0 udp 192.0.2.7 {query(labels).hex()}\n".encode())
+        if kind == "passes":
+            out.write(f"give 0 {answer((number + 1) % 65536, labels).hex()}\n".encode())
+
+
+def replay_seconds(program, path):
+    with open(path, "rb") as stream:
+        start = time.perf_counter()
+        status = subprocess.run([program, "replay"], stdin=stream, stdout=subprocess.DEVNULL).returncode
+        seconds = time.perf_counter() - start
+    if status != 0:
+        sys.exit(f"replay: status {status}")
+    return seconds
+
+
+def best_of(write, measure):
+    """The least seconds of several runs over what `write` writes."""
+    with tempfile.NamedTemporaryFile(suffix=".input") as stream:
+        write(stream)
+        stream.flush()
+        return min(measure(stream.name) for _ in range(RUNS))
+
+
+def bench_rate(program, kind, count):
+    seconds = best_of(lambda out: write_bench(out, kind, count), lambda path: bench_seconds(program, path, count))
+    return BENCH_QUERIES / seconds
+
+
+def replay_rate(program, kind, count):
+    full = best_of(lambda out: write_script(out, kind, count, REPLAY_QUERIES), lambda path: replay_seconds(program, path))
+    bare = best_of(lambda out: write_script(out, kind, count, 0), lambda path: replay_seconds(program, path))
+    return REPLAY_QUERIES / (full - bare)
+
+
+def table(title, rate, program, counts):
+    print(title)
+    for kind in ("exact hits", "wildcard hits", "passes"):
+        few, many = (rate(program, kind, count) for count in counts)
+        print(f"{kind}: {few:.0f} queries/s with {counts[0]} rules, {many:.0f} with {counts[1]}; a query takes {few / many:.2f} times as long")
+
+
+def main():
+    if len(sys.argv) != 3:
+        sys.exit("usage: python3 bench/queries.py QUERY_BENCH RPZ")
+    table("query_bench", bench_rate, sys.argv[1], BENCH_RULES)
+    table("rpz replay", replay_rate, sys.argv[2], REPLAY_RULES)
+
+
+if __name__ == "__main__":
+    main()
