@@ -1,4 +1,5 @@
 pub mod Entries
+pub mod Heads
 pub mod Ranks
 pub mod Scan
 pub mod Turns

@@ -1,3 +1,4 @@
 pub mod Best
+pub mod Head
 pub mod Index
 pub mod Rank

@@ -9,7 +9,7 @@ ghost use Rattle.qname_index.specs.Best.{pattern_order, best};
 ghost use Rattle.qname_index.specs.Index.{IsIndex};
 ghost use Rattle.qname_index.specs.Rank.{has_rank};
 
-use crate::key::{Asked, Key};
+use crate::key::{Asked, Key, head_of};
 use dns_name::laws::{a_name_is_told_by_its_octets, names_that_are_alike};
 use dns_name::{Name, Pattern};
 use std::alloc::{AllocError, Global};
@@ -115,10 +115,12 @@ impl<V> NameMap<V> {
         names_that_are_alike();
         let mut labels = name.labels();
         let mut left = name.label_count();
+        let octets = labels.octets();
         let exact = Asked {
             wild: false,
             labels: left,
-            octets: labels.octets(),
+            octets,
+            head: head_of(octets),
         };
         if let Some(found) = self.find(exact) {
             return Some(found);
@@ -126,10 +128,12 @@ impl<V> NameMap<V> {
         while left > 0 {
             let _label = labels.next_label();
             left -= 1;
+            let octets = labels.octets();
             let wild = Asked {
                 wild: true,
                 labels: left,
-                octets: labels.octets(),
+                octets,
+                head: head_of(octets),
             };
             if let Some(found) = self.find(wild) {
                 return Some(found);
