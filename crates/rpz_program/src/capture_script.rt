@@ -4,8 +4,10 @@
 //! zero. The queries and the answers of the server were written by hand, to meet each rule of the zone and to show
 //! each action (draft-vixie-dnsop-dns-rpz). What is written for them stands in `capture_transcript`.
 
-/// The script: the strings one behind the other are its bytes.
-pub const SCRIPT: [&str; 387] = [
+use super::capture_tests::push;
+use std::alloc::{AllocError, Global};
+
+const PART_1: [&str; 42] = [
     "zone rpz.example\n",
     // a whole zone, as a primary sent it
     "# The zone as a primary sent it: serial 1, 17 rows, the NS row at the top\n",
@@ -50,6 +52,9 @@ pub const SCRIPT: [&str; 387] = [
     "# nodata.example CNAME *. : NODATA, whatever type is asked.\n",
     "query 2 udp 198.51.100.7 000601000001000000000000066e6f64617461076578616d706c6",
     "50000010001\n",
+];
+
+const PART_2: [&str; 48] = [
     "query 2 tcp 198.51.100.7 000701000001000000000000064e6f44617461076578616d706c6",
     "50000ff0001\n",
     "# That rule has no wildcard beside it: a name below it is asked and passes.\n",
@@ -101,6 +106,9 @@ pub const SCRIPT: [&str; 387] = [
     "000012c0004c0000205\n",
     // a local CNAME with a fixed target
     "# moved.example CNAME garden.example. : the target is asked. The reply has\n",
+];
+
+const PART_3: [&str; 45] = [
     "# the CNAME row, the target's rows (no rule is looked up for these, so\n",
     "# 192.0.2.5 passes) and the policy zone's SOA.\n",
     "query 0 udp 198.51.100.7 003001000001000000000000056d6f766564076578616d706c650",
@@ -148,6 +156,9 @@ pub const SCRIPT: [&str; 387] = [
     "# the rows of the type that is asked; nothing is asked upstream.\n",
     "query 0 udp 198.51.100.7 004001000001000000000000056c6f63616c076578616d706c650",
     "000010001\n",
+];
+
+const PART_4: [&str; 46] = [
     "query 0 udp 20010db8000000010000000000000053 004101000001000000000000056c6f636",
     "16c076578616d706c6500001c0001\n",
     "query 0 tcp 198.51.100.7 004201000001000000000000056c6f63616c076578616d706c650",
@@ -196,6 +207,9 @@ pub const SCRIPT: [&str; 387] = [
     "04414444520453414645074558414d504c4500000100010000012c0004cb007115c00c00010001",
     "0000012c0004cb00711604414444520473616665c02d000100010000012c0004c0000205\n",
     "# The addresses next to it are under no rule: they pass.\n",
+];
+
+const PART_5: [&str; 45] = [
     "query 0 udp 198.51.100.7 00620100000100000000000004616464720473616665076578616",
     "d706c650000010001\n",
     "give 0 00118180000100020000000004616464720473616665076578616d706c650000010001c",
@@ -242,6 +256,9 @@ pub const SCRIPT: [&str; 387] = [
     "# 192.0.2.9 as an address in the answer is under no rule.\n",
     "query 0 udp 198.51.100.7 007101000001000000000000046e696e650673657276656407657",
     "8616d706c650000010001\n",
+];
+
+const PART_6: [&str; 44] = [
     "give 0 001881800001000100000000046e696e6506736572766564076578616d706c650000010",
     "001c00c00010001000002580004c0000209\n",
     "# The NS row at the top of the zone is no rule: the root's servers pass.\n",
@@ -286,6 +303,9 @@ pub const SCRIPT: [&str; 387] = [
     "00c000100010000012c0004cb00711f\n",
     "query 0 tcp 20010db8000000010000000000000053 007a01000001000000000000046c6f737",
     "40473616665076578616d706c650000010001\n",
+];
+
+const PART_7: [&str; 28] = [
     "give 0 002183800001000000000000046c6f73740473616665076578616d706c650000010001\n",
     // workers that wait at once
     "# Workers 1 and 2 wait at once, worker 3 is answered meanwhile. The second\n",
@@ -316,6 +336,9 @@ pub const SCRIPT: [&str; 387] = [
     "6564076578616d706c650000010001\n",
     "# The zone again, serial 3: drop.example is gone, new.example CNAME . and\n",
     "# third.example CNAME *. came, local.example has another address. 18 rows.\n",
+];
+
+const PART_8: [&str; 42] = [
     "xfer 1 024e0000840000010014000000000372707a076578616d706c650000fc0001c00c00060",
     "0010000003c0026096c6f63616c686f73740004726f6f74c0290000000300000e1000000258000",
     "151800000003cc00c000200010000003c0002c02903626164076578616d706c65c00c000500010",
@@ -359,6 +382,9 @@ pub const SCRIPT: [&str; 387] = [
     "# drop.example has no rule any more: asked, and the answer passes.\n",
     "query 0 udp 198.51.100.7 00a3010000010000000000000464726f70076578616d706c65000",
     "0010001\n",
+];
+
+const PART_9: [&str; 47] = [
     "give 0 0029818000010001000000000464726f70076578616d706c650000010001c00c0001000",
     "10000003c0004cb00712e\n",
     "# local.example A 192.0.2.8 : the old address is gone, the other rows stayed.\n",
@@ -408,3 +434,55 @@ pub const SCRIPT: [&str; 387] = [
     "0001c00c00010001000002580004cb00711ec01100020001000002580009026e7303626164c018",
     "c04100010001000002580004c0000209\n",
 ];
+
+fn push_part_1(out: &mut Vec<u8>) -> Result<(), AllocError> {
+    push(out, &PART_1)
+}
+
+fn push_part_2(out: &mut Vec<u8>) -> Result<(), AllocError> {
+    push(out, &PART_2)
+}
+
+fn push_part_3(out: &mut Vec<u8>) -> Result<(), AllocError> {
+    push(out, &PART_3)
+}
+
+fn push_part_4(out: &mut Vec<u8>) -> Result<(), AllocError> {
+    push(out, &PART_4)
+}
+
+fn push_part_5(out: &mut Vec<u8>) -> Result<(), AllocError> {
+    push(out, &PART_5)
+}
+
+fn push_part_6(out: &mut Vec<u8>) -> Result<(), AllocError> {
+    push(out, &PART_6)
+}
+
+fn push_part_7(out: &mut Vec<u8>) -> Result<(), AllocError> {
+    push(out, &PART_7)
+}
+
+fn push_part_8(out: &mut Vec<u8>) -> Result<(), AllocError> {
+    push(out, &PART_8)
+}
+
+fn push_part_9(out: &mut Vec<u8>) -> Result<(), AllocError> {
+    push(out, &PART_9)
+}
+
+/// The bytes of the script. Each part has a function of its own: the prover looks at all
+/// texts of a function at once.
+pub fn script(alloc: Global) -> Result<Vec<u8>, AllocError> {
+    let mut out = Vec::new(alloc);
+    push_part_1(&mut out)?;
+    push_part_2(&mut out)?;
+    push_part_3(&mut out)?;
+    push_part_4(&mut out)?;
+    push_part_5(&mut out)?;
+    push_part_6(&mut out)?;
+    push_part_7(&mut out)?;
+    push_part_8(&mut out)?;
+    push_part_9(&mut out)?;
+    Ok(out)
+}
