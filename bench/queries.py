@@ -29,7 +29,7 @@ GROUP = 100  # rows of one gJ.example
 BENCH_RULES = (1_000, 1_000_000)
 BENCH_QUERIES = 300_000
 LINE = 200_000  # bytes that a line of a script has at most
-REPLAY_RULES = (1_000, 4_000)
+REPLAY_RULES = (1_000, 5_000)
 REPLAY_QUERIES = 100_000
 
 
