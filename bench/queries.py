@@ -3,7 +3,7 @@
 
     python3 bench/queries.py QUERY_BENCH RPZ
 
-QUERY_BENCH and RPZ are the built programs query_bench and rpz_program. Half of the rules of a zone are
+QUERY_BENCH and RPZ are the built programs query_bench and rpz. Half of the rules of a zone are
 hK.gJ.example CNAME . and half *.wK.gJ.example CNAME . (every name doesn't exist). Exact hits ask for names of the first
 kind, wildcard hits for x.wK.gJ.example, and passes for pK.gJ.example, which the server answers with one address.
 The names are drawn at random, the same at each run.

@@ -7,8 +7,6 @@ mod live;
 mod local;
 mod order;
 mod table;
-#[cfg(test)]
-mod tests;
 mod words;
 
 pub use action::Action;

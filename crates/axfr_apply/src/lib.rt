@@ -2,8 +2,6 @@
 #![tactic(auto)]
 
 mod asked;
-#[cfg(test)]
-mod captures;
 mod fault;
 mod heads;
 mod places;
@@ -12,8 +10,6 @@ mod reader;
 mod step;
 mod stream;
 mod taken;
-#[cfg(test)]
-mod tests;
 
 pub use asked::{Asked, MOST};
 pub use fault::{TransferError, TransferFault};

@@ -23,6 +23,3 @@ pub use reading::read_message;
 pub use request::{Incoming, Query};
 pub use triage::{classify, speaks};
 pub use writing::{write_message, write_parts, write_records, write_start};
-
-#[cfg(test)]
-mod tests;

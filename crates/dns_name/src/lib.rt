@@ -12,8 +12,6 @@ mod octets;
 mod order;
 mod parts;
 mod pattern;
-#[cfg(test)]
-mod tests;
 mod text;
 
 pub use cursor::Labels;

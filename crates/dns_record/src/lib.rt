@@ -26,6 +26,3 @@ pub use records::Records;
 pub use serial::serial_newer;
 pub use soa::Soa;
 pub use soa_reading::soa_of;
-
-#[cfg(test)]
-mod tests;

@@ -3,7 +3,5 @@
 
 mod map;
 mod ranked;
-#[cfg(test)]
-mod tests;
 
 pub use map::PrefixMap;

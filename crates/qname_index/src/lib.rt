@@ -3,8 +3,6 @@
 
 mod key;
 mod map;
-#[cfg(test)]
-mod tests;
 
 // A crate can name a map in a contract only if the types of its fields are exported.
 #[doc(hidden)]

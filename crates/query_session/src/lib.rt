@@ -5,8 +5,6 @@ mod finding;
 mod policy;
 mod policy_zone;
 mod session;
-#[cfg(test)]
-mod tests;
 
 pub use policy::Policy;
 pub use policy_zone::PolicyZone;

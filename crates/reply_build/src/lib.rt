@@ -7,8 +7,6 @@ mod needs;
 mod reply;
 mod said;
 mod target;
-#[cfg(test)]
-mod tests;
 mod verdict;
 
 pub use building::build;

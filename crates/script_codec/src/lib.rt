@@ -10,8 +10,6 @@ mod output;
 mod output_text;
 mod refusal;
 mod state;
-#[cfg(test)]
-mod tests;
 mod why;
 
 pub use line::Line;

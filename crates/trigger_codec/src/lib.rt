@@ -11,8 +11,6 @@ pub mod laws;
 mod marker;
 mod runs;
 mod spelling;
-#[cfg(test)]
-mod tests;
 mod trigger;
 
 pub use canonical::owner_of;

@@ -5,8 +5,6 @@ mod answer;
 mod asking;
 mod fact;
 mod facts;
-#[cfg(test)]
-mod tests;
 
 pub use answer::Answer;
 pub use asking::{main_question, question_bytes};

@@ -7,7 +7,5 @@ mod groups;
 mod kinds;
 pub mod laws;
 mod rules;
-#[cfg(test)]
-mod tests;
 
 pub use rules::Rules;

@@ -7,8 +7,6 @@ pub mod laws;
 mod lowering;
 mod row;
 mod rows;
-#[cfg(test)]
-mod tests;
 mod transfer;
 mod zone;
 

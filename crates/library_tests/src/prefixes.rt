@@ -1,0 +1,68 @@
+//! Look-ups among nested prefixes, in the ranges for documentation (RFC 5737, RFC 3849).
+
+use ip_prefix::{Addr, Prefix};
+use prefix_index::PrefixMap;
+use std::alloc::{AllocError, Global};
+use std::test::Fail;
+
+// 192.0.2.0
+const NET: Addr = Addr::V4(0xc000_0200);
+
+// 2001:db8::
+const NET_OF_6: Addr = Addr::V6(0x2001_0db8_0000_0000_0000_0000_0000_0000);
+
+// 192.0.2.0/24 is 1, 192.0.2.0/28 is 2 and 2001:db8::/32 is 3.
+fn nested(alloc: Global) -> Result<PrefixMap<u32>, AllocError> {
+    let mut map = PrefixMap::new(alloc);
+    for (prefix, number) in [
+        (Prefix::of(NET, 24), 1),
+        (Prefix::of(NET, 28), 2),
+        (Prefix::of(NET_OF_6, 32), 3),
+    ] {
+        map.insert(prefix, number)?;
+    }
+    Ok(map)
+}
+
+#[test]
+fn the_longest_prefix_is_found(rt: HostRuntime) -> Result<(), Fail> {
+    let map = nested(rt.alloc())?;
+    for (addr, number) in [
+        (Addr::V4(0xc000_020f), Some(2)),
+        (Addr::V4(0xc000_0210), Some(1)),
+        (Addr::V4(0xc000_0300), None),
+        (NET_OF_6, Some(3)),
+        // 192.0.2.0, mapped into version 6
+        (Addr::V6(0xffff_c000_0200), None),
+    ] {
+        let found = map.longest(addr).map(|(_, number)| *number);
+        assert_eq!(rt; found, number);
+    }
+    Ok(())
+}
+
+#[test]
+fn a_value_is_replaced_and_removed(rt: HostRuntime) -> Result<(), Fail> {
+    let mut map = nested(rt.alloc())?;
+    assert_eq!(rt; map.insert(Prefix::of(NET, 28), 9)?, Some(2));
+    assert_eq!(rt; map.get(Prefix::of(NET, 28)).copied(), Some(9));
+    assert_eq!(rt; map.remove(Prefix::of(NET, 28)), Some(9));
+    assert_eq!(rt; map.get(Prefix::of(NET, 28)).copied(), None);
+    Ok(())
+}
+
+// Of 192.0.2.0/24 and /28 the longer stands first; a prefix of version 4 has 96 bits more as one of version 6.
+#[test]
+fn entries_stand_in_order_of_precedence(rt: HostRuntime) -> Result<(), Fail> {
+    let entries = nested(rt.alloc())?.into_entries(rt.alloc())?;
+    assert_eq!(rt;
+        entries.as_slice(),
+        [
+            (Prefix::of(NET, 28), 2),
+            (Prefix::of(NET, 24), 1),
+            (Prefix::of(NET_OF_6, 32), 3),
+        ]
+        .as_slice()
+    );
+    Ok(())
+}

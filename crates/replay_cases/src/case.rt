@@ -1,0 +1,66 @@
+// One script, how it is to be run, and what it gives.
+
+use edge_io::{ListSink, ListSource};
+use rpz_program::run::run;
+use rpz_program::status::Status;
+use std::alloc::{AllocError, Global};
+
+/// What the line before a script says of it.
+#[derive(Drop)]
+pub struct Case {
+    name: String,
+    /// The most bytes of a read and of a write, at least 1.
+    piece: usize,
+    /// The bytes of the script.
+    pub length: usize,
+    words: Vec<String>,
+    ghost some: { 0 < piece },
+}
+
+// A number in decimal digits; `None` where there is none.
+fn number(text: Option<&String>) -> Option<usize> {
+    text?.as_str().parse::<usize>().ok()
+}
+
+impl Case {
+    /// Reads the line; `None` where it isn't of the form.
+    pub fn read(alloc: Global, line: &str) -> Result<Option<Case>, AllocError> {
+        let mut fields = Vec::new(alloc);
+        for field in line.split_whitespace() {
+            fields.push(String::from_str(alloc, field)?)?;
+        }
+        let (Some(piece), Some(length)) = (number(fields.get(2)), number(fields.get(3))) else {
+            return Ok(None);
+        };
+        let words = fields.split_off(4)?;
+        let name = fields.swap_remove(1);
+        let piece = if piece == 0 { usize::MAX } else { piece };
+        Ok(Some(Case {
+            name,
+            piece,
+            length,
+            words,
+        }))
+    }
+
+    /// Runs the script, and gives its name, its transcript and its status in lines.
+    pub fn run(&self, alloc: Global, script: Vec<u8>) -> Result<Vec<u8>, AllocError> {
+        let mut source = ListSource::new(script, self.piece, Vec::new(alloc));
+        let mut sink = ListSink::new(Vec::new(alloc), self.piece, Vec::new(alloc));
+        let status = run(alloc, &self.words, &mut source, &mut sink);
+        let first = format!(in alloc; "case {}\n", self.name)?;
+        let mut out = Vec::from_slice(alloc, first.as_bytes())?;
+        out.extend_from_slice(&sink.bytes)?;
+        out.extend_from_slice(status_line(alloc, status)?.as_bytes())?;
+        Ok(out)
+    }
+}
+
+// The line `status CODE TEXT`, or without a text where the status has none.
+fn status_line(alloc: Global, status: Status) -> Result<String, AllocError> {
+    let code = status.code();
+    match status.text(alloc)? {
+        Some(text) => Ok(format!(in alloc; "status {code} {text}\n")?),
+        None => Ok(format!(in alloc; "status {code}\n")?),
+    }
+}

@@ -1,0 +1,85 @@
+//! Runs whose reads and writes fail, and what is told of a status. What runs answer stands in scenarios/.
+
+use edge_io::{ListSink, ListSource};
+use rpz_program::run::{replayed, run};
+use rpz_program::status::Status;
+use std::alloc::{AllocError, Global};
+use std::test::Fail;
+
+// A query without a byte, and one whose opcode isn't served: lines of 24 and 47 bytes.
+const SCRIPT: &[u8] = b"query 0 udp 192.0.2.7 -\nquery 1 udp 192.0.2.7 abcd11000000000000000000\n";
+
+// Their outputs: lines of 9 and 33 bytes.
+const OUTPUT: &[u8] = b"silent 0\nreply 1 abcd91840000000000000000\n";
+
+fn replay_words(alloc: Global) -> Result<Vec<String>, AllocError> {
+    let mut words = Vec::new(alloc);
+    words.push(String::from_str(alloc, "replay")?)?;
+    Ok(words)
+}
+
+// The status and the output of the script, read 10 bytes and written 5 bytes at a time, where these reads and writes fail.
+fn run_failing(
+    alloc: Global,
+    reads: Vec<u64>,
+    writes: Vec<u64>,
+) -> Result<(Status, Vec<u8>), AllocError> {
+    let mut source = ListSource::new(SCRIPT.to_vec(alloc)?, 10, reads);
+    let mut sink = ListSink::new(Vec::new(alloc), 5, writes);
+    let status = run(alloc, &replay_words(alloc)?, &mut source, &mut sink);
+    Ok((status, sink.bytes))
+}
+
+// Each read fails in turn, that at the end too: the lines whose line feed was read are answered.
+#[test]
+fn each_read_fails(rt: HostRuntime) -> Result<(), Fail> {
+    let alloc = rt.alloc();
+    for (call, written) in [0usize, 0, 0, 9, 9, 9, 9, 9, 42].iter().enumerate() {
+        let failing = vec![in alloc; call as u64]?;
+        let (status, out) = run_failing(alloc, failing, Vec::new(alloc))?;
+        assert_eq!(rt; status, Status::ReadFault, "at {call}");
+        assert_eq!(rt; out.as_slice(), &OUTPUT[..*written], "at {call}");
+    }
+    Ok(())
+}
+
+// Each write fails in turn: what was written before it stays.
+#[test]
+fn each_write_fails(rt: HostRuntime) -> Result<(), Fail> {
+    let alloc = rt.alloc();
+    for (call, written) in [0usize, 5, 9, 14, 19, 24, 29, 34, 39].iter().enumerate() {
+        let failing = vec![in alloc; call as u64]?;
+        let (status, out) = run_failing(alloc, Vec::new(alloc), failing)?;
+        assert_eq!(rt; status, Status::WriteFault, "at {call}");
+        assert_eq!(rt; out.as_slice(), &OUTPUT[..*written], "at {call}");
+    }
+    Ok(())
+}
+
+#[test]
+fn a_script_in_memory_is_replayed(rt: HostRuntime) -> Result<(), Fail> {
+    let alloc = rt.alloc();
+    let (status, out) = run_failing(alloc, Vec::new(alloc), Vec::new(alloc))?;
+    assert_eq!(rt; status, Status::Done);
+    assert_eq!(rt; out.as_slice(), OUTPUT);
+    let got = replayed(alloc, SCRIPT.to_vec(alloc)?)
+        .ok()
+        .ok_or("a transcript")?;
+    assert_eq!(rt; got.as_slice(), OUTPUT);
+    Ok(())
+}
+
+// The texts that no scenario shows.
+#[test]
+fn statuses_have_their_texts(rt: HostRuntime) -> Result<(), Fail> {
+    for (status, code, text) in [
+        (Status::ReadFault, 4, "rpz: read fault"),
+        (Status::WriteFault, 5, "rpz: write fault"),
+        (Status::OutOfMemory, 9, "rpz: out of memory"),
+    ] {
+        assert_eq!(rt; status.code(), code);
+        let got = status.text(rt.alloc())?.ok_or("a text")?;
+        assert_eq!(rt; got.as_str(), text);
+    }
+    Ok(())
+}
