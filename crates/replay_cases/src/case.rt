@@ -1,5 +1,7 @@
 // One script, how it is to be run, and what it gives.
 
+ghost use Rattle.std.specs.Prelude.{◌<◌};
+
 use edge_io::{ListSink, ListSource};
 use rpz_program::run::run;
 use rpz_program::status::Status;
@@ -28,6 +30,9 @@ impl Case {
         let mut fields = Vec::new(alloc);
         for field in line.split_whitespace() {
             fields.push(String::from_str(alloc, field)?)?;
+        }
+        if fields.len() < 4 {
+            return Ok(None);
         }
         let (Some(piece), Some(length)) = (number(fields.get(2)), number(fields.get(3))) else {
             return Ok(None);
