@@ -1,9 +1,10 @@
 #!/usr/bin/env python3
-"""ci_times.py [--every SECONDS] [--of PID]: the processor time of a running `rt ci`, by crate and by kind of work.
+"""ci_times.py [--every SECONDS] PID: the processor time of a running `rt ci`, by crate and by kind of work.
 
-Start it beside `rt ci`; it looks at the machine's processes until that run has ended, and then prints a table in the
-form of docs/PROOFS.md: for each crate the minutes of processor time of its proofs, of its tests and of its must-fail
-edits, and the sums. What a process used between the last look and its end is missed, so the numbers are a little low.
+Start it beside `rt ci`, whose process has the number PID; it looks at that run's processes until the run has ended, and
+then prints a table in the form of docs/PROOFS.md: for each crate the minutes of processor time of its proofs, of its tests
+and of its must-fail edits, and the sums. What a process used between the last look and its end is missed, so the numbers
+are a little low.
 """
 import argparse
 import collections
@@ -22,14 +23,27 @@ def text_of(path):
         return ""
 
 
-def processes():
-    """Each process of the compiler, as (identity, words, folder, seconds)."""
+def fields_of(pid):
+    """What the system tells of a process, from its state on."""
+    return text_of(f"/proc/{pid}/stat").rpartition(")")[2].split()
+
+
+def is_of(pid, run):
+    """Whether a process is the run or was started by it."""
+    while pid != run:
+        fields = fields_of(pid)
+        if len(fields) < 2 or fields[1] in ("0", "1"):
+            return False
+        pid = fields[1]
+    return True
+
+
+def processes(run):
+    """Each process of the compiler in a run, as (identity, words, folder, seconds)."""
     for pid in filter(str.isdigit, os.listdir("/proc")):
         words = text_of(f"/proc/{pid}/cmdline").split("\0")
-        if "--crate-name" not in words or not words[0].endswith("/rattle"):
-            continue
-        fields = text_of(f"/proc/{pid}/stat").rpartition(")")[2].split()
-        if len(fields) < 20:
+        fields = fields_of(pid)
+        if "--crate-name" not in words or not words[0].endswith("/rattle") or len(fields) < 20 or not is_of(pid, run):
             continue
         try:
             folder = os.readlink(f"/proc/{pid}/cwd")
@@ -46,17 +60,11 @@ def kind_of(words, folder):
     return name, "tests" if "--test" in words else "proofs"
 
 
-def runs_of_the_gate():
-    """Whether an `rt ci` is running."""
-    words = [text_of(f"/proc/{pid}/cmdline").split("\0") for pid in filter(str.isdigit, os.listdir("/proc"))]
-    return any(one[1:2] and one[1].endswith("/rt") and one[2:3] == ["ci"] for one in words)
-
-
-def watch(every, pid):
+def watch(every, run):
     seen = {}
     began = time.time()
-    while os.path.exists(f"/proc/{pid}") if pid else runs_of_the_gate():
-        for identity, words, folder, seconds in processes():
+    while os.path.exists(f"/proc/{run}"):
+        for identity, words, folder, seconds in processes(run):
             seen[identity] = (*kind_of(words, folder), seconds)
         time.sleep(every)
     return seen.values(), time.time() - began
@@ -77,9 +85,9 @@ def table(seen):
 def main():
     reader = argparse.ArgumentParser(description=__doc__.split("\n\n")[0])
     reader.add_argument("--every", type=float, default=0.5, metavar="SECONDS")
-    reader.add_argument("--of", type=int, metavar="PID", help="the run of `rt ci` to follow, where there are more")
+    reader.add_argument("run", metavar="PID", help="the process of `rt ci`")
     words = reader.parse_args()
-    seen, passed = watch(words.every, words.of)
+    seen, passed = watch(words.every, words.run)
     print(*table(seen), sep="\n")
     print(f"\n{passed / 60:.1f} minutes on {os.cpu_count()} processors")
 
