@@ -1,7 +1,7 @@
 // Sources and sinks in memory.
 ghost use Rattle.std.specs.Prelude.{◌≡◌, ◌≤◌, ◌<◌, ◌++◌, ℕ, List, [], Some, None, length, drop, take, vec_len};
 
-use crate::{Failed, Schedule, Sink, Source};
+use crate::{Failed, Schedule, Sink, SinkError, Source};
 use std::marker::Model;
 
 // Copies the first of the bytes, as many as there is room for, and at most `most`.
@@ -61,6 +61,8 @@ impl Source for Bytes {
 
     ghost faults = { λ _. 0 };
 
+    ghost steady = { λ _. Unit {0} };
+
     fn read(&mut self, into: &mut [u8]) -> Result<usize, Failed> {
         Ok(self.give(into.len(), into))
     }
@@ -82,6 +84,7 @@ impl ListSource {
         requires { 0 < most }
         ensures bytes { ⟦<ListSource as Source>⟧.left result ≡ Some bytes.items }
         ensures no_fault { ⟦<ListSource as Source>⟧.faults result ≡ 0 }
+        ensures steady { failing.items ≡ [] → ⟦<ListSource as Source>⟧.steady result }
     {
         ListSource {
             bytes: Bytes::new(bytes),
@@ -96,6 +99,8 @@ impl Source for ListSource {
 
     ghost faults = { λ s. s.schedule.faults };
 
+    ghost steady = { λ s. s.schedule.failing.items ≡ [] };
+
     fn read(&mut self, into: &mut [u8]) -> Result<usize, Failed> {
         if self.schedule.fails_now() {
             return Err(Failed);
@@ -104,7 +109,7 @@ impl Source for ListSource {
     }
 }
 
-/// Keeps what it is given, and fails where it is told to. Want of memory is a fault too.
+/// Keeps what it is given, and fails where it is told to. A write that finds no memory is no fault.
 #[derive(Drop)]
 pub struct ListSink {
     /// What it was given.
@@ -121,6 +126,7 @@ impl ListSink {
         requires { 0 < most }
         ensures bytes { result.bytes.items ≡ bytes.items }
         ensures no_fault { ⟦<ListSink as Sink>⟧.faults result ≡ 0 }
+        ensures steady { failing.items ≡ [] → ⟦<ListSink as Sink>⟧.steady result }
     {
         ListSink {
             bytes,
@@ -135,14 +141,15 @@ impl Sink for ListSink {
 
     ghost faults = { λ s. s.schedule.faults };
 
-    fn write(&mut self, piece: &[u8]) -> Result<usize, Failed> {
+    ghost steady = { λ s. s.schedule.failing.items ≡ [] };
+
+    fn write(&mut self, piece: &[u8]) -> Result<usize, SinkError> {
         if self.schedule.fails_now() {
-            return Err(Failed);
+            return Err(SinkError::WriteFault);
         }
         let n = piece.len().min(self.most);
         if self.bytes.extend_from_slice(&piece[..n]).is_err() {
-            self.schedule.count_fault();
-            return Err(Failed);
+            return Err(SinkError::OutOfMemory);
         }
         Ok(n)
     }
@@ -158,7 +165,9 @@ impl Sink for Discard {
 
     ghost faults = { λ _. 0 };
 
-    fn write(&mut self, piece: &[u8]) -> Result<usize, Failed> {
+    ghost steady = { λ _. Unit {0} };
+
+    fn write(&mut self, piece: &[u8]) -> Result<usize, SinkError> {
         Ok(piece.len())
     }
 }

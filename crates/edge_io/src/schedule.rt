@@ -1,12 +1,13 @@
 // Which calls are to fail.
-ghost use Rattle.std.specs.Prelude.{◌≡◌, ◌≤◌};
+ghost use Rattle.std.specs.Prelude.{◌≡◌, ◌≤◌, [], false};
 ghost use Rattle.std.specs.Bool.{OnTrue, OnFalse};
 ghost use Rattle.edge_io.specs.Edge.{Rose};
 
-/// The numbers of the calls that are to fail, and how many have.
+/// Which calls are to fail, and how many have.
 #[derive(Drop)]
 pub struct Schedule {
-    failing: Vec<u64>,
+    /// The numbers of the calls that are to fail.
+    pub failing: Vec<u64>,
     calls: u64,
     /// How many calls have failed. It never falls, and stands still at 2^64 - 1.
     pub faults: u64,
@@ -17,6 +18,7 @@ impl Schedule {
     /// number.
     pub fn new(failing: Vec<u64>) -> Self
         ensures no_fault { result.faults ≡ 0 }
+        ensures failing { result.failing ≡ failing }
     {
         Schedule {
             failing,
@@ -30,6 +32,8 @@ impl Schedule {
         ensures fault { OnTrue result (Rose self.old.faults self.new.faults) }
         ensures none { OnFalse result (self.new.faults ≡ self.old.faults) }
         ensures count { self.old.faults ≤ self.new.faults }
+        ensures steady { self.old.failing.items ≡ [] → result ≡ false }
+        ensures failing { self.new.failing ≡ self.old.failing }
     {
         let fails = self.failing.contains(&self.calls);
         self.calls = self.calls.saturating_add(1);
@@ -39,10 +43,11 @@ impl Schedule {
         fails
     }
 
-    /// Counts a fault, as one that no schedule asked for.
+    /// Counts a fault that no schedule asked for.
     pub fn count_fault(&mut self)
         ensures fault { Rose self.old.faults self.new.faults }
         ensures count { self.old.faults ≤ self.new.faults }
+        ensures failing { self.new.failing ≡ self.old.failing }
     {
         self.faults = self.faults.saturating_add(1);
     }

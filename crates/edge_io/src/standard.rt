@@ -1,7 +1,7 @@
 // Any reader or writer of std, as the standard streams. No contract says what they give or take.
 ghost use Rattle.std.specs.Prelude.{◌≡◌, None};
 
-use crate::{Failed, Sink, Source};
+use crate::{Failed, Sink, SinkError, Source};
 use std::io::{Read, Write};
 
 /// A reader of std. It doesn't tell its bytes, and each error of the reader is a fault.
@@ -24,6 +24,8 @@ impl<R: Read + Drop> Source for ReaderSource<R> {
     ghost left = { λ _. None };
 
     ghost faults = { λ s. s.faults };
+
+    ghost steady = { λ _. ⊥ };
 
     fn read(&mut self, into: &mut [u8]) -> Result<usize, Failed> {
         match self.reader.read(into) {
@@ -58,12 +60,14 @@ impl<W: Write + Drop> Sink for WriterSink<W> {
 
     ghost faults = { λ s. s.faults };
 
-    fn write(&mut self, piece: &[u8]) -> Result<usize, Failed> {
+    ghost steady = { λ _. ⊥ };
+
+    fn write(&mut self, piece: &[u8]) -> Result<usize, SinkError> {
         match self.writer.write(piece) {
             Ok(n) if n > 0 => Ok(n),
             _ => {
                 self.faults = self.faults.saturating_add(1);
-                Err(Failed)
+                Err(SinkError::WriteFault)
             }
         }
     }
