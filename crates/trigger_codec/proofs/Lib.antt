@@ -1,6 +1,7 @@
 pub mod DigitLemmas
 pub mod Firsts
 pub mod WordLemmas
+pub mod LongestLaw
 pub mod RunLemmas
 pub mod TextLemmas
 pub mod JoinLemmas

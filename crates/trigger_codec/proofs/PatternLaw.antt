@@ -1,4 +1,4 @@
--- Patterns and the last label are read back from small letters.
+-- Patterns and the last label are read back from lower case.
 use Rattle.std.proofs.Common.{◌≡◌, ℕ, ◌-◌, List, [], ◌∷◌, ◌++◌, length, take, map, Bool, true, false, ◌&&◌, eqb, Option, Some, refl, sym, ap, ◌∙◌, arith, length-append}
 use Rattle.std.specs.Prelude.{codes, slice_get, if◌then◌else◌}
 use Rattle.std.specs.Char.{to_ascii_lowercase}
@@ -14,25 +14,25 @@ use Rattle.trigger_codec.specs.Canonical.{pattern_labels}
 use Rattle.trigger_codec.specs.Decode.{pattern_read, labels_trigger, by_last, by_marker}
 use Rattle.trigger_codec.specs.Trigger.{Marker, marker_of, is_asterisk, client_ip, response_ip, ns_ip, ns_name, unknown, plain}
 
-abbrev pub small : List ℕ → List ℕ
-small label = map to_ascii_lowercase label
+abbrev pub lower_case : List ℕ → List ℕ
+lower_case label = map to_ascii_lowercase label
 
-small-small : (label : List ℕ) → small (small label) ≡ small label
-small-small [] = refl
-small-small (b ∷ bytes) = rw (lowercase-lowercase b, small-small bytes) refl
+lower_case-lower_case : (label : List ℕ) → lower_case (lower_case label) ≡ lower_case label
+lower_case-lower_case [] = refl
+lower_case-lower_case (b ∷ bytes) = rw (lowercase-lowercase b, lower_case-lower_case bytes) refl
 
 lowered-lowered : (name : List (List ℕ)) → lowered (lowered name) ≡ lowered name
 lowered-lowered [] = refl
-lowered-lowered (l ∷ ls) = rw (small-small l, lowered-lowered ls) refl
+lowered-lowered (l ∷ ls) = rw (lower_case-lower_case l, lowered-lowered ls) refl
 
-star_small : (c : ℕ) → eqb (to_ascii_lowercase c) 42 ≡ eqb c 42
-star_small c = grind (arith, nat_tests)
+star_lower_case : (c : ℕ) → eqb (to_ascii_lowercase c) 42 ≡ eqb c 42
+star_lower_case c = grind (arith, nat_tests)
 
--- small letters make no `*` and take none away
-is_asterisk-small : (label : List ℕ) → is_asterisk (small label) ≡ is_asterisk label
-is_asterisk-small [] = refl
-is_asterisk-small (c ∷ []) = ap (λ (b : Bool). b && true) (star_small c)
-is_asterisk-small (c ∷ d ∷ ds) = and-false (eqb (to_ascii_lowercase c) 42) ∙ sym (and-false (eqb c 42))
+-- lower case makes no `*` and takes none away
+is_asterisk-lower_case : (label : List ℕ) → is_asterisk (lower_case label) ≡ is_asterisk label
+is_asterisk-lower_case [] = refl
+is_asterisk-lower_case (c ∷ []) = ap (λ (b : Bool). b && true) (star_lower_case c)
+is_asterisk-lower_case (c ∷ d ∷ ds) = and-false (eqb (to_ascii_lowercase c) 42) ∙ sym (and-false (eqb c 42))
 
 asterisk_is : (label : List ℕ) → is_asterisk label ≡ true → label ≡ codes "*"
 asterisk_is label h = (bytes_eq-Decides label (codes "*")).0 h
@@ -47,16 +47,16 @@ judged low front =
     else (if bytes_eq front (codes "rpz-") then unknown
     else plain))))
 
-pub marker-small : (label : List ℕ) → marker_of (small label) ≡ marker_of label
+pub marker-lower_case : (label : List ℕ) → marker_of (lower_case label) ≡ marker_of label
 unfolding judged
-marker-small label =
-    let low = small-small label in
-    let front : small (take 4 (small label)) ≡ small (take 4 label) = ap small (take-map to_ascii_lowercase 4 label) ∙ small-small (take 4 label) in
-    ap (λ (l : List ℕ). judged l (small (take 4 (small label)))) low ∙ ap (judged (small label)) front
+marker-lower_case label =
+    let low = lower_case-lower_case label in
+    let front : lower_case (take 4 (lower_case label)) ≡ lower_case (take 4 label) = ap lower_case (take-map to_ascii_lowercase 4 label) ∙ lower_case-lower_case (take 4 label) in
+    ap (λ (l : List ℕ). judged l (lower_case (take 4 (lower_case label)))) low ∙ ap (judged (lower_case label)) front
 
--- a pattern's labels are those that it was read from, in small letters
+-- a pattern's labels are those that it was read from, in lower case
 labels_case : (b : Bool) (first : List ℕ) (others : List (List ℕ)) → is_asterisk first ≡ b → pattern_labels (if b then record { base = lowered others; wild = true } else record { base = lowered (first ∷ others); wild = false }) ≡ lowered (first ∷ others)
-labels_case true first others h = ap (λ (l : List ℕ). small l ∷ lowered others) (sym (asterisk_is first h))
+labels_case true first others h = ap (λ (l : List ℕ). lower_case l ∷ lowered others) (sym (asterisk_is first h))
 labels_case false first others h = refl
 
 pub pattern_labels-read : (labels : List (List ℕ)) → pattern_labels (pattern_read labels) ≡ lowered labels
@@ -69,7 +69,7 @@ choose b others whole = if b then record { base = others; wild = true } else rec
 pub pattern_read-lowered : (labels : List (List ℕ)) → pattern_read (lowered labels) ≡ pattern_read labels
 pattern_read-lowered [] = refl
 pattern_read-lowered (first ∷ others) =
-    ap (λ (b : Bool). choose b (lowered (lowered others)) (lowered (lowered (first ∷ others)))) (is_asterisk-small first)
+    ap (λ (b : Bool). choose b (lowered (lowered others)) (lowered (lowered (first ∷ others)))) (is_asterisk-lower_case first)
     ∙ ap (λ (ls : List (List ℕ)). choose (is_asterisk first) ls (lowered (lowered (first ∷ others)))) (lowered-lowered others)
     ∙ ap (λ (ls : List (List ℕ)). choose (is_asterisk first) (lowered others) ls) (lowered-lowered (first ∷ others))
 

@@ -13,7 +13,7 @@ use Rattle.ip_prefix.specs.declared.prefix.PrefixFault.TheVariants as faults
 use Rattle.ip_prefix.specs.Prefix.{PlainPrefix, IsPrefix, prefix_of, width, has_host_bits}
 use Rattle.trigger_codec.specs.Address.{length_read, address_read, as_inert, prefix_made, prefix_read}
 use Rattle.trigger_codec.specs.Canonical.{address_labels, prefix_labels, trigger_labels, canonical_owner}
-use Rattle.trigger_codec.specs.Decode.{relative, pattern_read, by_prefix, by_marker, labels_trigger, trigger}
+use Rattle.trigger_codec.specs.Decode.{labels_before, pattern_read, by_prefix, by_marker, labels_trigger, trigger}
 use Rattle.trigger_codec.specs.Trigger.{Marker, marker_of, client_ip, response_ip, ns_ip, ns_name, unknown, plain}
 use Rattle.trigger_codec.specs.declared.inert.Inert.{Inert}
 use Rattle.trigger_codec.specs.declared.inert.Inert.TheVariants as inerts
@@ -23,7 +23,7 @@ use Rattle.trigger_codec.proofs.AddressLaw.{written_read, v4_back, v6_back}
 use Rattle.trigger_codec.proofs.Firsts.{no_labels}
 use Rattle.trigger_codec.proofs.JoinLemmas.{joined_is}
 use Rattle.trigger_codec.proofs.NumeralLemmas.{decimal_writes}
-use Rattle.trigger_codec.proofs.PatternLaw.{small, marker-small, pattern_labels-read, pattern_read-lowered, last_of, last_names}
+use Rattle.trigger_codec.proofs.PatternLaw.{lower_case, marker-lower_case, pattern_labels-read, pattern_read-lowered, last_of, last_names}
 use Rattle.trigger_codec.proofs.RangeLaw.{HasWidth, address_range}
 use Rattle.trigger_codec.proofs.ShortLemmas.{prefix_len}
 
@@ -112,7 +112,7 @@ servers_back front t h =
     let made : NsName (pattern_read front) ≡ t = same_trigger (length front == 0) (NsName (pattern_read front)) t h in
     ap (λ (ls : List (List ℕ)). labels_trigger (ls ++ marker ∷ [])) (pattern_labels-read front)
     ∙ last_names (lowered front) marker
-    ∙ ap (λ (n : ℕ). servers n (NsName (pattern_read (lowered front)))) (length-map front small)
+    ∙ ap (λ (n : ℕ). servers n (NsName (pattern_read (lowered front)))) (length-map front lower_case)
     ∙ ap (λ (pattern : PlainPattern). servers (length front) (NsName pattern)) (pattern_read-lowered front)
     ∙ h ∙ ap (λ (u : Trigger). Ok u) (sym made)
 
@@ -121,10 +121,10 @@ name_back : (front : List (List ℕ)) (last : List ℕ) → marker_of last ≡ p
 unfolding trigger_labels
 name_back front last h =
     let labels : List (List ℕ) = front ++ last ∷ [] in
-    let cut : lowered labels ≡ lowered front ++ small last ∷ [] = map-append small front (last ∷ []) in
+    let cut : lowered labels ≡ lowered front ++ lower_case last ∷ [] = map-append lower_case front (last ∷ []) in
     ap labels_trigger (pattern_labels-read labels ∙ cut)
-    ∙ last_names (lowered front) (small last)
-    ∙ ap (λ (m : Marker). by_marker m (lowered front) (lowered front ++ small last ∷ [])) (marker-small last ∙ h)
+    ∙ last_names (lowered front) (lower_case last)
+    ∙ ap (λ (m : Marker). by_marker m (lowered front) (lowered front ++ lower_case last ∷ [])) (marker-lower_case last ∙ h)
     ∙ ap (λ (ls : List (List ℕ)). Ok (Qname (pattern_read ls))) (sym cut)
     ∙ ap (λ (pattern : PlainPattern). Ok (Qname pattern)) (pattern_read-lowered labels)
 
@@ -158,6 +158,6 @@ unfolding trigger
 trigger_back within owner origin t name h k =
     let front : List (List ℕ) = trigger_labels t in
     let whole : front ++ origin ≡ name = joined_is front origin name k in
-    let under : is_within (front ++ origin) origin ≡ true = (within (front ++ origin) origin).1 (lowered front, map-append small front origin) in
-    let back : IsBack t = labels_back (relative owner origin) t (in_zone (is_within owner origin) (labels_trigger (relative owner origin)) t h) in
+    let under : is_within (front ++ origin) origin ≡ true = (within (front ++ origin) origin).1 (lowered front, map-append lower_case front origin) in
+    let back : IsBack t = labels_back (labels_before owner origin) t (in_zone (is_within owner origin) (labels_trigger (labels_before owner origin)) t h) in
     ap (λ (n : List (List ℕ)). trigger n origin) (sym whole) ∙ names_before front origin under ∙ back

@@ -3,18 +3,18 @@ use Rattle.std.proofs.Common.{◌≡◌, ◌≢◌, ℕ, ◌+◌, ◌<◌, ◌�
 use Rattle.std.specs.Prelude.{nat_lt, ◌==◌, if◌then◌else◌}
 use Rattle.std.proofs.lemmas.Bool.Decides.{nat_tests}
 use Rattle.std.proofs.lemmas.List.{drop_more}
-use Rattle.trigger_codec.specs.Canonical.{Run, longer, longest_run, zeros_first}
+use Rattle.trigger_codec.specs.Canonical.{Run, longer_run, longest_run, zeros_first}
 
-pub longer-assoc : (a b c : Run) → longer (longer a b) c ≡ longer a (longer b c)
+pub longer-assoc : (a b c : Run) → longer_run (longer_run a b) c ≡ longer_run a (longer_run b c)
 longer-assoc a b c = grind (arith, nat_tests)
 
-pub longest_more : (words : List ℕ) (place : ℕ) → place < length words → longest_run place (drop place words) ≡ longer (record { place = place; long = zeros_first (drop place words) }) (longest_run (place + 1) (drop (place + 1) words))
+pub longest_more : (words : List ℕ) (place : ℕ) → place < length words → longest_run place (drop place words) ≡ longer_run (record { place = place; long = zeros_first (drop place words) }) (longest_run (place + 1) (drop (place + 1) words))
 longest_more words place lt =
     let more : drop place words ≡ get_or words place 0 ∷ drop (place + 1) words = drop_more words place 0 lt in
-    ap (longest_run place) more ∙ ap (λ (ws : List ℕ). longer (record { place = place; long = zeros_first ws }) (longest_run (place + 1) (drop (place + 1) words))) (sym more)
+    ap (longest_run place) more ∙ ap (λ (ws : List ℕ). longer_run (record { place = place; long = zeros_first ws }) (longest_run (place + 1) (drop (place + 1) words))) (sym more)
 
 -- behind the words nothing is longer
-pub longest_last : (run : Run) (place : ℕ) → longer run (longest_run place []) ≡ run
+pub longest_last : (run : Run) (place : ℕ) → longer_run run (longest_run place []) ≡ run
 longest_last run place = grind (arith, nat_tests)
 
 zeros-le : (words : List ℕ) → zeros_first words ≤ length words

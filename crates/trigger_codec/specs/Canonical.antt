@@ -1,4 +1,4 @@
--- The one canonical spelling of a trigger as labels: decimal and hexadecimal digits without leading zeros, in small letters, and `zz`
+-- The one canonical spelling of a trigger as labels: decimal and hexadecimal digits without leading zeros, in lower case, and `zz`
 -- for the longest run of two or more zero words, the first in the address where two are equal.
 use Rattle.std.specs.Prelude.{ℕ, zero, suc, ◌+◌, ◌/◌, ◌%◌, ◌==◌, nat_lt, false, if◌then◌else◌, List, [], ◌∷◌, ◌++◌, map, reverse, take, drop, codes, decimal, Result}
 use Rattle.std.specs.Fmt.{digits}
@@ -16,7 +16,7 @@ abbrev pub lowest_digits : ℕ → ℕ → ℕ → List ℕ
 lowest_digits zero base number = []
 lowest_digits (suc count) base number = number % base ∷ lowest_digits count base (number / base)
 
--- the hexadecimal digits of a number, in small letters
+-- the hexadecimal digits of a number, in lower case
 abbrev pub hexadecimal : ℕ → List ℕ
 hexadecimal number = digits 16 false number
 
@@ -31,13 +31,13 @@ pub record Run : Type 0 where
   pub long : ℕ
 
 -- the longer of two runs, the first where they are equal
-abbrev pub longer : Run → Run → Run
-longer first other = if nat_lt first.long other.long then other else first
+abbrev pub longer_run : Run → Run → Run
+longer_run first other = if nat_lt first.long other.long then other else first
 
 -- the longest run of zero words, the first where two are equal; the words stand from this place on
 abbrev pub longest_run : ℕ → List ℕ → Run
 longest_run place [] = record { place = place; long = 0 }
-longest_run place (word ∷ words) = longer (record { place = place; long = zeros_first (word ∷ words) }) (longest_run (place + 1) words)
+longest_run place (word ∷ words) = longer_run (record { place = place; long = zeros_first (word ∷ words) }) (longest_run (place + 1) words)
 
 -- the words of an address, highest first, as labels, with `zz` for a run of two or more
 abbrev pub with_run : List ℕ → Run → List (List ℕ)

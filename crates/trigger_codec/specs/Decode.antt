@@ -13,10 +13,10 @@ use Rattle.trigger_codec.specs.declared.trigger.Trigger.TheVariants.{Client, Qna
 use Rattle.trigger_codec.specs.Trigger.{Marker, client_ip, response_ip, ns_ip, ns_name, unknown, plain, marker_of, is_asterisk}
 
 -- the labels before those of the zone
-abbrev pub relative : List (List ℕ) → List (List ℕ) → List (List ℕ)
-relative owner origin = take (length owner - length origin) owner
+abbrev pub labels_before : List (List ℕ) → List (List ℕ) → List (List ℕ)
+labels_before owner origin = take (length owner - length origin) owner
 
--- the names that labels are about: those below the rest where the first label is `*`, else the one name
+-- the pattern of labels: the names below the rest where the first label is `*`, else the one name
 abbrev pub pattern_read : List (List ℕ) → PlainPattern
 pattern_read [] = record { base = []; wild = false }
 pattern_read (first ∷ others) = if is_asterisk first then record { base = lowered others; wild = true } else record { base = lowered (first ∷ others); wild = false }
@@ -44,7 +44,7 @@ labels_trigger labels = by_last (slice_get labels (length labels - 1)) labels
 
 -- The trigger that an owner names in the zone of this origin, or why it names none.
 unfoldable pub trigger : List (List ℕ) → List (List ℕ) → Result Trigger Inert
-trigger owner origin = if is_within owner origin then labels_trigger (relative owner origin) else Err OutOfZone
+trigger owner origin = if is_within owner origin then labels_trigger (labels_before owner origin) else Err OutOfZone
 
 -- What a function returned is this, unless memory ran out.
 abbrev pub Fails : {X : Type 0} → TriggerError → Result X Inert → Type 0

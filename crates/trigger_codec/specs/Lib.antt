@@ -4,5 +4,6 @@ pub mod Decode
 pub mod Canonical
 pub mod Kind
 pub mod Words
+pub mod Runs
 pub mod Seen
 pub mod Dotted

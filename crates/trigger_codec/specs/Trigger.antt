@@ -1,4 +1,4 @@
--- What a rule is about, and what the labels of its owner name it by (draft-vixie-dnsop-dns-rpz, section 4).
+-- The kinds of triggers, and the labels of owners that name them (draft-vixie-dnsop-dns-rpz, section 4).
 use Rattle.std.specs.Prelude.{ℕ, Bool, if◌then◌else◌, List, take, map, codes}
 use Rattle.std.specs.Char.{to_ascii_lowercase}
 use Rattle.std.specs.Str.{bytes_eq}

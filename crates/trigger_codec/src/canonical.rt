@@ -13,7 +13,7 @@ use dns_name::{JoinError, Name, Pattern};
 use ip_prefix::Prefix;
 use std::alloc::{AllocError, Global};
 
-/// The canonical owner of the trigger in the zone of this origin: small letters before the origin, digits
+/// The canonical owner of the trigger in the zone of this origin: lower case before the origin, digits
 /// without leading zeros, and `zz` for the longest run of two or more zero words, the first in the address
 /// where two are equal. It is `TooLong` if it would be written in more than 255 bytes (RFC 1035, section
 /// 2.3.4).
@@ -38,7 +38,8 @@ fn owner_of_prefix(
     origin: &Name,
 ) -> Result<Name, JoinError>
     requires { IsShort 20 marker.now }
-    ensures { JoinGives result (joined (prefix_labels prefix.now ++ marker.now ∷ []) origin.now) }
+    ensures { JoinGives result
+        (joined (prefix_labels prefix.now ++ marker.now ∷ []) origin.now) }
 {
     let text = text_of_prefix(alloc, prefix, marker)?;
     a_name_is_read_from_its_text();
@@ -61,7 +62,8 @@ fn owner_of_pattern(alloc: Global, pattern: &Pattern, zone: &Name) -> Result<Nam
 
 // The labels of the pattern and `rpz-nsdname` before the origin.
 fn owner_of_servers(alloc: Global, pattern: &Pattern, origin: &Name) -> Result<Name, JoinError>
-    ensures { JoinGives result (joined (pattern_labels pattern.now ++ codes "rpz-nsdname" ∷ []) origin.now) }
+    ensures { JoinGives result
+        (joined (pattern_labels pattern.now ++ codes "rpz-nsdname" ∷ []) origin.now) }
 {
     let marker = name_of(alloc, b"rpz-nsdname")?;
     let zone = Name::join(alloc, &marker, origin)?;

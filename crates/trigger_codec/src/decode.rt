@@ -12,7 +12,7 @@ use dns_name::{Name, Pattern};
 use std::alloc::{AllocError, Global};
 
 /// The trigger that the owner of a rule names in the zone of this origin, or why it names none
-/// (draft-vixie-dnsop-dns-rpz, section 4). Capitals of ASCII count as small letters.
+/// (draft-vixie-dnsop-dns-rpz, section 4). ASCII letters count as lower case.
 #[tactic(auto, unfolding(crate::specs::Decode::trigger))]
 pub fn trigger_of(alloc: Global, owner: &Name, origin: &Name) -> Result<Trigger, TriggerError>
     ensures { Gives result (trigger owner.now origin.now) }
@@ -49,7 +49,8 @@ fn by_marker(
 ) -> Result<Trigger, TriggerError>
     requires some { 1 ≤ count }
     requires within { count ≤ length owner.now }
-    ensures { Gives result (named_by (marker_seen marker) (take (count - 1) owner.now) (take count owner.now)) }
+    ensures { Gives result
+        (named_by (marker_seen marker) (take (count - 1) owner.now) (take count owner.now)) }
 {
     let rest = count - 1;
     match marker {
@@ -63,7 +64,7 @@ fn by_marker(
     }
 }
 
-// The names that the first labels of the owner are about, so many.
+// The pattern that the first labels of the owner name, so many.
 fn pattern_of(alloc: Global, owner: &Name, count: usize) -> Result<Pattern, AllocError>
     requires some { 1 ≤ count }
     requires within { count ≤ length owner.now }

@@ -24,7 +24,7 @@ pub enum Inert {
     HostBits,
 }
 
-/// Why an owner was not read: it names no trigger, or want of memory.
+/// Why an owner was not read: it names no trigger, or memory is out.
 #[derive(Clone, Copy, Debug, PartialEq, Eq)]
 pub enum TriggerError {
     OutOfMemory,

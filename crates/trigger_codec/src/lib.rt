@@ -1,4 +1,4 @@
-//! Triggers of a response policy zone: what the owner of a rule names (draft-vixie-dnsop-dns-rpz, section 4),
+//! Triggers of a policy zone, which the owners of its rules name (draft-vixie-dnsop-dns-rpz, section 4),
 //! and the one canonical owner of a trigger.
 #![tactic(auto)]
 

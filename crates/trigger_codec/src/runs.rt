@@ -2,7 +2,7 @@
 
 ghost use Rattle.std.specs.Prelude.{◌≡◌, ◌+◌, ◌≤◌, ◌/◌, ◌%◌, length, reverse, drop};
 ghost use Rattle.trigger_codec.specs.Seen.{run_seen};
-ghost use Rattle.trigger_codec.specs.Canonical.{lowest_digits, zeros_first as zeros, longer as longer_of, longest_run as longest_in};
+ghost use Rattle.trigger_codec.specs.Canonical.{lowest_digits, zeros_first as zeros, longer_run as longer_of, longest_run as longest_in};
 
 /// A run of words that are zero: the place of the first of them, and how many they are.
 #[derive(Clone, Copy)]

@@ -1,4 +1,4 @@
-//! Prefixes of addresses as text: labels with dots between them, without leading zeros and in small letters.
+//! Prefixes of addresses as text: labels with dots between them, without leading zeros and in lower case.
 
 ghost use Rattle.std.specs.Prelude.{◌≡◌, [], ◌∷◌, ◌++◌, map, reverse, string_bytes, IfOk, OnOk};
 ghost use Rattle.std.specs.Fmt.{decimal};
@@ -18,7 +18,8 @@ pub(crate) fn text_of_prefix(
     prefix: &Prefix,
     marker: &str,
 ) -> Result<String, AllocError>
-    ensures text { IfOk result (λ text. string_bytes text ≡ text_of (prefix_labels prefix.now ++ marker.now ∷ [])) }
+    ensures text { IfOk result (λ text.
+        string_bytes text ≡ text_of (prefix_labels prefix.now ++ marker.now ∷ [])) }
     ensures is_prefix { IsPrefix prefix.now }
 {
     let mut text = format!(in alloc; "{}", prefix.length())?;
@@ -30,7 +31,8 @@ pub(crate) fn text_of_prefix(
 // Puts the labels of the address at the end, with a dot before each.
 #[tactic(auto, unfolding(crate::specs::Canonical::address_labels))]
 fn write_address(text: &mut String, addr: Addr) -> Result<(), AllocError>
-    ensures { OnOk result (string_bytes text.new ≡ string_bytes text.old ++ dotted (address_labels addr)) }
+    ensures { OnOk result
+        (string_bytes text.new ≡ string_bytes text.old ++ dotted (address_labels addr)) }
 {
     match addr {
         Addr::V4(number) => write_bytes(text, number),
@@ -40,7 +42,8 @@ fn write_address(text: &mut String, addr: Addr) -> Result<(), AllocError>
 
 // Puts the four bytes of an address of IP version 4 at the end, the lowest first.
 fn write_bytes(text: &mut String, number: u32) -> Result<(), AllocError>
-    ensures { OnOk result (string_bytes text.new ≡ string_bytes text.old ++ dotted (map decimal (lowest_digits 4 256 number))) }
+    ensures { OnOk result (string_bytes text.new
+        ≡ string_bytes text.old ++ dotted (map decimal (lowest_digits 4 256 number))) }
 {
     let second = number / 256;
     let third = second / 256;
@@ -53,7 +56,8 @@ fn write_bytes(text: &mut String, number: u32) -> Result<(), AllocError>
 // Puts the words of an address of IP version 6, which come with the highest first, at the end, the lowest
 // first, with `zz` for their longest run of zeros.
 fn write_words(text: &mut String, words: &[u16; 8]) -> Result<(), AllocError>
-    ensures { OnOk result (string_bytes text.new ≡ string_bytes text.old ++ dotted (reverse (word_labels words.now))) }
+    ensures { OnOk result (string_bytes text.new
+        ≡ string_bytes text.old ++ dotted (reverse (word_labels words.now))) }
 {
     let run = longest_run(words);
     if run.long < 2 {
@@ -66,7 +70,8 @@ fn write_words(text: &mut String, words: &[u16; 8]) -> Result<(), AllocError>
 
 // Puts each word at the end, the last first.
 fn write_each(text: &mut String, words: &[u16]) -> Result<(), AllocError>
-    ensures { OnOk result (string_bytes text.new ≡ string_bytes text.old ++ dotted (reverse (map hexadecimal words.now))) }
+    ensures { OnOk result (string_bytes text.new
+        ≡ string_bytes text.old ++ dotted (reverse (map hexadecimal words.now))) }
 {
     let mut left = words.len();
     while left > 0 {

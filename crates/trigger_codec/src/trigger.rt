@@ -1,11 +1,11 @@
-//! What a rule is about.
+//! Triggers of rules.
 
 ghost use Rattle.std.specs.Prelude.{◌≡◌};
 
 use dns_name::Pattern;
 use ip_prefix::Prefix;
 
-/// What a rule of a response policy zone is about (draft-vixie-dnsop-dns-rpz, section 4).
+/// The trigger of a rule of a policy zone (draft-vixie-dnsop-dns-rpz, section 4).
 #[derive(Debug, Drop)]
 pub enum Trigger {
     /// The address of the client is in the prefix (section 4.1).
