@@ -7,7 +7,7 @@ use Rattle.dns_name.specs.Standing.{Stands}
 use Rattle.dns_record.specs.Number.{number_at, number_octets}
 use Rattle.dns_record.proofs.Numbers.{length-number_octets, number_read}
 use Rattle.zone_rows.specs.Row.{PlainRow, IsRow, AreAlike, identity}
-use Rattle.zone_rows.proofs.Small.{name_first, name_rest}
+use Rattle.zone_rows.proofs.LowerCase.{name_first, name_rest}
 
 same_name : (read : Outcome) (x y : List (List ℕ) × ℕ) → read ≡ Ok x → read ≡ Ok y → x ≡ y
 same_name read x y e f = cc

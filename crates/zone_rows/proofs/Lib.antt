@@ -1,4 +1,5 @@
 pub mod Keys
 pub mod Repeats
-pub mod Small
+pub mod LowerCase
 pub mod Identities
+pub mod Firsts

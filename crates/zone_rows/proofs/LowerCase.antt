@@ -1,4 +1,4 @@
--- Names and data in small letters.
+-- Names and data in lower case.
 use Rattle.std.proofs.Common.{◌≡◌, ℕ, ◌+◌, ◌<◌, ◌≤◌, ◌^◌, List, [], ◌∷◌, ◌++◌, length, take, drop, get_or, map, Option, Some, None, Ok, refl, sym, ap, subst, ◌∙◌, append_assoc, arith, length-append}
 use Rattle.std.specs.Prelude.{MatchOption, ⊤, IsOk}
 use Rattle.std.specs.Char.{to_ascii_lowercase}
@@ -14,16 +14,16 @@ use Rattle.dns_record.specs.declared.part.Part.TheVariants.{Name, Fixed}
 use Rattle.dns_record.specs.Part.{layout_of, HasParts}
 use Rattle.dns_record.specs.Record.{PlainRecord, IsData}
 use Rattle.dns_record.proofs.Data.{is_data}
-use Rattle.zone_rows.specs.Row.{PlainRow, IsRow, small_part, lowered_parts, lowered_layout, lowered_data}
+use Rattle.zone_rows.specs.Row.{PlainRow, IsRow, lower_case_part, lowered_parts, lowered_layout, lowered_data}
 
-small_label : (label : List ℕ) → map to_ascii_lowercase (map to_ascii_lowercase label) ≡ map to_ascii_lowercase label
-small_label [] = refl
-small_label (c ∷ cs) = λ i. lowercase-lowercase c i ∷ small_label cs i
+lower_case_label : (label : List ℕ) → map to_ascii_lowercase (map to_ascii_lowercase label) ≡ map to_ascii_lowercase label
+lower_case_label [] = refl
+lower_case_label (c ∷ cs) = λ i. lowercase-lowercase c i ∷ lower_case_label cs i
 
--- a name in small letters has no capitals more
+-- a name in lower case has no upper case more
 pub lowered-lowered : (name : List (List ℕ)) → lowered (lowered name) ≡ lowered name
 lowered-lowered [] = refl
-lowered-lowered (l ∷ ls) = λ i. small_label l i ∷ lowered-lowered ls i
+lowered-lowered (l ∷ ls) = λ i. lower_case_label l i ∷ lowered-lowered ls i
 
 -- the name that octets begin with
 pub name_first : (octets rest : List ℕ) (name : List (List ℕ)) → IsName name → octets ≡ name_octets name ++ rest → name_at octets 0 ≡ Ok (name, length (name_octets name))
@@ -48,11 +48,11 @@ has_fixed part count others octets e has =
     omega (arith, h.2, ap length h.3, length-append h.0 h.1)
 
 -- the parts behind the first
-part_within : (part : Part) (others : List Part) (octets : List ℕ) → HasParts (part ∷ others) octets → (small_part part octets).1 ≤ length octets
+part_within : (part : Part) (others : List Part) (octets : List ℕ) → HasParts (part ∷ others) octets → (lower_case_part part octets).1 ≤ length octets
 part_within Name others octets h = rw (name_first octets h.1 h.0 h.2 h.3) (omega (arith, ap length h.3, length-append (name_octets h.0) h.1))
 part_within (Fixed count) others octets h = omega (arith, h.2, ap length h.3, length-append h.0 h.1)
 
-parts_behind : (part : Part) (others : List Part) (octets : List ℕ) → HasParts (part ∷ others) octets → HasParts others (drop (small_part part octets).1 octets)
+parts_behind : (part : Part) (others : List Part) (octets : List ℕ) → HasParts (part ∷ others) octets → HasParts others (drop (lower_case_part part octets).1 octets)
 parts_behind Name others octets h = rw (name_first octets h.1 h.0 h.2 h.3, name_rest octets h.1 h.0 h.3) h.4
 parts_behind (Fixed count) others octets h =
     let rest : drop count octets ≡ h.1 = ap (drop count) h.3 ∙ drop_at h.0 h.1 count h.2 in
@@ -71,17 +71,17 @@ pub next_has : (parts : List Part) (octets : List ℕ) (i place : ℕ) (out : Li
 next_has parts octets i place out d lt h = subst (λ (ps : List Part). HasParts ps (drop place octets)) (drop_more parts i d lt) h.has
 
 pub next_within : (parts : List Part) (octets : List ℕ) (i place used : ℕ) (out : List ℕ) (d : Part) → i < length parts → HasLowered parts octets i place out
-    → used ≡ (small_part (get_or parts i d) (drop place octets)).1 → place + used ≤ length octets
+    → used ≡ (lower_case_part (get_or parts i d) (drop place octets)).1 → place + used ≤ length octets
 next_within parts octets i place used out d lt h e =
     omega (arith, e, h.within, part_within (get_or parts i d) (drop (i + 1) parts) (drop place octets) (next_has parts octets i place out d lt h), length-drop place octets)
 
 pub lowered_more : (parts : List Part) (octets : List ℕ) (i place used : ℕ) (out new : List ℕ) (d : Part) → i < length parts → HasLowered parts octets i place out
-    → used ≡ (small_part (get_or parts i d) (drop place octets)).1 → new ≡ out ++ (small_part (get_or parts i d) (drop place octets)).0 → HasLowered parts octets (i + 1) (place + used) new
+    → used ≡ (lower_case_part (get_or parts i d) (drop place octets)).1 → new ≡ out ++ (lower_case_part (get_or parts i d) (drop place octets)).0 → HasLowered parts octets (i + 1) (place + used) new
 unfolding lowered_parts
 lowered_more parts octets i place used out new d lt h e f =
     let part = get_or parts i d in
     let others = drop (i + 1) parts in
-    let first = small_part part (drop place octets) in
+    let first = lower_case_part part (drop place octets) in
     let has = next_has parts octets i place out d lt h in
     let behind : drop first.1 (drop place octets) ≡ drop (place + used) octets = ap (λ (n : ℕ). drop n (drop place octets)) (sym e) ∙ drop-drop used place octets in
     record {
@@ -99,7 +99,7 @@ pub lowered_end : (parts : List Part) (octets : List ℕ) (i place : ℕ) (out :
 unfolding lowered_parts
 lowered_end parts octets i place out le h = sym (append-nil out) ∙ ap (λ (ps : List Part). out ++ lowered_parts ps (drop place octets)) (sym (drop_all i parts le)) ∙ h.written
 
--- the parts of data in small letters
+-- the parts of data in lower case
 lowered_name : (octets rest : List ℕ) (name : List (List ℕ)) (parts : List Part) → IsName name → octets ≡ name_octets name ++ rest → lowered_parts (Name ∷ parts) octets ≡ name_octets (lowered name) ++ lowered_parts parts rest
 unfolding lowered_parts
 lowered_name octets rest name parts is e = rw (name_first octets rest name is e, name_rest octets rest name e) refl
@@ -121,19 +121,19 @@ parts_stay : (parts : List Part) (octets : List ℕ) → HasParts parts octets �
 unfolding lowered_parts
 parts_stay [] octets h = refl
 parts_stay (Name ∷ parts) octets h =
-    let small = lowered_name octets h.1 h.0 parts h.2 h.3 in
-    lowered_name (lowered_parts (Name ∷ parts) octets) (lowered_parts parts h.1) (lowered h.0) parts (IsName-lowered h.0 h.2) small
+    let front = lowered_name octets h.1 h.0 parts h.2 h.3 in
+    lowered_name (lowered_parts (Name ∷ parts) octets) (lowered_parts parts h.1) (lowered h.0) parts (IsName-lowered h.0 h.2) front
     ∙ ap (λ (name : List (List ℕ)). name_octets name ++ lowered_parts parts (lowered_parts parts h.1)) (lowered-lowered h.0)
     ∙ ap (λ (l : List ℕ). name_octets (lowered h.0) ++ l) (parts_stay parts h.1 h.4)
-    ∙ sym small
+    ∙ sym front
 parts_stay (Fixed count ∷ parts) octets h =
-    let small = lowered_fixed octets h.0 h.1 count parts h.2 h.3 in
-    lowered_fixed (lowered_parts (Fixed count ∷ parts) octets) h.0 (lowered_parts parts h.1) count parts h.2 small ∙ ap (λ (l : List ℕ). h.0 ++ l) (parts_stay parts h.1 h.4) ∙ sym small
+    let front = lowered_fixed octets h.0 h.1 count parts h.2 h.3 in
+    lowered_fixed (lowered_parts (Fixed count ∷ parts) octets) h.0 (lowered_parts parts h.1) count parts h.2 front ∙ ap (λ (l : List ℕ). h.0 ++ l) (parts_stay parts h.1 h.4) ∙ sym front
 
 pub parts_of : (rtype : ℕ) (rdata : List ℕ) (parts : List Part) → layout_of rtype 1 ≡ Some parts → IsData rtype 1 rdata → HasParts parts rdata
 parts_of rtype rdata parts e h = subst (λ (o : Option (List Part)). MatchOption o ⊤ (λ (ps : List Part). HasParts ps rdata)) e h.parts
 
--- data in small letters is data of its type, and stays
+-- data in lower case is data of its type, and stays
 layout_is : (layout : Option (List Part)) (rtype : ℕ) (rdata : List ℕ) → layout_of rtype 1 ≡ layout → IsData rtype 1 rdata → IsData rtype 1 (lowered_layout layout rdata)
 layout_is None rtype rdata e h = h
 layout_is (Some parts) rtype rdata e h = is_data rtype 1 (lowered_parts parts rdata) parts e (has_lowered parts rdata (parts_of rtype rdata parts e h))
@@ -157,6 +157,6 @@ row_is r row owner rtype rdata name type_fits ttl_fits h = record {
   type_fits = type_fits;
   ttl_fits = ttl_fits;
   is_data = rw (rtype, rdata) (lowered_is r.rtype r.rdata h);
-  small_owner = rw owner (lowered-lowered r.owner);
-  small_data = rw (rtype, rdata) (lowered_stays r.rtype r.rdata h);
+  owner_is_lower_case = rw owner (lowered-lowered r.owner);
+  data_is_lower_case = rw (rtype, rdata) (lowered_stays r.rtype r.rdata h);
 }

@@ -2,3 +2,4 @@ pub mod Row
 pub mod KeySet
 pub mod Repeats
 pub mod Zone
+pub mod Distinct

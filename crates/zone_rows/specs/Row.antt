@@ -1,4 +1,4 @@
--- A row of a zone: a record of class IN with small letters in its owner and in the names of its data. Names compare without case
+-- A row of a zone: a record of class IN with its owner and the names of its data in lower case. Names compare without case
 -- (RFC 1035, section 2.3.3), so that rows that say the same are alike.
 use Rattle.std.specs.Prelude.{◌≡◌, ℕ, ◌<◌, ◌^◌, List, [], ◌∷◌, ◌++◌, take, drop, Option, Some, None, Ok, Err}
 use Rattle.dns_name.specs.Labels.{IsName, name_octets, lowered}
@@ -15,27 +15,27 @@ pub record PlainRow : Type 0 where
   pub ttl : ℕ
   pub rdata : List ℕ
 
--- a name as it is written, in small letters, and how many octets it takes
-abbrev pub small_name : Outcome → List ℕ × ℕ
-small_name (Ok (name, after)) = (name_octets (lowered name), after)
-small_name (Err fault) = ([], 0)
+-- a name as it is written, in lower case, and how many octets it takes
+abbrev pub lower_case_name : Outcome → List ℕ × ℕ
+lower_case_name (Ok (name, after)) = (name_octets (lowered name), after)
+lower_case_name (Err fault) = ([], 0)
 
--- the part that the octets begin with, a name in small letters, and how many octets it takes
-abbrev pub small_part : Part → List ℕ → List ℕ × ℕ
-small_part Name octets = small_name (name_at octets 0)
-small_part (Fixed count) octets = (take count octets, count)
+-- the part that the octets begin with, a name in lower case, and how many octets it takes
+abbrev pub lower_case_part : Part → List ℕ → List ℕ × ℕ
+lower_case_part Name octets = lower_case_name (name_at octets 0)
+lower_case_part (Fixed count) octets = (take count octets, count)
 
--- the parts with their names in small letters
+-- the parts with their names in lower case
 unfoldable pub lowered_parts : List Part → List ℕ → List ℕ
 lowered_parts [] octets = []
-lowered_parts (part ∷ parts) octets = let first = small_part part octets in first.0 ++ lowered_parts parts (drop first.1 octets)
+lowered_parts (part ∷ parts) octets = let first = lower_case_part part octets in first.0 ++ lowered_parts parts (drop first.1 octets)
 
--- the data of this layout with its names in small letters; as it is where there is none
+-- the data of this layout with its names in lower case; as it is where there is none
 abbrev pub lowered_layout : Option (List Part) → List ℕ → List ℕ
 lowered_layout None rdata = rdata
 lowered_layout (Some parts) rdata = lowered_parts parts rdata
 
--- the data of a record of the type, in class IN, with its names in small letters
+-- the data of a record of the type, in class IN, with its names in lower case
 unfoldable pub lowered_data : ℕ → List ℕ → List ℕ
 lowered_data rtype rdata = lowered_layout (layout_of rtype 1) rdata
 
@@ -48,8 +48,8 @@ pub record IsRow (row : PlainRow) : Type 0 where
   pub type_fits : row.rtype < 2 ^ 16
   pub ttl_fits : row.ttl < 2 ^ 32
   pub is_data : IsData row.rtype 1 row.rdata
-  pub small_owner : lowered row.owner ≡ row.owner
-  pub small_data : lowered_data row.rtype row.rdata ≡ row.rdata
+  pub owner_is_lower_case : lowered row.owner ≡ row.owner
+  pub data_is_lower_case : lowered_data row.rtype row.rdata ≡ row.rdata
 
 -- A row's identity: its owner, type and data, as they are written. The TTL doesn't count.
 unfoldable pub identity : PlainRow → List ℕ

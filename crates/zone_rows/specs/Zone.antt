@@ -11,6 +11,7 @@ use Rattle.zone_rows.specs.declared.transfer.Transfer.{Transfer}
 use Rattle.zone_rows.specs.declared.transfer.Transfer.TheVariants.{Whole}
 use Rattle.zone_rows.specs.declared.zone.Content.{Content}
 use Rattle.zone_rows.specs.declared.zone.PlainZone.{PlainZone}
+use Rattle.zone_rows.specs.declared.zone.TheConstants.{ROW_LIMIT}
 use Rattle.zone_rows.specs.Repeats.{without_repeats}
 use Rattle.zone_rows.specs.Row.{PlainRow}
 
@@ -24,15 +25,15 @@ abbrev pub fewer_rows : ℕ → List PlainRow → Result (List PlainRow) ApplyFa
 fewer_rows bound rows = if nat_lt (length rows) bound then Ok rows else Err (TooManyRows bound)
 
 -- the zone after a transfer, where it may have fewer rows than the bound, or the first fault
-unfoldable pub applied_within : ℕ → PlainZone → Transfer → Result PlainZone ApplyFault
-applied_within bound zone (Whole soa rows) = do
+unfoldable pub apply_outcome_within : ℕ → PlainZone → Transfer → Result PlainZone ApplyFault
+apply_outcome_within bound zone (Whole soa rows) = do
   newer ← newer_soa zone.content soa
   kept ← fewer_rows bound (without_repeats rows)
   Ok (record { origin = zone.origin; content = Some (record { soa = newer; rows = kept }) })
 
--- A zone has fewer than 2^24 rows.
-abbrev pub applied : PlainZone → Transfer → Result PlainZone ApplyFault
-applied zone transfer = applied_within 16777216 zone transfer
+-- the zone after a transfer, where it may have fewer rows than the limit, or the first fault
+abbrev pub apply_outcome : PlainZone → Transfer → Result PlainZone ApplyFault
+apply_outcome zone transfer = apply_outcome_within ROW_LIMIT zone transfer
 
 -- What a function returned is this, unless memory ran out.
 abbrev pub Fails : {X : Type 0} → ApplyError → Result X ApplyFault → Type 0

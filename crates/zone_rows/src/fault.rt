@@ -15,7 +15,7 @@ pub enum ApplyFault {
     TooManyRows { at: u32 },
 }
 
-/// Why a transfer could not be applied: a fault of the transfer, or want of memory.
+/// Why a transfer could not be applied: a fault of the transfer, or no memory.
 #[derive(Clone, Copy, Debug, PartialEq, Eq)]
 pub enum ApplyError {
     OutOfMemory,

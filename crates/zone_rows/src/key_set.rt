@@ -42,7 +42,8 @@ impl KeySet {
     /// Puts the key into the set, and says whether it is new. An `Err` leaves the set as it was.
     pub fn insert(&mut self, key: Vec<u8>) -> Result<bool, AllocError>
         ensures new { IfOk result (λ is_new. is_new ≡ not (has_key self.old key.items)) }
-        ensures ok { OnOk result ((other : List ℕ) → has_key self.new other ≡ (bytes_eq other key.items || has_key self.old other)) }
+        ensures ok { OnOk result ((other : List ℕ) →
+            has_key self.new other ≡ (bytes_eq other key.items || has_key self.old other)) }
         ensures err { OnErr result (self.new ≡ self.old) }
     {
         Ok(self.keys.insert(key)?)

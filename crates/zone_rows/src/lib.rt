@@ -15,4 +15,4 @@ pub use key_set::KeySet;
 pub use row::Row;
 pub use rows::Rows;
 pub use transfer::Transfer;
-pub use zone::{Content, PlainZone};
+pub use zone::{Content, PlainZone, ROW_LIMIT};

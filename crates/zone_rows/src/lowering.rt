@@ -1,17 +1,17 @@
-//! The data of records with small letters in its names.
+//! The data of records with its names in lower case.
 
 ghost use Rattle.std.specs.Prelude.{◌≡◌, List, ◌∷◌, ◌++◌, IfOk, IsOk};
 ghost use Rattle.dns_name.specs.Reading.{name_at};
 ghost use Rattle.dns_record.specs.declared.part.Part.{Part as APart};
 ghost use Rattle.dns_record.specs.Part.{HasParts};
 ghost use Rattle.dns_record.specs.Record.{IsData};
-ghost use Rattle.zone_rows.specs.Row.{small_name, small_part, lowered_parts, lowered_data};
+ghost use Rattle.zone_rows.specs.Row.{lower_case_name, lower_case_part, lowered_parts, lowered_data};
 
 use dns_name::{Name, NameError, Octets};
 use dns_record::{Part, class, layout};
 use std::alloc::{AllocError, Global};
 
-/// The data of a record of the type, in class IN, with small letters in its names.
+/// The data of a record of the type, in class IN, with its names in lower case.
 #[tactic(auto, unfolding(crate::specs::Row::lowered_data))]
 pub(crate) fn lower_data(alloc: Global, rtype: u16, rdata: &[u8]) -> Result<Octets, AllocError>
     requires { IsData rtype 1 rdata.now }
@@ -23,7 +23,7 @@ pub(crate) fn lower_data(alloc: Global, rtype: u16, rdata: &[u8]) -> Result<Octe
     }
 }
 
-// The parts with small letters in their names.
+// The parts with their names in lower case.
 fn lower_parts(alloc: Global, parts: &[Part], octets: &[u8]) -> Result<Octets, AllocError>
     requires { HasParts parts.now octets.now }
     ensures { IfOk result (λ lowered. lowered ≡ lowered_parts parts.now octets.now) }
@@ -36,8 +36,7 @@ fn lower_parts(alloc: Global, parts: &[Part], octets: &[u8]) -> Result<Octets, A
     Ok(out)
 }
 
-// Writes the part that the octets begin with, with small letters in a name, and says how many octets it
-// takes.
+// Writes the part that the octets begin with, a name in lower case, and says how many octets it takes.
 fn lower_part(
     alloc: Global,
     part: Part,
@@ -45,8 +44,8 @@ fn lower_part(
     out: &mut Octets,
 ) -> Result<usize, AllocError>
     requires { (others : List APart) × HasParts (part ∷ others) octets.now }
-    ensures used { IfOk result (λ used. used ≡ (small_part part octets.now).1) }
-    ensures octets { IfOk result (λ _. out.new ≡ out.old ++ (small_part part octets.now).0) }
+    ensures used { IfOk result (λ used. used ≡ (lower_case_part part octets.now).1) }
+    ensures octets { IfOk result (λ _. out.new ≡ out.old ++ (lower_case_part part octets.now).0) }
 {
     match part {
         Part::Name => lower_name(alloc, octets, out),
@@ -57,11 +56,11 @@ fn lower_part(
     }
 }
 
-// Writes the name that the octets begin with in small letters, and says how many octets it takes.
+// Writes the name that the octets begin with in lower case, and says how many octets it takes.
 fn lower_name(alloc: Global, octets: &[u8], out: &mut Octets) -> Result<usize, AllocError>
     requires { IsOk (name_at octets.now 0) }
-    ensures used { IfOk result (λ used. used ≡ (small_name (name_at octets.now 0)).1) }
-    ensures octets { IfOk result (λ _. out.new ≡ out.old ++ (small_name (name_at octets.now 0)).0) }
+    ensures used { IfOk result (λ used. used ≡ (lower_case_name (name_at octets.now 0)).1) }
+    ensures octets { IfOk result (λ _. out.new ≡ out.old ++ (lower_case_name (name_at octets.now 0)).0) }
 {
     match Name::read(alloc, octets, 0) {
         Ok((name, after)) => {

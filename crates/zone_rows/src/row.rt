@@ -10,7 +10,7 @@ use dns_record::number::push_u16;
 use std::alloc::{AllocError, Global};
 use std::marker::Model;
 
-/// A row of a zone: a record of class IN with small letters in its owner and in the names of its data.
+/// A row of a zone: a record of class IN with its owner and the names of its data in lower case.
 /// Contracts see its four parts.
 #[derive(Debug, Drop)]
 pub struct Row {
@@ -47,7 +47,7 @@ impl Row {
         })
     }
 
-    /// The name that the row belongs to, in small letters.
+    /// The name that the row belongs to, in lower case.
     pub fn owner(&self) -> &Name
         ensures owner { result.now ≡ self.now.owner }
         ensures is_row { IsRow self.now }
@@ -69,7 +69,7 @@ impl Row {
         self.ttl
     }
 
-    /// The data, its names in full and in small letters; at most 65,535 bytes.
+    /// The data, its names in full and in lower case; at most 65,535 bytes.
     pub fn rdata(&self) -> &[u8]
         ensures rdata { result.now ≡ self.now.rdata }
         ensures is_row { IsRow self.now }

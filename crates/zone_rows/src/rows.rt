@@ -63,8 +63,8 @@ impl Rows {
         self.rows
     }
 
-    /// The rows without those whose owner, type and data came before. The time is that of as many look-ups
-    /// in an ordered set.
+    /// The rows without those whose owner, type and data came before. It takes as long as so
+    /// many look-ups in an ordered set.
     pub fn without_repeats(self, alloc: Global) -> Result<Rows, AllocError>
         ensures { IfOk result (λ kept. kept ≡ no_repeats self) }
     {

@@ -1,7 +1,7 @@
 //! A zone, and what a transfer makes of it.
 
-ghost use Rattle.std.specs.Prelude.{◌≡◌, option_copied};
-ghost use Rattle.zone_rows.specs.Zone.{Gives, newer_soa, fewer_rows, applied, applied_within};
+ghost use Rattle.std.specs.Prelude.{◌≡◌, option_copied, IfOk};
+ghost use Rattle.zone_rows.specs.Zone.{Gives, newer_soa, fewer_rows, apply_outcome, apply_outcome_within};
 
 use crate::fault::{ApplyError, ApplyFault};
 use crate::rows::Rows;
@@ -9,6 +9,9 @@ use crate::transfer::Transfer;
 use dns_name::Name;
 use dns_record::{Soa, serial_newer};
 use std::alloc::Global;
+
+/// A zone has fewer rows than this.
+pub const ROW_LIMIT: u32 = 16_777_216;
 
 /// A zone: its origin, and what it holds once a transfer was taken.
 #[derive(Debug, Drop)]
@@ -26,23 +29,26 @@ pub struct Content {
 }
 
 impl PlainZone {
+    ghost use Rattle.zone_rows.specs.Distinct.{HasDistinctRows};
+
     /// The zone after a transfer, its rows without repeats. A loaded zone takes no transfer whose serial
     /// isn't newer than its own, and no zone has 16,777,216 rows or more.
     pub fn apply(&self, alloc: Global, transfer: Transfer) -> Result<PlainZone, ApplyError>
-        ensures { Gives result (applied self.now transfer) }
+        ensures outcome { Gives result (apply_outcome self.now transfer) }
+        ensures distinct { IfOk result HasDistinctRows }
     {
-        self.apply_within(alloc, transfer, 16_777_216)
+        self.apply_within(alloc, transfer, ROW_LIMIT)
     }
 
     // The zone after a transfer, where it may have fewer rows than the bound.
-    #[tactic(auto, unfolding(crate::specs::Zone::applied_within))]
+    #[tactic(auto, unfolding(crate::specs::Zone::apply_outcome_within))]
     pub(crate) fn apply_within(
         &self,
         alloc: Global,
         transfer: Transfer,
         bound: u32,
     ) -> Result<PlainZone, ApplyError>
-        ensures { Gives result (applied_within bound self.now transfer) }
+        ensures { Gives result (apply_outcome_within bound self.now transfer) }
     {
         let Transfer::Whole { soa, rows } = transfer;
         let soa = newer(self.content.as_ref(), soa)?;

@@ -1,4 +1,4 @@
-use Rattle.zone_rows.proofs.Small.{has_name}
+use Rattle.zone_rows.proofs.LowerCase.{has_name}
 use Rattle.zone_rows.proofs.lowering.lower_part.Goals as goal
 
 pub lower_name-requires : goal.lower_name-requires

@@ -1,18 +1,18 @@
 use Rattle.std.proofs.Common.{◌≡◌, ◌+◌, ◌++◌, drop, arith, ◌≤◌, length, slice_index_or}
 use Rattle.std.proofs.lemmas.List.{take_rest}
 use Rattle.dns_record.specs.declared.part.Part.TheVariants.{Name}
-use Rattle.zone_rows.specs.Row.{small_part}
-use Rattle.zone_rows.proofs.Small.{next_has, next_within, lowered_more, lowered_end}
+use Rattle.zone_rows.specs.Row.{lower_case_part}
+use Rattle.zone_rows.proofs.LowerCase.{next_has, next_within, lowered_more, lowered_end}
 use Rattle.zone_rows.proofs.lowering.lower_parts.Goals as goal
 use Rattle.zone_rows.proofs.lowering.lower_parts.Goals.{In_ok-place}
 
 pub lower_part-requires : goal.lower_part-requires
 lower_part-requires c = rw take_rest (drop (c.loop-part.part-index + 1) c.args.parts.now, next_has c.args.parts.now c.args.octets.now c.loop-part.part-index c.loop-part.place c.loop-part.out Name c.loop-part-test.true c.loop-part.invariant)
 
-used : (c : In_ok-place) → c.in_ok-place.field-0 ≡ (small_part (slice_index_or c.args.parts.now c.loop-part.part-index Name) (drop c.loop-part.place c.args.octets.now)).1
+used : (c : In_ok-place) → c.in_ok-place.field-0 ≡ (lower_case_part (slice_index_or c.args.parts.now c.loop-part.part-index Name) (drop c.loop-part.place c.args.octets.now)).1
 used c = rw take_rest at c.in_ok-place.ensures.used
 
-written : (c : In_ok-place) → c.lower_part.new.out ≡ c.loop-part.out ++ (small_part (slice_index_or c.args.parts.now c.loop-part.part-index Name) (drop c.loop-part.place c.args.octets.now)).0
+written : (c : In_ok-place) → c.lower_part.new.out ≡ c.loop-part.out ++ (lower_case_part (slice_index_or c.args.parts.now c.loop-part.part-index Name) (drop c.loop-part.place c.args.octets.now)).0
 written c = rw take_rest at c.in_ok-place.ensures.octets
 
 pub overflow_add-place : goal.overflow_add-place

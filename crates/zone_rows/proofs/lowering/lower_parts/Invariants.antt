@@ -1,4 +1,4 @@
-use Rattle.zone_rows.proofs.Small.{HasLowered}
+use Rattle.zone_rows.proofs.LowerCase.{HasLowered}
 use Rattle.zone_rows.proofs.lowering.lower_parts.Given as goal
 
 abbrev pub invariant-loop-part : goal.invariant-loop-part

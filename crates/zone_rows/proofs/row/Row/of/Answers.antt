@@ -2,7 +2,7 @@ use Rattle.std.proofs.Common.{◌≡◌, ◌∙◌, ℕ, ap, subst}
 use Rattle.dns_name.specs.Labels.{lowered}
 use Rattle.dns_record.specs.Record.{IsData}
 use Rattle.zone_rows.specs.Row.{PlainRow, IsRow, lowered_data}
-use Rattle.zone_rows.proofs.Small.{row_is}
+use Rattle.zone_rows.proofs.LowerCase.{row_is}
 use Rattle.zone_rows.proofs.row.Row.of.Goals as goal
 use Rattle.zone_rows.proofs.row.Row.of.Goals.{After-ttl}
 
