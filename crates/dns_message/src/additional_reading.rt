@@ -5,7 +5,8 @@ ghost use Rattle.dns_message.specs.Reading.{Fails, Gives, is_opt as is_opt_recor
 
 use crate::edns::Edns;
 use crate::fault::{MessageError, MessageFault};
-use dns_record::{Record, Records, read_record, rtype};
+use dns_name::Names;
+use dns_record::{Record, Records, read_record_of, rtype};
 use std::alloc::Global;
 
 // So many records from a place on: those that are no OPT, what the OPT record says, and the place after
@@ -13,16 +14,17 @@ use std::alloc::Global;
 pub(crate) fn read_additional(
     alloc: Global,
     count: u16,
-    bytes: &[u8],
+    names: &mut Names<'_>,
     at: usize,
 ) -> Result<(Records, Option<Edns>, usize), MessageError>
-    ensures { Gives (λ x. x) result (additional_at count bytes.now at None) }
+    ensures read { Gives (λ x. x) result (additional_at count names.old at None) }
+    ensures same { names.new ≡ names.old }
 {
     let mut records = Records::new(alloc);
     let mut edns = None;
     let mut place = at;
     for i in 0..count {
-        let (rr, after) = read_record(alloc, bytes, place)?;
+        let (rr, after) = read_record_of(alloc, names, place)?;
         keep(rr, &mut records, &mut edns)?;
         place = after;
     }

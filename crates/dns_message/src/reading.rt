@@ -8,9 +8,9 @@ use crate::fault::{MessageError, MessageFault};
 use crate::header::Header;
 use crate::message::Message;
 use crate::question::Question;
-use dns_name::{Name, NameError};
+use dns_name::{NameError, Names};
 use dns_record::number::u16_at;
-use dns_record::{Records, read_record};
+use dns_record::{Records, read_record_of};
 use std::alloc::Global;
 
 /// The message that the bytes are, or the first fault. The three bits Z of the header are ignored, and so
@@ -31,10 +31,11 @@ fn read_sections(alloc: Global, bytes: &[u8]) -> Result<Message, MessageError>
     ensures { Gives (λ x. x) result (sections_of bytes.now) }
 {
     let header = read_header(bytes);
-    let (question, place) = read_questions(alloc, u16_at(bytes, 4), bytes)?;
-    let (answer, place) = read_records(alloc, u16_at(bytes, 6), bytes, place)?;
-    let (authority, place) = read_records(alloc, u16_at(bytes, 8), bytes, place)?;
-    let (additional, edns, place) = read_additional(alloc, u16_at(bytes, 10), bytes, place)?;
+    let mut names = Names::new(alloc, bytes);
+    let (question, place) = read_questions(alloc, u16_at(bytes, 4), &mut names)?;
+    let (answer, place) = read_records(alloc, u16_at(bytes, 6), &mut names, place)?;
+    let (authority, place) = read_records(alloc, u16_at(bytes, 8), &mut names, place)?;
+    let (additional, edns, place) = read_additional(alloc, u16_at(bytes, 10), &mut names, place)?;
     if place < bytes.len() {
         return Err(MessageError::Fault(MessageFault::Trailing));
     }
@@ -81,9 +82,10 @@ fn is_set(value: u8, byte: u8) -> bool
 fn read_questions(
     alloc: Global,
     count: u16,
-    bytes: &[u8],
+    names: &mut Names<'_>,
 ) -> Result<(Option<Question>, usize), MessageError>
-    ensures { Gives (λ x. x) result (questions_at count bytes.now) }
+    ensures read { Gives (λ x. x) result (questions_at count names.old) }
+    ensures same { names.new ≡ names.old }
 {
     if count == 0 {
         return Ok((None, 12));
@@ -91,16 +93,22 @@ fn read_questions(
     if count != 1 {
         return Err(MessageError::Fault(MessageFault::Question));
     }
-    let (question, place) = read_question(alloc, bytes, 12)?;
+    let (question, place) = read_question(alloc, names, 12)?;
     Ok((Some(question), place))
 }
 
 // The question at a place, and the place after it.
 #[tactic(auto, unfolding(crate::specs::Reading::question_at))]
-fn read_question(alloc: Global, bytes: &[u8], at: usize) -> Result<(Question, usize), MessageError>
-    ensures { Gives (λ x. x) result (question_at bytes.now at) }
+fn read_question(
+    alloc: Global,
+    names: &mut Names<'_>,
+    at: usize,
+) -> Result<(Question, usize), MessageError>
+    ensures read { Gives (λ x. x) result (question_at names.old at) }
+    ensures same { names.new ≡ names.old }
 {
-    let (name, place) = match Name::read(alloc, bytes, at) {
+    let bytes = names.message();
+    let (name, place) = match names.read(alloc, at) {
         Ok(read) => read,
         Err(NameError::OutOfMemory) => return Err(MessageError::OutOfMemory),
         Err(NameError::Fault(_)) => return Err(MessageError::Fault(MessageFault::Short)),
@@ -133,15 +141,16 @@ fn end_of(bytes: &[u8], place: usize, count: usize) -> Result<usize, MessageFaul
 fn read_records(
     alloc: Global,
     count: u16,
-    bytes: &[u8],
+    names: &mut Names<'_>,
     at: usize,
 ) -> Result<(Records, usize), MessageError>
-    ensures { Gives (λ x. x) result (records_at count bytes.now at) }
+    ensures read { Gives (λ x. x) result (records_at count names.old at) }
+    ensures same { names.new ≡ names.old }
 {
     let mut records = Records::new(alloc);
     let mut place = at;
     for i in 0..count {
-        let (rr, after) = read_record(alloc, bytes, place)?;
+        let (rr, after) = read_record_of(alloc, names, place)?;
         records.push(rr)?;
         place = after;
     }

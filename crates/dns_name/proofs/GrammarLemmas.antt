@@ -12,12 +12,12 @@ use Rattle.dns_name.specs.Grammar.{Begins, HasRoom, Shows, target_of, GoesOn, Na
 use Rattle.dns_name.proofs.Loop.{one_piece, no_piece}
 
 -- the bytes begin with this piece
-abbrev IsPiece : ℕ → ℕ → List ℕ → Piece → Type 0
+abbrev pub IsPiece : ℕ → ℕ → List ℕ → Piece → Type 0
 IsPiece run used bytes reading.end = Begins bytes (0 ∷ [])
 IsPiece run used bytes (reading.label first) = HasRoom used first × Begins bytes (label_octets first)
 IsPiece run used bytes (reading.pointer target) = (high : ℕ) × (low : ℕ) × (192 ≤ high) × (target ≡ target_of high low) × (target < run) × Begins bytes (high ∷ low ∷ [])
 
-abbrev Says : ℕ → ℕ → List ℕ → Result Piece NameFault → Type 0
+abbrev pub Says : ℕ → ℕ → List ℕ → Result Piece NameFault → Type 0
 Says run used bytes r = MatchResult r (IsPiece run used bytes) (Shows run used bytes)
 
 label_said : (run used n : ℕ) (rest : List ℕ) → 1 ≤ n → n ≤ 63 → used + n + 2 ≤ 255 → n ≤ length rest → Says run used (n ∷ rest) (Ok (reading.label (take n rest)))
@@ -75,7 +75,7 @@ stands_next left message run used place (Ok (reading.pointer target)) says room 
     let rest : GoesOn message (target_of says.0 says.1) used (target_of says.0 says.1) (name_from left message target used target) = rw (← says.3) (go target used target room (omega (arith, says.4))) in
     grammar.pointer run used place says.0 says.1 (name_from left message target used target) says.2 (rw (← says.3) says.4) says.5 rest
 
-stands_from : (left : ℕ) (message : List ℕ) (run used place : ℕ) → used ≤ 254 → 256 * run + 256 ≤ left + used → GoesOn message run used place (name_from left message run used place)
+pub stands_from : (left : ℕ) (message : List ℕ) (run used place : ℕ) → used ≤ 254 → 256 * run + 256 ≤ left + used → GoesOn message run used place (name_from left message run used place)
 unfolding name_from
 stands_from zero message run used place room enough = absurd (omega arith)
 stands_from (suc left) message run used place room enough =
@@ -87,11 +87,11 @@ unfolding name_at
 name_stands message at = stands_from (256 * at + 256) message at 0 at (omega arith) (omega arith)
 
 -- what stands there is read
-record Head (b : ℕ) (bs : List ℕ) (x : ℕ) (xs : List ℕ) : Type 0 where
+pub record Head (b : ℕ) (bs : List ℕ) (x : ℕ) (xs : List ℕ) : Type 0 where
   pub first : b ≡ x
   pub rest : take (length xs) bs ≡ xs
 
-head : (b : ℕ) (bs : List ℕ) (x : ℕ) (xs : List ℕ) → Begins (b ∷ bs) (x ∷ xs) → Head b bs x xs
+pub head : (b : ℕ) (bs : List ℕ) (x : ℕ) (xs : List ℕ) → Begins (b ∷ bs) (x ∷ xs) → Head b bs x xs
 head b bs x xs h = record { first = cc; rest = cc }
 
 end_is : (run used : ℕ) (bytes : List ℕ) → Begins bytes (0 ∷ []) → piece_at run used bytes ≡ Ok reading.end
@@ -159,7 +159,7 @@ fault_is run used (n ∷ low ∷ bs) Pointer s =
     let e : ltb (target_of n low) run ≡ false = le-ltb (target_of n low) run s.1 in
     large_is run used n (low ∷ bs) s.0 ∙ rw e refl
 
-read_from : (message : List ℕ) (left : ℕ) (run used place : ℕ) (o : Outcome) → GoesOn message run used place o → used ≤ 254 → 256 * run + 256 ≤ left + used → name_from left message run used place ≡ o
+pub read_from : (message : List ℕ) (left : ℕ) (run used place : ℕ) (o : Outcome) → GoesOn message run used place o → used ≤ 254 → 256 * run + 256 ≤ left + used → name_from left message run used place ≡ o
 read_from message left run used place o (grammar.ends _ _ _ begins) room enough = one_piece left message run used place reading.end (omega arith) (end_is run used (drop place message) begins)
 read_from message left run used place o (grammar.label _ _ _ first others has begins rest) room enough =
     one_piece left message run used place (reading.label first) (omega arith) (label_is run used (drop place message) first has begins)

@@ -2,6 +2,7 @@ pub mod Loop
 pub mod WireLemmas
 pub mod GrammarLemmas
 pub mod Standing
+pub mod TailLemmas
 pub mod TextLemmas
 pub mod TextLaw
 pub mod AlikeLemmas

@@ -71,13 +71,13 @@ name_written name message at after is h =
     name_only message at (Ok (name, after)) (written_goes_on message at 0 at name after is.labels (omega (arith, is.short, length-append (flat_map label_octets name) (0 ∷ []))) h)
 
 -- what is known of each name that is read
-abbrev Of : (List (List ℕ) × ℕ → Type 0) → Outcome → Type 0
+abbrev pub Of : (List (List ℕ) × ℕ → Type 0) → Outcome → Type 0
 Of is outcome = MatchResult outcome is (λ fault. ⊤)
 
-same_outcome : (o : Outcome) (x y : List (List ℕ) × ℕ) → o ≡ Ok x → o ≡ Ok y → x ≡ y
+pub same_outcome : (o : Outcome) (x y : List (List ℕ) × ℕ) → o ≡ Ok x → o ≡ Ok y → x ≡ y
 same_outcome o x y e f = cc
 
-of_read : (is : List (List ℕ) × ℕ → Type 0) (o : Outcome) (x : List (List ℕ) × ℕ) → Of is o → o ≡ Ok x → is x
+pub of_read : (is : List (List ℕ) × ℕ → Type 0) (o : Outcome) (x : List (List ℕ) × ℕ) → Of is o → o ≡ Ok x → is x
 of_read is (Ok y) x h e = subst is (same_outcome (Ok y) y x refl e) h
 of_read is (Err fault) x h e = absurd cc
 

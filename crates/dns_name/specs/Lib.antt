@@ -3,6 +3,7 @@ pub mod Wire
 pub mod Standing
 pub mod Reading
 pub mod Item
+pub mod Tails
 pub mod Grammar
 pub mod Text
 pub mod Alike

@@ -1,6 +1,6 @@
 //! One label or pointer of a name in a message.
 
-ghost use Rattle.std.specs.Prelude.{◌≡◌, ◌≤◌, MatchResult, IfOk, drop, Ok, Err};
+ghost use Rattle.std.specs.Prelude.{◌≡◌, ◌≤◌, ◌<◌, length, MatchResult, IfOk, drop, Ok, Err};
 ghost use Rattle.dns_name.specs.Reading.{piece_at};
 ghost use Rattle.dns_name.specs.Item.{piece_of, IsWithin};
 
@@ -23,6 +23,7 @@ pub fn item_at(message: &[u8], run: usize, place: usize, used: usize) -> Result<
     requires { used ≤ 254 }
     ensures item { MatchResult result (λ item. piece_at run used (drop place message.now) ≡ Ok (piece_of item)) (λ fault. piece_at run used (drop place message.now) ≡ Err fault) }
     ensures within { IfOk result (IsWithin run used) }
+    ensures inside { IfOk result (λ item. place < length message.now) }
 {
     if place >= message.len() {
         return Err(NameFault::Short);

@@ -3,12 +3,9 @@
 ghost use Rattle.std.specs.Prelude.{◌≡◌, ℕ, List, [], ◌∷◌, ◌++◌, length, IfOk, OnOk, OnErr, IsTrue, ◌↔◌};
 ghost use Rattle.dns_name.specs.Labels.{IsName, name_octets, lowered, IsUnder};
 ghost use Rattle.dns_name.specs.Alike.{same_name, is_within};
-ghost use Rattle.dns_name.specs.Reading.{Gives, name_at};
 ghost use Rattle.dns_name.specs.Wire.{labels_in, IsWire};
 
 use crate::cursor::Labels;
-use crate::fault::NameError;
-use crate::item::{Item, item_at};
 use crate::octets::Octets;
 use std::alloc::{AllocError, Global};
 use std::marker::Model;
@@ -79,46 +76,6 @@ impl Name {
             count += 1;
         }
         count
-    }
-
-    fn walk(alloc: Global, message: &[u8], at: usize) -> Result<(Name, usize), NameError>
-        ensures { Gives (λ x. x) result (name_at message.now at) }
-    {
-        let mut wire = Vec::with_capacity(alloc, 32)?;
-        let mut used = 0usize;
-        let mut run = at;
-        let mut place = at;
-        let mut after = None;
-        loop {
-            match item_at(message, run, place, used)? {
-                Item::End => {
-                    wire.push(0)?;
-                    return Ok((Name { wire }, after.unwrap_or(place + 1)));
-                }
-                Item::Label(label) => {
-                    wire.push(label.len() as u8)?;
-                    wire.extend_from_slice(label)?;
-                    used += label.len() + 1;
-                    place += label.len() + 1;
-                }
-                Item::Pointer(target) => {
-                    after = Some(after.unwrap_or(place + 2));
-                    run = target;
-                    place = target;
-                }
-            }
-        }
-    }
-
-    /// The name at a place of a message, and the place after it, or the first fault. It may go on at
-    /// earlier places by compression pointers (RFC 1035, section 4.1.4), each of which leads before the
-    /// place where the labels in front of it began. The place after the name is then behind its first
-    /// pointer. The time is linear in the bytes up to the name's end.
-    pub fn read(alloc: Global, bytes: &[u8], at: usize) -> Result<(Name, usize), NameError>
-        ensures exact { Gives (λ x. x) result (name_at bytes.now at) }
-        ensures name { IfOk result (λ x. IsName x.0) }
-    {
-        Name::walk(alloc, bytes, at)
     }
 
     /// Writes the name in full at the end. An `Err` leaves what was written before.

@@ -20,7 +20,7 @@ mod soa_reading;
 
 pub use fault::{RecordError, RecordFault};
 pub use part::{Part, layout};
-pub use reading::read_record;
+pub use reading::{read_record, read_record_of};
 pub use record::{Record, write_record};
 pub use records::Records;
 pub use serial::serial_newer;

@@ -8,7 +8,7 @@ use crate::fault::{RecordError, RecordFault};
 use crate::number::{u16_at, u32_at};
 use crate::part::{Part, layout};
 use crate::record::Record;
-use dns_name::{Name, NameError, Octets};
+use dns_name::{NameError, Names, Octets};
 use std::alloc::{AllocError, Global};
 
 // The place after so many bytes, which the message must have.
@@ -24,18 +24,34 @@ fn end_of(message: &[u8], place: usize, count: usize) -> Result<usize, RecordFau
 
 /// The record at a place of a message, and the place after it, or the first fault. Where the data of the
 /// type has names, it is given with its names in full; other data is given as it stands.
-#[tactic(auto, unfolding(crate::specs::Reading::record_at))]
+/// [`read_record_of`] reads many records of one message.
 pub fn read_record(alloc: Global, bytes: &[u8], at: usize) -> Result<(Record, usize), RecordError>
     ensures { Gives (λ x. x) result (record_at bytes.now at) }
 {
-    let (owner, place) = Name::read(alloc, bytes, at)?;
+    let mut names = Names::new(alloc, bytes);
+    read_record_of(alloc, &mut names, at)
+}
+
+/// The record at a place of the message of these names, and the place after it, or the first fault: what
+/// [`read_record`] gives. The names remember what stands behind the pointers of the message.
+#[tactic(auto, unfolding(crate::specs::Reading::record_at))]
+pub fn read_record_of(
+    alloc: Global,
+    names: &mut Names<'_>,
+    at: usize,
+) -> Result<(Record, usize), RecordError>
+    ensures read { Gives (λ x. x) result (record_at names.old at) }
+    ensures same { names.new ≡ names.old }
+{
+    let bytes = names.message();
+    let (owner, place) = names.read(alloc, at)?;
     let fixed = end_of(bytes, place, 10)?;
     let rtype = u16_at(bytes, place);
     let class = u16_at(bytes, place + 2);
     let ttl = u32_at(bytes, place + 4);
     let length = u16_at(bytes, place + 8);
     let after = end_of(bytes, fixed, usize::from(length))?;
-    let rdata = read_data(alloc, rtype, class, bytes, fixed, after)?;
+    let rdata = read_data(alloc, rtype, class, names, fixed, after)?;
     Ok((Record::new(owner, rtype, class, ttl, rdata), after))
 }
 
@@ -45,20 +61,22 @@ fn read_data(
     alloc: Global,
     rtype: u16,
     class: u16,
-    message: &[u8],
+    names: &mut Names<'_>,
     place: usize,
     after: usize,
 ) -> Result<Octets, RecordError>
     requires ordered { place ≤ after }
-    requires within { after ≤ length message.now }
+    requires within { after ≤ length names.old }
     requires short { after < place + 2 ^ 16 }
-    ensures exact { Gives (λ x. x) result (data_at rtype class message.now place after) }
+    ensures exact { Gives (λ x. x) result (data_at rtype class names.old place after) }
     ensures data { IfOk result (λ rdata. IsData rtype class rdata) }
+    ensures same { names.new ≡ names.old }
 {
     let Some(parts) = layout(rtype, class) else {
+        let message = names.message();
         return Ok(Octets::from_slice(alloc, &message[place..after])?);
     };
-    let (rdata, end) = read_parts(alloc, parts, message, place)?;
+    let (rdata, end) = read_parts(alloc, parts, names, place)?;
     if end != after {
         return Err(RecordError::Fault(RecordFault::Data));
     }
@@ -69,15 +87,16 @@ fn read_data(
 fn read_parts(
     alloc: Global,
     parts: &[Part],
-    message: &[u8],
+    names: &mut Names<'_>,
     at: usize,
 ) -> Result<(Octets, usize), RecordError>
-    ensures { Gives (λ x. x) result (parts_at parts.now message.now at) }
+    ensures read { Gives (λ x. x) result (parts_at parts.now names.old at) }
+    ensures same { names.new ≡ names.old }
 {
     let mut rdata = Octets::new(alloc);
     let mut place = at;
     for part in parts {
-        place = read_part(alloc, *part, message, place, &mut rdata)?;
+        place = read_part(alloc, *part, names, place, &mut rdata)?;
     }
     Ok((rdata, place))
 }
@@ -86,14 +105,15 @@ fn read_parts(
 fn read_part(
     alloc: Global,
     part: Part,
-    message: &[u8],
+    names: &mut Names<'_>,
     place: usize,
     rdata: &mut Octets,
 ) -> Result<usize, RecordError>
-    ensures { AddsPart result rdata.old rdata.new (part_at part message.now place) }
+    ensures adds { AddsPart result rdata.old rdata.new (part_at part names.old place) }
+    ensures same { names.new ≡ names.old }
 {
     match part {
-        Part::Name => match Name::read(alloc, message, place) {
+        Part::Name => match names.read(alloc, place) {
             Ok((name, after)) => {
                 name.write(rdata)?;
                 Ok(after)
@@ -101,12 +121,15 @@ fn read_part(
             Err(NameError::OutOfMemory) => Err(RecordError::OutOfMemory),
             Err(NameError::Fault(_)) => Err(RecordError::Fault(RecordFault::Data)),
         },
-        Part::Fixed(count) => match message.len().checked_sub(place) {
-            Some(left) if count <= left => {
-                rdata.append(&message[place..place + count])?;
-                Ok(place + count)
+        Part::Fixed(count) => {
+            let message = names.message();
+            match message.len().checked_sub(place) {
+                Some(left) if count <= left => {
+                    rdata.append(&message[place..place + count])?;
+                    Ok(place + count)
+                }
+                _ => Err(RecordError::Fault(RecordFault::Data)),
             }
-            _ => Err(RecordError::Fault(RecordFault::Data)),
-        },
+        }
     }
 }
