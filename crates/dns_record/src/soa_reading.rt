@@ -1,6 +1,6 @@
 //! Reads what a SOA record says.
 
-ghost use Rattle.std.specs.Prelude.{◌≡◌, ◌≢◌, [], ◌∷◌, Ok, MatchOption, IfOk, IsOk};
+ghost use Rattle.std.specs.Prelude.{◌≡◌, ◌≢◌, [], ◌∷◌, Ok, None, MatchOption, IfOk, IsOk};
 ghost use Rattle.dns_name.specs.Reading.{name_at};
 ghost use Rattle.dns_record.specs.declared.part.Part.TheVariants.{Name as PName, Fixed};
 ghost use Rattle.dns_record.specs.Part.{HasParts};
@@ -13,10 +13,11 @@ use crate::soa::Soa;
 use dns_name::{Name, NameError};
 use std::alloc::{AllocError, Global};
 
-/// What a SOA record says: `None` exactly where the record is of another type, and then no memory is
-/// taken.
+/// What a SOA record says. It is `Ok(None)` exactly where the record is of another type, and then no memory
+/// is taken.
 pub fn soa_of(alloc: Global, rr: &Record) -> Result<Option<Soa>, AllocError>
-    ensures { IfOk result (λ soa. MatchOption soa (rr.now.rtype ≢ 6) (IsSoaOf rr.now)) }
+    ensures soa { IfOk result (λ soa. MatchOption soa (rr.now.rtype ≢ 6) (IsSoaOf rr.now)) }
+    ensures other { rr.now.rtype ≢ 6 → result ≡ Ok None }
 {
     if rr.rtype() != rtype::SOA {
         return Ok(None);
