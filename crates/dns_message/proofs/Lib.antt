@@ -2,8 +2,7 @@ pub mod Loop
 pub mod Pieces
 pub mod Flags
 pub mod RecordsGrammar
-pub mod AdditionalLoop
-pub mod AdditionalGrammar
+pub mod Opts
 pub mod QuestionGrammar
 pub mod MessageReads
 pub mod MessageGrammar

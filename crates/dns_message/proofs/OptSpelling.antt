@@ -1,21 +1,20 @@
 -- The additional section as it is spelled, its OPT record last.
-use Rattle.std.proofs.Common.{◌≡◌, ℕ, suc, ◌+◌, ◌*◌, ◌/◌, ◌%◌, ◌<◌, eqb, false, List, [], ◌∷◌, ◌++◌, length, Option, Some, None, Ok, refl, sym, ap, subst, append_assoc, arith}
+use Rattle.std.proofs.Common.{◌≡◌, ℕ, ◌+◌, ◌*◌, ◌/◌, ◌%◌, ◌<◌, eqb, false, not, List, [], ◌∷◌, ◌++◌, length, Option, Some, None, Ok, refl, sym, ap, subst, ◌∙◌, arith, length-append}
 use Rattle.std.specs.Prelude.{IfSome}
-use Rattle.std.specs.List.{flat_map, AllByRecursion}
+use Rattle.std.specs.List.{filter, AllByRecursion}
 use Rattle.std.proofs.lemmas.Bool.{cond_both}
 use Rattle.std.proofs.lemmas.List.{append-nil}
+use Rattle.std.proofs.lemmas.List.Concat.{flat_map-append}
 use Rattle.dns_name.specs.Labels.{IsName}
 use Rattle.dns_name.specs.Standing.{Stands}
 use Rattle.dns_record.specs.declared.part.Part.{Part}
 use Rattle.dns_record.specs.Number.{number_octets}
 use Rattle.dns_record.specs.Part.{layout_of}
-use Rattle.dns_record.specs.Reading.{record_at}
 use Rattle.dns_record.specs.Record.{PlainRecord, IsData, IsRecord, record_octets}
-use Rattle.dns_record.proofs.PartStanding.{stands_parts}
-use Rattle.dns_record.proofs.RecordStanding.{record_written}
 use Rattle.dns_message.specs.declared.edns.Edns.{Edns}
-use Rattle.dns_message.specs.Reading.{is_opt, edns_of, additional_at}
+use Rattle.dns_message.specs.Reading.{is_opt, edns_of, edns_in, records_at}
 use Rattle.dns_message.specs.Spelling.{IsEdns, opt_count, opt_octets, records_octets}
+use Rattle.dns_message.proofs.RecordsGrammar.{records_written}
 
 -- the OPT record that is written
 abbrev time_to_live : Edns → ℕ
@@ -60,28 +59,69 @@ opt_told e is =
     let extended : time_to_live e / 16777216 % 256 ≡ e.extended = omega (arith, is.extended_fits, is.version_fits) in
     rw (version, extended) refl
 
-opt_written : (e : Edns) (bytes : List ℕ) (at after : ℕ) → IsEdns e → Stands (opt_octets (Some e)) bytes at after → additional_at 1 bytes at None ≡ Ok ([], Some e, after)
-unfolding additional_at
-opt_written e bytes at after is s =
-    let read : record_at bytes at ≡ Ok (opt_record e, after) = record_written (opt_record e) bytes at after (opt_is e is) (subst (λ (l : List ℕ). Stands l bytes at after) (opt_spelled e is) s) in
-    rw read (ap (λ (x : Edns). Ok ([], Some x, after)) (opt_told e is))
+-- the OPT record that is written, if there is one
+abbrev opt_list : Option Edns → List PlainRecord
+opt_list None = []
+opt_list (Some e) = opt_record e ∷ []
 
-none_after : (at after : ℕ) (bytes : List ℕ) → Stands ([] ++ opt_octets None) bytes at after → at ≡ after
-unfolding opt_octets
-none_after at after bytes h = omega (arith, h.ends)
+-- the records that are read where these are written, and what is told of them
+pub record WrittenAdditional (records : List PlainRecord) (edns : Option Edns) (bytes : List ℕ) (at after : ℕ) : Type 0 where
+  pub all : List PlainRecord
+  pub read : records_at (length records + opt_count edns) bytes at ≡ Ok (all, after)
+  pub told : edns_in (filter is_opt all) ≡ Ok edns
+  pub others : filter (λ r. not (is_opt r)) all ≡ records
+
+opts_counted : (edns : Option Edns) → length (opt_list edns) ≡ opt_count edns
+opts_counted None = refl
+opts_counted (Some e) = refl
+
+opts_are : (edns : Option Edns) → IfSome edns IsEdns → AllByRecursion IsRecord (opt_list edns)
+opts_are None is = tt
+opts_are (Some e) is = (opt_is e is, tt)
+
+opts_spelled : (edns : Option Edns) → IfSome edns IsEdns → records_octets (opt_list edns) ≡ opt_octets edns
+unfolding records_octets opt_octets
+opts_spelled None is = refl
+opts_spelled (Some e) is = append-nil (record_octets (opt_record e)) ∙ sym (opt_spelled e is)
+
+opts_told : (edns : Option Edns) → IfSome edns IsEdns → edns_in (filter is_opt (opt_list edns)) ≡ Ok edns
+opts_told None is = refl
+opts_told (Some e) is = ap (λ (x : Edns). Ok (Some x)) (opt_told e is)
+
+opts_alone : (edns : Option Edns) → filter (λ r. not (is_opt r)) (opt_list edns) ≡ []
+opts_alone None = refl
+opts_alone (Some e) = refl
+
+both_are : (records more : List PlainRecord) → AllByRecursion IsRecord records → AllByRecursion IsRecord more → AllByRecursion IsRecord (records ++ more)
+both_are [] more a b = b
+both_are (r ∷ rs) more a b = (a.0, both_are rs more a.1 b)
+
+both_spelled : (records more : List PlainRecord) → records_octets (records ++ more) ≡ records_octets records ++ records_octets more
+unfolding records_octets
+both_spelled records more = flat_map-append record_octets records more
+
+none_more : (records opts : List PlainRecord) → AllByRecursion (λ r. is_opt r ≡ false) records → filter is_opt (records ++ opts) ≡ filter is_opt opts
+none_more [] opts plain = refl
+none_more (r ∷ rs) opts plain =
+    let e : is_opt r ≡ false = plain.0 in
+    rw e (none_more rs opts plain.1)
+
+all_others : (records opts : List PlainRecord) → AllByRecursion (λ r. is_opt r ≡ false) records → filter (λ r. not (is_opt r)) opts ≡ [] → filter (λ r. not (is_opt r)) (records ++ opts) ≡ records
+all_others [] opts plain none = none
+all_others (r ∷ rs) opts plain none =
+    let e : is_opt r ≡ false = plain.0 in
+    rw e (ap (λ (others : List PlainRecord). r ∷ others) (all_others rs opts plain.1 none))
 
 -- what is written as the additional section is read as it
 pub additional_written : (records : List PlainRecord) (edns : Option Edns) (bytes : List ℕ) (at after : ℕ) → AllByRecursion IsRecord records → AllByRecursion (λ r. is_opt r ≡ false) records → IfSome edns IsEdns
-    → Stands (records_octets records ++ opt_octets edns) bytes at after → additional_at (length records + opt_count edns) bytes at None ≡ Ok (records, edns, after)
-unfolding records_octets additional_at
-additional_written [] None bytes at after each plain is s = ap (λ (n : ℕ). Ok ([], None, n)) (none_after at after bytes s)
-additional_written [] (Some e) bytes at after each plain is s = opt_written e bytes at after is s
-additional_written (r ∷ rs) edns bytes at after each plain is s =
-    let others_octets = flat_map record_octets rs in
-    let middle = at + length (record_octets r) in
-    let both = stands_parts (record_octets r) (others_octets ++ opt_octets edns) bytes at middle after refl (subst (λ (l : List ℕ). Stands l bytes at after) (append_assoc (record_octets r) others_octets (opt_octets edns)) s) in
-    let first : record_at bytes at ≡ Ok (r, middle) = record_written r bytes at middle each.0 both.0 in
-    let others : additional_at (length rs + opt_count edns) bytes middle None ≡ Ok (rs, edns, after) = additional_written rs edns bytes middle after each.1 plain.1 is both.1 in
-    let count : length (r ∷ rs) + opt_count edns ≡ suc (length rs + opt_count edns) = omega arith in
-    let not_opt : is_opt r ≡ false = plain.0 in
-    rw (count, first, not_opt, others) refl
+    → Stands (records_octets records ++ opt_octets edns) bytes at after → WrittenAdditional records edns bytes at after
+additional_written records edns bytes at after each plain is s =
+    let opts = opt_list edns in
+    let octets : records_octets (records ++ opts) ≡ records_octets records ++ opt_octets edns = both_spelled records opts ∙ ap (λ (l : List ℕ). records_octets records ++ l) (opts_spelled edns is) in
+    let count : length (records ++ opts) ≡ length records + opt_count edns = omega (arith, length-append records opts, opts_counted edns) in
+    record {
+      all = records ++ opts;
+      read = ap (λ (n : ℕ). records_at n bytes at) (sym count) ∙ records_written (records ++ opts) bytes at after (both_are records opts each (opts_are edns is)) (subst (λ (l : List ℕ). Stands l bytes at after) (sym octets) s);
+      told = ap edns_in (none_more records opts plain) ∙ opts_told edns is;
+      others = all_others records opts plain (opts_alone edns);
+    }

@@ -7,7 +7,7 @@ use Rattle.dns_record.proofs.Numbers.{length-number_octets, number_read}
 use Rattle.dns_record.proofs.PartStanding.{stands_parts}
 use Rattle.dns_message.specs.declared.message.Message.{Message}
 use Rattle.dns_message.specs.declared.question.Question.{Question}
-use Rattle.dns_message.specs.Reading.{questions_at, records_at, additional_at, message_of}
+use Rattle.dns_message.specs.Reading.{questions_at, records_at, message_of}
 use Rattle.dns_message.specs.Spelling.{first_flags, second_flags, question_count, question_octets, count_octets, header_octets, records_octets, opt_count, opt_octets, parts_octets, message_octets, IsMessage}
 use Rattle.dns_message.proofs.Flags.{header_read}
 use Rattle.dns_message.proofs.MessageReads.{message_from}
@@ -101,6 +101,7 @@ message_read m z bytes is z_fits long h =
     let e2 : number_at 2 bytes 6 ≡ length m.answer = number_read 2 (length m.answer) bytes 6 8 is.answers_fit h.answers in
     let e3 : number_at 2 bytes 8 ≡ length m.authority = number_read 2 (length m.authority) bytes 8 10 is.authorities_fit h.authorities in
     let e4 : number_at 2 bytes 10 ≡ additional_count m = number_read 2 (additional_count m) bytes 10 12 is.additionals_fit h.additionals in
+    let additional = additional_written m.additional m.edns bytes h.authority_end (length bytes) is.are_additionals is.plain_additionals is.are_edns h.additional in
     let id : number_at 2 bytes 0 ≡ m.header.id = number_read 2 m.header.id bytes 0 2 is.id_fits h.id in
     message_from bytes m (record {
       long = long;
@@ -111,9 +112,12 @@ message_read m z bytes is z_fits long h =
       answer = ap (λ (n : ℕ). records_at n bytes h.end) e2 ∙ records_written m.answer bytes h.end h.answer_end is.are_answers h.answer;
       authority_end = h.authority_end;
       authority = ap (λ (n : ℕ). records_at n bytes h.answer_end) e3 ∙ records_written m.authority bytes h.answer_end h.authority_end is.are_authorities h.authority;
+      all = additional.all;
       after = length bytes;
-      additional = ap (λ (n : ℕ). additional_at n bytes h.authority_end None) e4 ∙ additional_written m.additional m.edns bytes h.authority_end (length bytes) is.are_additionals is.plain_additionals is.are_edns h.additional;
+      additional = ap (λ (n : ℕ). records_at n bytes h.authority_end) e4 ∙ additional.read;
       whole = omega arith;
+      edns = additional.told;
+      others = additional.others;
     })
 
 whole_stands : (bytes : List ℕ) → Stands bytes bytes 0 (length bytes)

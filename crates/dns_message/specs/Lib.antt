@@ -1,5 +1,6 @@
 pub mod Spelling
 pub mod Becomes
 pub mod Reading
+pub mod Opts
 pub mod Grammar
 pub mod Request

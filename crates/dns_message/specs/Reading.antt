@@ -1,5 +1,6 @@
 -- Which message the bytes are, or which is their first fault (RFC 1035, section 4.1).
-use Rattle.std.specs.Prelude.{◌≡◌, ℕ, zero, suc, ◌+◌, ◌/◌, ◌%◌, ◌==◌, Bool, ◌&&◌, nat_lt, if◌then◌else◌, List, [], ◌∷◌, ◌++◌, length, slice_index, Option, Some, None, Result, Ok, Err}
+use Rattle.std.specs.Prelude.{◌≡◌, ℕ, zero, suc, ◌+◌, ◌/◌, ◌%◌, ◌==◌, Bool, ◌&&◌, not, nat_lt, if◌then◌else◌, List, [], ◌∷◌, length, slice_index, Option, Some, None, Result, Ok, Err}
+use Rattle.std.specs.List.{filter}
 use Rattle.dns_name.specs.Reading.{◌>>=◌, name_at}
 use Rattle.dns_record.specs.Number.{number_at}
 use Rattle.dns_record.specs.Reading.{record_at}
@@ -68,43 +69,26 @@ is_opt r = r.rtype == 41 && length r.owner == 0
 abbrev pub edns_of : PlainRecord → Edns
 edns_of r = record { payload = r.class; version = r.ttl / 65536 % 256; extended = r.ttl / 16777216 % 256 }
 
--- an OPT record where this one was read before, or none
-abbrev pub only_opt : Option Edns → PlainRecord → Result (Option Edns) MessageFault
-only_opt None r = Ok (Some (edns_of r))
-only_opt (Some before) r = Err TwoOpts
+-- what the OPT records of a message say: there is one at most (RFC 6891, section 6.1.1)
+abbrev pub edns_in : List PlainRecord → Result (Option Edns) MessageFault
+edns_in [] = Ok None
+edns_in (opt ∷ []) = Ok (Some (edns_of opt))
+edns_in (opt ∷ other ∷ opts) = Err TwoOpts
 
--- what is kept of a record behind these: the record, or what it says if it is an OPT record
-abbrev pub kept : List PlainRecord → Option Edns → PlainRecord → Result (List PlainRecord × Option Edns) MessageFault
-kept records edns r = if is_opt r then (only_opt edns r >>= λ now. Ok (records, now)) else Ok (records ++ r ∷ [], edns)
+-- what follows the end of a message, which is no later than the end of its octets
+abbrev pub ended : {A : Type 0} → List ℕ → ℕ → Result A MessageFault → Result A MessageFault
+ended bytes place rest = if nat_lt place (length bytes) then Err Trailing else rest
 
--- the records of the additional section that are no OPT, what the OPT record says, and the place after them
-abbrev pub Additional : Type 0
-Additional = List PlainRecord × Option Edns × ℕ
-
--- a record before what is read
-abbrev pub with_record : PlainRecord → Result Additional MessageFault → Result Additional MessageFault
-with_record r read = read >>= λ others. Ok (r ∷ others.0, others.1, others.2)
-
--- So many records of the additional section from a place on, and the place after them. What an OPT record
--- says is told apart from the other records; a second one is a fault, whatever stands behind it.
-unfoldable pub additional_at : ℕ → List ℕ → ℕ → Option Edns → Result Additional MessageFault
-additional_at zero bytes place edns = Ok ([], edns, place)
-additional_at (suc count) bytes place edns = do
-  first ← as_record (record_at bytes place)
-  if is_opt first.0 then (only_opt edns first.0 >>= λ now. additional_at count bytes first.1 now) else with_record first.0 (additional_at count bytes first.1 edns)
-
--- a message that ends at this place
-abbrev pub ended : List ℕ → ℕ → Message → Result Message MessageFault
-ended bytes place message = if nat_lt place (length bytes) then Err Trailing else Ok message
-
--- the message after its header
+-- The message after its header. The count of questions is looked at before anything behind the header, and the OPT
+-- records only once all records are read to the end of the octets.
 unfoldable pub sections_of : List ℕ → Result Message MessageFault
 sections_of bytes = do
   question ← questions_at (number_at 2 bytes 4) bytes
   answer ← records_at (number_at 2 bytes 6) bytes question.1
   authority ← records_at (number_at 2 bytes 8) bytes answer.1
-  additional ← additional_at (number_at 2 bytes 10) bytes authority.1 None
-  ended bytes additional.2 (record { header = header_in bytes; question = question.0; answer = answer.0; authority = authority.0; additional = additional.0; edns = additional.1 })
+  additional ← records_at (number_at 2 bytes 10) bytes authority.1
+  edns ← ended bytes additional.1 (edns_in (filter is_opt additional.0))
+  Ok (record { header = header_in bytes; question = question.0; answer = answer.0; authority = authority.0; additional = filter (λ r. not (is_opt r)) additional.0; edns = edns })
 
 -- The message that the bytes are, or the first fault.
 unfoldable pub message_of : List ℕ → Result Message MessageFault

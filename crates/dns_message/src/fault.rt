@@ -7,12 +7,13 @@ ghost use Rattle.dns_message.specs.Becomes.{Becomes};
 use dns_record::{RecordError, RecordFault};
 use std::alloc::{AllocError, AllocFailed};
 
-/// What is wrong with a message: the first fault, in the order of its bytes.
+/// What is wrong with a message: the first of this list that applies, and of the faults of records that of
+/// the first record that has one.
 #[derive(Clone, Copy, Debug, PartialEq, Eq)]
 pub enum MessageFault {
     /// There are under 12 bytes, or the question reaches past the end, or its name is faulty.
     Short,
-    /// There is more than one question.
+    /// There is more than one question. The count alone tells it, before anything behind the header.
     Question,
     /// A record is faulty.
     Record(RecordFault),

@@ -2,12 +2,12 @@
 //! the triage of requests.
 #![tactic(auto)]
 
-mod additional_reading;
 mod edns;
 mod fault;
 mod header;
 pub mod laws;
 mod message;
+mod opt_reading;
 mod question;
 mod reading;
 mod request;

@@ -3,17 +3,18 @@
 ghost use Rattle.std.specs.Prelude.{◌≡◌, ◌+◌, ◌/◌, ◌%◌, ◌<◌, ◌≤◌, length, slice_index, IfOk};
 ghost use Rattle.dns_message.specs.Reading.{Gives, is_set as bit_is_set, header_in, end_at, question_at, questions_at, records_at, sections_of, message_of};
 
-use crate::additional_reading::read_additional;
 use crate::fault::{MessageError, MessageFault};
 use crate::header::Header;
 use crate::message::Message;
+use crate::opt_reading::{edns_among, without_opts};
 use crate::question::Question;
 use dns_name::{NameError, Names};
 use dns_record::number::u16_at;
 use dns_record::{Records, read_record_of};
 use std::alloc::Global;
 
-/// The message that the bytes are, or the first fault. The three bits Z of the header are ignored, and so
+/// The message that the bytes are, or the first fault: that of the first byte that shows one, and where all
+/// records are read, `Trailing` before `TwoOpts`. The three bits Z of the header are ignored, and so
 /// are the flags and the options of the OPT record (RFC 6891, section 6.1.2).
 #[tactic(auto, unfolding(crate::specs::Reading::message_of))]
 pub fn read_message(alloc: Global, bytes: &[u8]) -> Result<Message, MessageError>
@@ -35,16 +36,17 @@ fn read_sections(alloc: Global, bytes: &[u8]) -> Result<Message, MessageError>
     let (question, place) = read_questions(alloc, u16_at(bytes, 4), &mut names)?;
     let (answer, place) = read_records(alloc, u16_at(bytes, 6), &mut names, place)?;
     let (authority, place) = read_records(alloc, u16_at(bytes, 8), &mut names, place)?;
-    let (additional, edns, place) = read_additional(alloc, u16_at(bytes, 10), &mut names, place)?;
+    let (additional, place) = read_records(alloc, u16_at(bytes, 10), &mut names, place)?;
     if place < bytes.len() {
         return Err(MessageError::Fault(MessageFault::Trailing));
     }
+    let edns = edns_among(additional.as_slice())?;
     Ok(Message {
         header,
         question,
         answer,
         authority,
-        additional,
+        additional: without_opts(additional),
         edns,
     })
 }

@@ -54,6 +54,13 @@ impl Records {
         Ok(())
     }
 
+    /// The records of a vector, which is not copied.
+    pub fn from_vec(records: Vec<Record>) -> Self
+        ensures { result ≡ records.items }
+    {
+        Records { records }
+    }
+
     /// The records as a vector, which is not copied.
     pub fn into_vec(self) -> Vec<Record>
         ensures { result.items ≡ self }
