@@ -11,3 +11,4 @@ pub mod DataStanding
 pub mod RecordReads
 pub mod RecordStanding
 pub mod RecordGrammar
+pub mod RecordFaults

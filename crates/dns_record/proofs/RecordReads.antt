@@ -12,29 +12,29 @@ use Rattle.dns_record.specs.Record.{PlainRecord}
 use Rattle.dns_record.proofs.Binding.{bind_ok, ok_is}
 
 -- what follows in the reading of a record
-abbrev Outcome : Type 0
+abbrev pub Outcome : Type 0
 Outcome = Result (PlainRecord × ℕ) RecordFault
 
-abbrev whole : List ℕ → List (List ℕ) × ℕ → ℕ → List ℕ → PlainRecord × ℕ
+abbrev pub whole : List ℕ → List (List ℕ) × ℕ → ℕ → List ℕ → PlainRecord × ℕ
 whole message owner after rdata = (record { owner = owner.0; rtype = number_at 2 message owner.1; class = number_at 2 message (owner.1 + 2); ttl = number_at 4 message (owner.1 + 4); rdata = rdata }, after)
 
-abbrev at_data : List ℕ → List (List ℕ) × ℕ → ℕ → List ℕ → Outcome
+abbrev pub at_data : List ℕ → List (List ℕ) × ℕ → ℕ → List ℕ → Outcome
 at_data message owner after rdata = Ok (whole message owner after rdata)
 
-abbrev at_end : List ℕ → List (List ℕ) × ℕ → ℕ → ℕ → Outcome
+abbrev pub at_end : List ℕ → List (List ℕ) × ℕ → ℕ → ℕ → Outcome
 at_end message owner fixed after = data_at (number_at 2 message owner.1) (number_at 2 message (owner.1 + 2)) message fixed after >>= at_data message owner after
 
-abbrev at_fixed : List ℕ → List (List ℕ) × ℕ → ℕ → Outcome
+abbrev pub at_fixed : List ℕ → List (List ℕ) × ℕ → ℕ → Outcome
 at_fixed message owner fixed = end_at message fixed (number_at 2 message (owner.1 + 8)) >>= at_end message owner fixed
 
-abbrev at_owner : List ℕ → List (List ℕ) × ℕ → Outcome
+abbrev pub at_owner : List ℕ → List (List ℕ) × ℕ → Outcome
 at_owner message owner = end_at message owner.1 10 >>= at_fixed message owner
 
-owner_read : (read : reading.Outcome) (x : List (List ℕ) × ℕ) → as_owner read ≡ Ok x → read ≡ Ok x
+pub owner_read : (read : reading.Outcome) (x : List (List ℕ) × ℕ) → as_owner read ≡ Ok x → read ≡ Ok x
 owner_read (Ok y) x e = ap (λ (z : List (List ℕ) × ℕ). Ok z) (ok_is {E = RecordFault} y x e)
 owner_read (Err fault) x e = absurd cc
 
-end_read : (message : List ℕ) (place count end : ℕ) → end_at message place count ≡ Ok end → (place + count ≤ length message) × (place + count ≡ end)
+pub end_read : (message : List ℕ) (place count end : ℕ) → end_at message place count ≡ Ok end → (place + count ≤ length message) × (place + count ≡ end)
 end_read message place count end =
     cond_both (ltb (length message) (place + count)) (Err Short) (Ok (place + count)) (λ (r : Result ℕ RecordFault). r ≡ Ok end → (place + count ≤ length message) × (place + count ≡ end))
     (λ t e. absurd cc)

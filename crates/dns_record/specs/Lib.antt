@@ -4,6 +4,7 @@ pub mod Record
 pub mod Becomes
 pub mod Reading
 pub mod Grammar
+pub mod Faults
 pub mod Address
 pub mod Soa
 pub mod Serial

@@ -1,7 +1,9 @@
 //! Laws of numbers and records in messages. Each function is its clauses, and does nothing.
 
-ghost use Rattle.std.specs.Prelude.{◌≡◌, ℕ, ◌+◌, ◌<◌, ◌≤◌, ◌^◌, List, length, Ok};
+ghost use Rattle.std.specs.Prelude.{◌≡◌, ℕ, ◌+◌, ◌<◌, ◌≤◌, ◌^◌, List, length, Ok, Err};
 ghost use Rattle.dns_name.specs.Standing.{Stands};
+ghost use Rattle.dns_record.specs.declared.fault.RecordFault.{RecordFault};
+ghost use Rattle.dns_record.specs.Faults.{RecordShows};
 ghost use Rattle.dns_record.specs.Grammar.{RecordAt};
 ghost use Rattle.dns_record.specs.Number.{number_at, number_octets, AreOctets};
 ghost use Rattle.dns_record.specs.Reading.{record_at};
@@ -25,8 +27,11 @@ pub fn a_record_is_read_where_it_stands()
     ensures is_record { (r : PlainRecord) (message : List ℕ) (at after : ℕ) → AreOctets message → record_at message at ≡ Ok (r, after) → IsRecord r }
 {}
 
-/// Exactly the records that stand in a message by the rules of the grammar are read.
+/// Exactly the records that stand in a message by the rules of the grammar are read, and exactly the faults are
+/// told that it shows by them.
 pub fn a_record_is_read_by_its_grammar()
     ensures stands { (r : PlainRecord) (message : List ℕ) (at after : ℕ) → AreOctets message → record_at message at ≡ Ok (r, after) → RecordAt message at r after }
     ensures only { (r : PlainRecord) (message : List ℕ) (at after : ℕ) → RecordAt message at r after → record_at message at ≡ Ok (r, after) }
+    ensures shows { (message : List ℕ) (at : ℕ) (fault : RecordFault) → AreOctets message → record_at message at ≡ Err fault → RecordShows message at fault }
+    ensures only_fault { (message : List ℕ) (at : ℕ) (fault : RecordFault) → RecordShows message at fault → record_at message at ≡ Err fault }
 {}
