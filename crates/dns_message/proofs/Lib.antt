@@ -9,3 +9,4 @@ pub mod MessageGrammar
 pub mod OptSpelling
 pub mod Standing
 pub mod MessageIs
+pub mod Limits

@@ -4,3 +4,4 @@ pub mod Reading
 pub mod Opts
 pub mod Grammar
 pub mod Request
+pub mod Limit

@@ -1,13 +1,15 @@
--- What is done with the bytes that a client sent (RFC 1035, section 4.1.1; RFC 6895, section 2.3).
-use Rattle.std.specs.Prelude.{ℕ, ◌==◌, nat_le, Bool, true, false, not, ◌&&◌, ◌||◌, if◌then◌else◌, List, [], length, Option, Some, None, Result, Ok, Err}
+-- What is done with the bytes that a client sent (RFC 1035, section 4.1.1; RFC 6891; RFC 6895, section 2.3).
+use Rattle.std.specs.Prelude.{ℕ, ◌==◌, nat_le, nat_lt, Bool, true, false, not, ◌&&◌, ◌||◌, if◌then◌else◌, List, [], length, Option, Some, None, Result, Ok, Err}
 use Rattle.ip_prefix.specs.declared.Addr.{Addr}
 use Rattle.ip_prefix.specs.declared.Transport.{Transport}
 use Rattle.dns_message.specs.declared.edns.Edns.{Edns}
+use Rattle.dns_message.specs.declared.edns.TheConstants.{EDNS_VERSION, UDP_PAYLOAD, BAD_VERSION}
 use Rattle.dns_message.specs.declared.fault.MessageFault.{MessageFault}
 use Rattle.dns_message.specs.declared.header.Header.{Header}
 use Rattle.dns_message.specs.declared.message.Message.{Message}
 use Rattle.dns_message.specs.declared.question.Question.{Question}
 use Rattle.dns_message.specs.declared.request.Incoming.{Incoming}
+use Rattle.dns_message.specs.declared.triage.TheConstants.{NO_ERROR, FORMAT_ERROR, NOT_IMPLEMENTED, REFUSED}
 use Rattle.dns_message.specs.declared.request.Incoming.TheVariants.{Silent, Refuse, Query as Asks}
 use Rattle.dns_message.specs.Reading.{header_in, message_of}
 
@@ -16,46 +18,63 @@ use Rattle.dns_message.specs.Reading.{header_in, message_of}
 abbrev pub speaks_in : List ℕ → Bool
 speaks_in bytes = nat_le 12 (length bytes) && not (header_in bytes).qr
 
+-- what the OPT record of a reply says, where the request had one (RFC 6891, section 6.1.1)
+abbrev pub reply_edns : ℕ → Option Edns → Option Edns
+reply_edns extended None = None
+reply_edns extended (Some edns) = Some (record { payload = UDP_PAYLOAD; version = EDNS_VERSION; extended = extended })
+
 -- the header of a refusal
 abbrev pub refusal_header : ℕ → Header → Header
 refusal_header rcode h = record { id = h.id; qr = true; opcode = h.opcode; aa = false; tc = false; rd = h.rd; ra = true; rcode = rcode }
 
--- a refusal with this question or none
-abbrev pub refusal : ℕ → Header → Option Question → Message
-refusal rcode h question = record { header = refusal_header rcode h; question = question; answer = []; authority = []; additional = []; edns = None }
+-- a refusal with a question or none, and with an OPT record or none
+abbrev pub refusal : ℕ → Header → Option Question → Option Edns → Message
+refusal rcode h question edns = record { header = refusal_header rcode h; question = question; answer = []; authority = []; additional = []; edns = edns }
 
 abbrev pub header_alone : ℕ → Header → Message
-header_alone rcode h = refusal rcode h None
+header_alone rcode h = refusal rcode h None None
 
-abbrev pub with_question : ℕ → Header → Question → Message
-with_question rcode h question = refusal rcode h (Some question)
+abbrev pub with_question : ℕ → Header → Question → Option Edns → Message
+with_question rcode h question edns = refusal rcode h (Some question) edns
 
--- what a well formed request asks: it has a question, and no OPT record yet
-abbrev pub question_of : Option Question → Option Edns → Option Question
-question_of question None = question
-question_of question (Some edns) = None
+-- what a request asks, and what its OPT record says
+abbrev pub Asked : Type 0
+Asked = Question × Option Edns
 
-abbrev pub asked_in : Result Message MessageFault → Option Question
-asked_in (Ok m) = question_of m.question m.edns
+abbrev pub asked_of : Option Question → Option Edns → Option Asked
+asked_of None edns = None
+asked_of (Some question) edns = Some (question, edns)
+
+-- a well formed request has a question
+abbrev pub asked_in : Result Message MessageFault → Option Asked
+asked_in (Ok m) = asked_of m.question m.edns
 asked_in (Err fault) = None
+
+-- the request has an OPT record of a version that isn't served
+abbrev pub has_later_version : Option Edns → Bool
+has_later_version None = false
+has_later_version (Some edns) = nat_lt EDNS_VERSION edns.version
 
 -- The question is one of class IN, for no transfer of a zone (the types 251 and 252), and recursion is desired.
 abbrev pub is_served : Header → Question → Bool
 is_served h question = question.qclass == 1 && (not (question.qtype == 251 || question.qtype == 252) && h.rd)
 
-abbrev pub answered : Header → Question → Addr → Transport → Incoming
-answered h question client transport =
-    if is_served h question then Asks (record { id = h.id; rd = h.rd; question = question; client = client; transport = transport })
-    else Refuse (with_question 5 h question)
+-- A well formed request. The response code 16 (BADVERS; RFC 6891, section 9) says that the version isn't served: its
+-- lower 4 bits, in the header, are 0.
+abbrev pub answered : Header → Question → Option Edns → Addr → Transport → Incoming
+answered h question edns client transport =
+    if has_later_version edns then Refuse (with_question NO_ERROR h question (reply_edns BAD_VERSION edns))
+    else (if is_served h question then Asks (record { id = h.id; rd = h.rd; question = question; edns = edns; client = client; transport = transport })
+    else Refuse (with_question REFUSED h question (reply_edns 0 edns)))
 
--- a request of the opcode 0: the rcode 1 says that it is not well formed, and 5 that it is refused
-abbrev pub judged : Header → Option Question → Addr → Transport → Incoming
-judged h None client transport = Refuse (header_alone 1 h)
-judged h (Some question) client transport = answered h question client transport
+-- a request of the opcode 0
+abbrev pub judged : Header → Option Asked → Addr → Transport → Incoming
+judged h None client transport = Refuse (header_alone FORMAT_ERROR h)
+judged h (Some asked) client transport = answered h asked.0 asked.1 client transport
 
--- What is done with the bytes. The rcode 4 says that the opcode is not implemented.
+-- What is done with the bytes.
 unfoldable pub incoming_of : List ℕ → Addr → Transport → Incoming
 incoming_of bytes client transport =
     if not (speaks_in bytes) then Silent
     else (if (header_in bytes).opcode == 0 then judged (header_in bytes) (asked_in (message_of bytes)) client transport
-    else Refuse (header_alone 4 (header_in bytes)))
+    else Refuse (header_alone NOT_IMPLEMENTED (header_in bytes)))

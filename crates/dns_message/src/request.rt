@@ -1,5 +1,6 @@
 //! Requests, and what is done with them.
 
+use crate::edns::Edns;
 use crate::message::Message;
 use crate::question::Question;
 use ip_prefix::{Addr, Transport};
@@ -12,6 +13,8 @@ pub struct Query {
     /// Whether recursion is desired.
     pub rd: bool,
     pub question: Question,
+    /// What its OPT record says, if it has one.
+    pub edns: Option<Edns>,
     /// Where it came from.
     pub client: Addr,
     /// How it came.

@@ -2,8 +2,9 @@
 
 ghost use Rattle.std.specs.Prelude.{◌≡◌, IfOk};
 ghost use Rattle.dns_message.specs.Reading.{message_of};
-ghost use Rattle.dns_message.specs.Request.{speaks_in, refusal as refusal_of, asked_in, is_served as serves, answered as answered_by, incoming_of};
+ghost use Rattle.dns_message.specs.Request.{speaks_in, refusal as refusal_of, asked_of as asked_by, asked_in, has_later_version as later_version, is_served as serves, answered as answered_by, incoming_of};
 
+use crate::edns::{BAD_VERSION, EDNS_VERSION, Edns, reply_edns};
 use crate::fault::MessageError;
 use crate::header::Header;
 use crate::message::Message;
@@ -13,6 +14,9 @@ use crate::request::{Incoming, Query};
 use dns_record::{Records, class, rtype};
 use ip_prefix::{Addr, Transport};
 use std::alloc::{AllocError, Global};
+
+/// The lower 4 bits of a response code that the header alone doesn't tell (RFC 6891, section 6.1.3).
+const NO_ERROR: u8 = 0;
 
 /// The response code of a request that is not well formed (RFC 1035, section 4.1.1; RFC 6895, section 2.3).
 const FORMAT_ERROR: u8 = 1;
@@ -35,15 +39,17 @@ pub fn speaks(bytes: &[u8]) -> bool
 /// RFC 6895, section 2.3). In this order:
 ///
 /// - `Silent` for under 12 bytes, and for a response;
-/// - `Refuse` with the response code 4 (not implemented) for an opcode other than 0;
-/// - `Refuse` with 1 (format error) where the bytes are no message, or one without a question, or one with an
-///   OPT record (RFC 6891), which is not served yet;
-/// - `Refuse` with 5 (refused), and with the question as it came, for a class other than IN, for the types
-///   IXFR and AXFR (RFC 1995 and RFC 5936), and where no recursion is desired;
+/// - `Refuse` with the response code 4 (not implemented) and the header alone for an opcode other than 0;
+/// - `Refuse` with 1 (format error) and the header alone where the bytes are no message, or one without a
+///   question;
+/// - `Refuse` with 16 (bad version; RFC 6891, section 9) for an OPT record of a version over 0;
+/// - `Refuse` with 5 (refused) for a class other than IN, for the types IXFR and AXFR (RFC 1995 and RFC 5936),
+///   and where no recursion is desired;
 /// - else `Query`.
 ///
-/// A refusal has the identifier, the opcode and RD of the request, and no records; QR and RA are 1, AA and
-/// TC 0. Other records of the request are ignored.
+/// A refusal has the ID, the opcode and RD of the request; QR and RA are 1, AA and TC 0. Where it is more than
+/// a header, it has the question as it came, and an OPT record where the request has one (RFC 6891, section
+/// 6.1.1). Other records of the request are ignored.
 #[tactic(auto, unfolding(crate::specs::Request::incoming_of))]
 pub fn classify(
     alloc: Global,
@@ -58,22 +64,40 @@ pub fn classify(
     }
     let header = read_header(bytes);
     if header.opcode != 0 {
-        return Ok(Incoming::Refuse(refusal(alloc, NOT_IMPLEMENTED, &header, None)));
+        return Ok(Incoming::Refuse(refusal(alloc, NOT_IMPLEMENTED, &header, None, None)));
     }
     match read_asked(alloc, bytes)? {
-        None => Ok(Incoming::Refuse(refusal(alloc, FORMAT_ERROR, &header, None))),
-        Some(question) => Ok(answered(alloc, &header, question, client, transport)),
+        None => Ok(Incoming::Refuse(refusal(alloc, FORMAT_ERROR, &header, None, None))),
+        Some((question, edns)) => Ok(answered(alloc, &header, question, edns, client, transport)),
     }
 }
 
-// What a well formed request asks, or none if it is not well formed.
-fn read_asked(alloc: Global, bytes: &[u8]) -> Result<Option<Question>, AllocError>
-    ensures { IfOk result (λ question. question ≡ asked_in (message_of bytes.now)) }
+// What a well formed request asks and what its OPT record says, or none if it is not well formed.
+fn read_asked(alloc: Global, bytes: &[u8]) -> Result<Option<(Question, Option<Edns>)>, AllocError>
+    ensures { IfOk result (λ asked. asked ≡ asked_in (message_of bytes.now)) }
 {
     match read_message(alloc, bytes) {
-        Ok(message) if message.edns.is_none() => Ok(message.question),
-        Ok(_) | Err(MessageError::Fault(_)) => Ok(None),
+        Ok(message) => Ok(asked_of(message)),
+        Err(MessageError::Fault(_)) => Ok(None),
         Err(MessageError::OutOfMemory) => Err(AllocError),
+    }
+}
+
+// What a message asks and what its OPT record says, if it has a question.
+fn asked_of(message: Message) -> Option<(Question, Option<Edns>)>
+    ensures { result ≡ asked_by message.question message.edns }
+{
+    let Message {
+        header: _header,
+        question,
+        answer: _answer,
+        authority: _authority,
+        additional: _additional,
+        edns,
+    } = message;
+    match question {
+        None => None,
+        Some(question) => Some((question, edns)),
     }
 }
 
@@ -82,21 +106,38 @@ fn answered(
     alloc: Global,
     header: &Header,
     question: Question,
+    edns: Option<Edns>,
     client: Addr,
     transport: Transport,
 ) -> Incoming
-    ensures { result ≡ answered_by header.now question client transport }
+    ensures { result ≡ answered_by header.now question edns client transport }
 {
+    if has_later_version(edns) {
+        let told = reply_edns(BAD_VERSION, edns.as_ref());
+        return Incoming::Refuse(refusal(alloc, NO_ERROR, header, Some(question), told));
+    }
     if !is_served(header, &question) {
-        return Incoming::Refuse(refusal(alloc, REFUSED, header, Some(question)));
+        let told = reply_edns(0, edns.as_ref());
+        return Incoming::Refuse(refusal(alloc, REFUSED, header, Some(question), told));
     }
     Incoming::Query(Query {
         id: header.id,
         rd: header.rd,
         question,
+        edns,
         client,
         transport,
     })
+}
+
+// Whether the request has an OPT record of a version that isn't served.
+fn has_later_version(edns: Option<Edns>) -> bool
+    ensures { result ≡ later_version edns }
+{
+    match edns {
+        None => false,
+        Some(edns) => edns.version > EDNS_VERSION,
+    }
 }
 
 // Whether the question is one of class IN, for no transfer of a zone, and recursion is desired.
@@ -109,8 +150,14 @@ fn is_served(header: &Header, question: &Question) -> bool
 }
 
 // The refusal of a request of this header, with a question or none. It takes no memory.
-fn refusal(alloc: Global, rcode: u8, header: &Header, question: Option<Question>) -> Message
-    ensures { result ≡ refusal_of rcode header.now question }
+fn refusal(
+    alloc: Global,
+    rcode: u8,
+    header: &Header,
+    question: Option<Question>,
+    edns: Option<Edns>,
+) -> Message
+    ensures { result ≡ refusal_of rcode header.now question edns }
 {
     Message {
         header: Header {
@@ -127,6 +174,6 @@ fn refusal(alloc: Global, rcode: u8, header: &Header, question: Option<Question>
         answer: Records::new(alloc),
         authority: Records::new(alloc),
         additional: Records::new(alloc),
-        edns: None,
+        edns,
     }
 }

@@ -1,11 +1,13 @@
 //! Writes a message, its names in full.
 
-ghost use Rattle.std.specs.Prelude.{◌≡◌, ◌≤◌, ◌++◌, length, take, option_copied, IfOk, OnOk, OnErr};
+ghost use Rattle.std.specs.Prelude.{◌≡◌, ◌≤◌, ◌++◌, length, take, option_copied, IfOk, IfSome, OnOk, OnErr};
 ghost use Rattle.dns_record.specs.Number.{number_octets};
-ghost use Rattle.dns_message.specs.Spelling.{first_flags as flags_first, second_flags as flags_second, question_octets, records_octets, opt_octets, header_octets, start_octets, parts_octets, spelled};
+ghost use Rattle.dns_message.specs.Limit.{octets_within, spelled_within};
+ghost use Rattle.dns_message.specs.Spelling.{first_flags as flags_first, second_flags as flags_second, question_octets, records_octets, opt_octets, header_octets, start_octets, parts_octets, IsQuestion};
 
 use crate::edns::Edns;
 use crate::header::Header;
+use crate::limit::{GREATEST_LIMIT, LEAST_LIMIT};
 use crate::message::Message;
 use crate::question::Question;
 use dns_name::Octets;
@@ -13,29 +15,79 @@ use dns_record::number::push_u16;
 use dns_record::{Record, rtype};
 use std::alloc::{AllocError, Global};
 
-/// The bytes of the message, its names in full and the bits Z 0. The limit is 512 to 65,535 bytes; no
-/// message is truncated to it yet.
+/// The bytes of the message, its names in full and the bits Z 0, or, exactly where these are more than the
+/// limit, those of its truncated form: the header with TC 1, the question, and the OPT record.
 pub fn write_message(alloc: Global, message: &Message, limit: usize) -> Result<Octets, AllocError>
-    requires low { 512 ≤ limit }
-    requires high { limit ≤ 65535 }
-    ensures { IfOk result (λ octets. octets ≡ spelled message.now) }
+    requires low { LEAST_LIMIT ≤ limit }
+    requires high { limit ≤ GREATEST_LIMIT }
+    ensures octets { IfOk result (λ octets. octets ≡ spelled_within limit message.now) }
+    ensures fits { IfOk result (λ octets. length octets ≤ limit) }
 {
     let mut out = Octets::with_capacity(alloc, 512)?;
+    let question = message.question.as_ref();
+    let edns = message.edns.as_ref();
     write_parts(
         &mut out,
         &message.header,
-        message.question.as_ref(),
+        question,
         message.answer.as_slice(),
         message.authority.as_slice(),
         message.additional.as_slice(),
-        message.edns.as_ref(),
+        edns,
     )?;
+    truncate_beyond(&mut out, limit, &message.header, question, edns)?;
     Ok(out)
 }
 
+/// Ends a message that was written piece by piece, from the start of the buffer on: puts the OPT record behind
+/// it, or, exactly where it is then longer than the limit, its truncated form in its place: the header with TC
+/// 1, the question, and the OPT record. An `Err` leaves some of the message or some of its truncated form.
+pub fn finish_message(
+    out: &mut Octets,
+    limit: usize,
+    header: &Header,
+    question: Option<&Question>,
+    edns: Option<&Edns>,
+) -> Result<(), AllocError>
+    requires low { LEAST_LIMIT ≤ limit }
+    requires high { limit ≤ GREATEST_LIMIT }
+    ensures ok { OnOk result (
+        out.new ≡ octets_within limit (out.old ++ opt_octets (option_copied edns.entry)) header.now (option_copied question.entry) (option_copied edns.entry)
+        ) }
+    ensures fits { OnOk result (length out.new ≤ limit) }
+{
+    write_opt(out, edns)?;
+    truncate_beyond(out, limit, header, question, edns)
+}
+
+// Puts the truncated form in place of a message that is longer than the limit.
+fn truncate_beyond(
+    out: &mut Octets,
+    limit: usize,
+    header: &Header,
+    question: Option<&Question>,
+    edns: Option<&Edns>,
+) -> Result<(), AllocError>
+    requires { LEAST_LIMIT ≤ limit }
+    ensures ok { OnOk result (
+        out.new ≡ octets_within limit out.old header.now (option_copied question.entry) (option_copied edns.entry)
+        ) }
+    ensures fits { OnOk result (length out.new ≤ limit) }
+{
+    if out.len() <= limit {
+        return Ok(());
+    }
+    let header = Header {
+        tc: true,
+        ..*header
+    };
+    out.clear();
+    write_parts(out, &header, question, &[], &[], &[], edns)
+}
+
 /// Writes the message of these parts at the end, its names in full and the bits Z 0; the OPT record, which is
-/// counted with the additional ones, stands last. An `Err` leaves
-/// what was written before, and maybe a part of the message behind it.
+/// counted with the additional ones, stands last. An `Err` leaves what was written before, and maybe a part of
+/// the message behind it.
 #[tactic(auto, unfolding(crate::specs::Spelling::parts_octets), using(crate::proofs::Pieces::regrouped))]
 pub fn write_parts(
     out: &mut Octets,
@@ -48,6 +100,7 @@ pub fn write_parts(
 ) -> Result<(), AllocError>
     ensures ok { OnOk result (out.new ≡ out.old ++ parts_octets 0 header.now (option_copied question.entry) answer.now authority.now additional.now (option_copied edns.entry)) }
     ensures begins { take (length out.old) out.new ≡ out.old }
+    ensures question { OnOk result (IfSome (option_copied question.entry) IsQuestion) }
 {
     write_header(
         out,
@@ -65,8 +118,8 @@ pub fn write_parts(
 }
 
 /// Writes the header, its bits Z 0, and the question of a message at the end. So many records are to follow in each
-/// section, of which the low 16 bits are written; [`write_records`] and [`dns_record::write_record`] write them. An
-/// `Err` leaves what was written before, and maybe a part of the message behind it.
+/// section, the OPT record counted with the additional ones, of which the low 16 bits are written; [`write_records`]
+/// and [`dns_record::write_record`] write them, and [`finish_message`] the OPT record. An `Err` leaves what was written before, and maybe a part of the message behind it.
 #[tactic(auto, unfolding(crate::specs::Spelling::start_octets), using(crate::proofs::Pieces::two_regrouped))]
 pub fn write_start(
     out: &mut Octets,
@@ -143,6 +196,7 @@ fn push_count(out: &mut Octets, count: usize) -> Result<(), AllocError>
 fn write_question(out: &mut Octets, question: Option<&Question>) -> Result<(), AllocError>
     ensures ok { OnOk result (out.new ≡ out.old ++ question_octets (option_copied question.entry)) }
     ensures begins { take (length out.old) out.new ≡ out.old }
+    ensures question { OnOk result (IfSome (option_copied question.entry) IsQuestion) }
 {
     match question {
         None => Ok(()),
