@@ -1,7 +1,7 @@
 //! Sources and sinks: reads and writes that come in pieces, and that fail.
 
 use edge_io::{
-    Bytes, Discard, Failed, ListSink, ListSource, ReaderSource, Schedule, Source, WriteFault,
+    Bytes, Discard, Failed, ListSink, ListSource, ReaderSource, Schedule, SinkError, Source,
     WriterSink, write_all,
 };
 use std::test::Fail;
@@ -13,8 +13,8 @@ fn writes(rt: HostRuntime) -> Result<(), Fail> {
     for (most, call, result, bytes) in [
         (9, 9, Ok(()), b"-abcd".as_slice()),
         (1, 9, Ok(()), b"-abcd"),
-        (1, 2, Err(WriteFault), b"-ab"),
-        (3, 1, Err(WriteFault), b"-abc"),
+        (1, 2, Err(SinkError::WriteFault), b"-ab"),
+        (3, 1, Err(SinkError::WriteFault), b"-abc"),
         (1, 4, Ok(()), b"-abcd"),
     ] {
         let failing = vec![in alloc; call]?;

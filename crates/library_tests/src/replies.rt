@@ -1,7 +1,7 @@
 //! What a reply needs to know, and the reply.
 
 use action_codec::Action;
-use dns_message::{Incoming, Query, classify};
+use dns_message::{Incoming, Query, classify, reply_limit};
 use dns_record::read_record;
 use ip_prefix::{Addr, Transport};
 use reply_build::{Said, Verdict, build, missing};
@@ -41,7 +41,9 @@ fn a_rule_denies_a_name(rt: HostRuntime) -> Result<(), Fail> {
         action: &action,
         soa: &soa,
     };
-    let Said::Reply(reply) = build(rt.alloc(), &query, verdict, &Facts::new(rt.alloc()))? else {
+    let facts = Facts::new(rt.alloc());
+    let said = build(rt.alloc(), &query, verdict, &facts, reply_limit(&query))?;
+    let Said::Reply(reply) = said else {
         return Err("a reply".into());
     };
     assert_eq!(rt; reply.as_slice(), DENIAL);

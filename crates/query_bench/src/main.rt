@@ -50,7 +50,7 @@ fn answer_all<S: Source, K: Sink>(
         let Some(line) = read_frame(alloc, source)? else {
             break;
         };
-        let output = worker.answer(alloc, &line)?;
+        let output = worker.answer(alloc, line.as_slice())?;
         let text = write_output(alloc, &output)?;
         write_all(out, text.as_slice())?;
     }

@@ -2,7 +2,7 @@
 
 use axfr_apply::TransferError;
 use dns_name::NameError;
-use edge_io::{FrameError, WriteFault};
+use edge_io::{FrameError, SinkError};
 use script_codec::ReadError;
 use std::alloc::{AllocError, AllocFailed};
 use zone_rows::ApplyError;
@@ -16,7 +16,7 @@ pub enum Refusal {
     Apply(ApplyError),
     Frame(FrameError),
     Line(ReadError),
-    Write(WriteFault),
+    Write(SinkError),
     /// Nothing was taken.
     Empty,
     /// The line is none that is answered here.
@@ -65,8 +65,8 @@ impl From<ReadError> for Refusal {
     }
 }
 
-impl From<WriteFault> for Refusal {
-    fn from(error: WriteFault) -> Self {
+impl From<SinkError> for Refusal {
+    fn from(error: SinkError) -> Self {
         Refusal::Write(error)
     }
 }

@@ -7,7 +7,7 @@ ghost use Rattle.query_session.specs.Seen.{verdict_seen};
 ghost use Rattle.query_session.specs.Session.{asked_in as asks, begun, given, turn_of, turned, verdict_turn};
 
 use crate::policy::Policy;
-use dns_message::{Incoming, Query, Question, classify, write_message};
+use dns_message::{Incoming, MIN_LIMIT, Query, Question, classify, reply_limit, write_message};
 use ip_prefix::{Addr, Transport};
 use reply_build::{Said, Verdict, build, missing};
 use std::alloc::{AllocError, Global};
@@ -72,7 +72,7 @@ impl Session {
         match &self.incoming {
             Incoming::Silent => Ok(Turn::Said(Said::Silent)),
             Incoming::Refuse(message) => {
-                let reply = write_message(self.alloc, message, 65535)?;
+                let reply = write_message(self.alloc, message, MIN_LIMIT)?;
                 Ok(Turn::Said(Said::Reply(reply)))
             }
             Incoming::Query(query) => turn_about(self.alloc, &self.policy, query, &self.facts),
@@ -94,11 +94,18 @@ impl Session {
     pub fn give(&mut self, fact: Fact) -> Result<(), AllocError>
         requires { IsSome self.old.asked }
         ensures ok { OnOk result (self.new ≡ given self.old fact) }
+        ensures err { OnErr result (self.new ≡ self.old) }
     {
-        if let Some(question) = self.asked.take() {
-            self.facts.push(question, fact)?;
+        let Some(question) = self.asked.take() else {
+            return Ok(());
+        };
+        match self.facts.push(question, fact) {
+            Ok(()) => Ok(()),
+            Err(refused) => {
+                self.asked = Some(refused.value);
+                Err(AllocError)
+            }
         }
-        Ok(())
     }
 
     /// Whether the last turn asked for a fact that wasn't given yet.
@@ -164,7 +171,7 @@ fn verdict_turn_of(
     match missing(alloc, query, verdict, facts)? {
         Some(question) => Ok(Turn::Ask(question)),
         None => {
-            let said = build(alloc, query, verdict, facts)?;
+            let said = build(alloc, query, verdict, facts, reply_limit(query))?;
             Ok(Turn::Said(said))
         }
     }

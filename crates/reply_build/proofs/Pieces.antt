@@ -1,23 +1,19 @@
 -- Replies that are written piece by piece.
 use Rattle.std.proofs.Common.{◌≡◌, ℕ, ◌+◌, Bool, true, false, cond, List, [], ◌∷◌, ◌++◌, length, map, filter, drop, get_or, Option, Some, None, refl, sym, ap, ◌∙◌, append_assoc, arith}
-use Rattle.std.specs.Prelude.{◌<◌, ◌≤◌}
+use Rattle.std.specs.Prelude.{◌<◌, ◌≤◌, option_map}
 use Rattle.std.proofs.lemmas.List.{append-nil, length-map, at_drop_more, drop_all}
 use Rattle.dns_record.specs.Record.{PlainRecord, record_octets}
 use Rattle.dns_message.specs.declared.header.Header.{Header}
 use Rattle.dns_message.specs.declared.question.Question.{Question}
 use Rattle.dns_message.specs.declared.request.Query.{Query}
-use Rattle.dns_message.specs.Spelling.{start_octets, records_octets, opt_octets, parts_octets, spelled}
+use Rattle.dns_message.specs.Limit.{spelled_within, truncated_octets, within_limit}
+use Rattle.dns_message.specs.Request.{reply_edns}
+use Rattle.dns_message.specs.Spelling.{start_octets, records_octets, opt_count, opt_octets, parts_octets, spelled}
 use Rattle.action_codec.specs.Local.{PlainLocal}
-use Rattle.reply_build.specs.Reply.{reply_header, reply_of, local_record, is_asked, local_answer}
-
--- a message without an OPT record in pieces
-pub in_pieces : (h : Header) (q : Option Question) (answer authority additional : List PlainRecord)
-    → (((start_octets h q (length answer) (length authority) (length additional) ++ records_octets answer) ++ records_octets authority) ++ records_octets additional)
-    ≡ parts_octets 0 h q answer authority additional None
-unfolding start_octets parts_octets opt_octets
-in_pieces h q answer authority additional =
-    let zero : length additional + 0 ≡ length additional = omega arith in
-    rw (zero, append-nil (start_octets h q (length answer) (length authority) (length additional) ++ records_octets answer ++ records_octets authority ++ records_octets additional)) refl
+use Rattle.reply_build.specs.declared.draft.Draft.{Draft}
+use Rattle.reply_build.specs.Draft.{draft_octets, draft_of}
+use Rattle.reply_build.specs.declared.said.Said.TheVariants.{Reply}
+use Rattle.reply_build.specs.Reply.{said, Sections, reply_header, reply_of, local_record, is_asked, local_answer, sections}
 
 no_records : (octets : List ℕ) → octets ++ records_octets [] ≡ octets
 unfolding records_octets
@@ -27,39 +23,69 @@ first_record : (r : PlainRecord) (rs : List PlainRecord) → records_octets (r �
 unfolding records_octets
 first_record r rs = refl
 
-pub local_pieces : (query : Query) (rows : List PlainLocal) (soa : PlainRecord) (a b c : List ℕ)
-    → a ≡ [] ++ start_octets (reply_header false 0 query) (Some query.question) (length (filter (is_asked query.question.qtype) rows)) 0 1
+pub local_pieces : (query : Query) (rows : List PlainLocal) (soa : PlainRecord) (k : ℕ) (a b c : List ℕ)
+    → k ≡ 1 + opt_count (reply_edns 0 query.edns)
+    → a ≡ [] ++ start_octets (reply_header false 0 query) (Some query.question) (length (filter (is_asked query.question.qtype) rows)) 0 k
     → b ≡ a ++ records_octets (map (local_record query.question.name) (filter (is_asked query.question.qtype) rows))
     → c ≡ b ++ records_octets (soa ∷ [])
-    → c ≡ spelled (local_answer query rows soa)
-local_pieces query rows soa a b c ea eb ec =
+    → c ≡ draft_octets query (local_answer query rows soa)
+local_pieces query rows soa k a b c ek ea eb ec =
     let asked = filter (is_asked query.question.qtype) rows in
     let answer = map (local_record query.question.name) asked in
     let h = reply_header false 0 query in
-    let start : a ≡ start_octets h (Some query.question) (length answer) 0 1 = ea ∙ ap (λ (n : ℕ). start_octets h (Some query.question) n 0 1) (sym (length-map asked (local_record query.question.name))) in
+    let n = 1 + opt_count (reply_edns 0 query.edns) in
+    let start : a ≡ start_octets h (Some query.question) (length answer) 0 n =
+    ea ∙ ap (λ (m : ℕ). start_octets h (Some query.question) m 0 k) (sym (length-map asked (local_record query.question.name)))
+    ∙ ap (λ (m : ℕ). start_octets h (Some query.question) (length answer) 0 m) ek in
     ec
-    ∙ ap (λ (l : List ℕ). l ++ records_octets (soa ∷ [])) (eb ∙ ap (λ (l : List ℕ). l ++ records_octets answer) start ∙ sym (no_records (start_octets h (Some query.question) (length answer) 0 1 ++ records_octets answer)))
-    ∙ in_pieces h (Some query.question) answer [] (soa ∷ [])
+    ∙ ap (λ (l : List ℕ). l ++ records_octets (soa ∷ [])) (eb ∙ ap (λ (l : List ℕ). l ++ records_octets answer) start ∙ sym (no_records (start_octets h (Some query.question) (length answer) 0 n ++ records_octets answer)))
 
-pub alias_pieces : (rcode : ℕ) (query : Query) (alias soa : PlainRecord) (answers authority : List PlainRecord) (a b c d e : List ℕ)
-    → a ≡ [] ++ start_octets (reply_header false rcode query) (Some query.question) (length answers + 1) (length authority) 1
+pub alias_pieces : (rcode : ℕ) (query : Query) (alias soa : PlainRecord) (answers authority : List PlainRecord) (k : ℕ) (a b c d e : List ℕ)
+    → k ≡ 1 + opt_count (reply_edns 0 query.edns)
+    → a ≡ [] ++ start_octets (reply_header false rcode query) (Some query.question) (length answers + 1) (length authority) k
     → b ≡ a ++ record_octets alias
     → c ≡ b ++ records_octets answers
     → d ≡ c ++ records_octets authority
     → e ≡ d ++ records_octets (soa ∷ [])
-    → e ≡ spelled (reply_of rcode query (alias ∷ answers) authority (soa ∷ []))
-alias_pieces rcode query alias soa answers authority a b c d e ea eb ec ed ee =
+    → e ≡ draft_octets query (sections rcode (alias ∷ answers) authority (soa ∷ []))
+alias_pieces rcode query alias soa answers authority k a b c d e ek ea eb ec ed ee =
     let h = reply_header false rcode query in
-    let start = start_octets h (Some query.question) (length (alias ∷ answers)) (length authority) 1 in
+    let n = 1 + opt_count (reply_edns 0 query.edns) in
+    let start = start_octets h (Some query.question) (length (alias ∷ answers)) (length authority) n in
     let one : length answers + 1 ≡ length (alias ∷ answers) = omega arith in
-    let begins : a ≡ start = ea ∙ ap (λ (n : ℕ). start_octets h (Some query.question) n (length authority) 1) one in
+    let begins : a ≡ start = ea ∙ ap (λ (m : ℕ). start_octets h (Some query.question) m (length authority) k) one
+    ∙ ap (λ (m : ℕ). start_octets h (Some query.question) (length (alias ∷ answers)) (length authority) m) ek in
     let all : c ≡ start ++ records_octets (alias ∷ answers) =
     ec ∙ ap (λ (l : List ℕ). l ++ records_octets answers) (eb ∙ ap (λ (l : List ℕ). l ++ record_octets alias) begins)
     ∙ append_assoc start (record_octets alias) (records_octets answers)
     ∙ ap (λ (l : List ℕ). start ++ l) (sym (first_record alias answers)) in
     ee
     ∙ ap (λ (l : List ℕ). l ++ records_octets (soa ∷ [])) (ed ∙ ap (λ (l : List ℕ). l ++ records_octets authority) all)
-    ∙ in_pieces h (Some query.question) (alias ∷ answers) authority (soa ∷ [])
+
+-- a reply with its OPT record
+whole_reply : (query : Query) (s : Sections) → draft_octets query s ++ opt_octets (reply_edns 0 query.edns) ≡ spelled (reply_of query s)
+unfolding start_octets parts_octets
+whole_reply query s = refl
+
+pub finished : (limit : ℕ) (query : Query) (s : Sections) (draft : Draft) (out : List ℕ) → draft ≡ draft_of query s
+    → out ≡ within_limit limit (draft.octets ++ opt_octets (reply_edns 0 query.edns)) (truncated_octets draft.header (Some query.question) (reply_edns 0 query.edns))
+    → out ≡ spelled_within limit (reply_of query s)
+finished limit query s draft out is e =
+    e
+    ∙ ap (λ (d : Draft). within_limit limit (d.octets ++ opt_octets (reply_edns 0 query.edns)) (truncated_octets d.header (Some query.question) (reply_edns 0 query.edns))) is
+    ∙ ap (λ (l : List ℕ). within_limit limit l (truncated_octets (reply_header s.tc s.rcode query) (Some query.question) (reply_edns 0 query.edns))) (whole_reply query s)
+
+draft_in : Draft → Option Draft → Draft
+draft_in other None = other
+draft_in other (Some draft) = draft
+
+-- what is said is the draft, finished
+pub said_draft : (limit : ℕ) (query : Query) (whole : Option Sections) (draft : Draft) (bytes : List ℕ) → Some draft ≡ option_map (draft_of query) whole
+    → ((s : Sections) → draft ≡ draft_of query s → bytes ≡ spelled_within limit (reply_of query s))
+    → Reply bytes ≡ said limit query whole
+unfolding draft_in
+said_draft limit query None draft bytes is each = absurd cc
+said_draft limit query (Some s) draft bytes is each = ap (λ (l : List ℕ). Reply l) (each s (ap (draft_in draft) is))
 
 -- the rows that are asked for, as records of this owner
 abbrev pub asked_octets : List (List ℕ) → ℕ → List PlainLocal → List ℕ

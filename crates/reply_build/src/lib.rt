@@ -2,6 +2,7 @@
 #![tactic(auto)]
 
 mod building;
+mod draft;
 mod local;
 mod needs;
 mod reply;

@@ -2,10 +2,12 @@
 
 ghost use Rattle.std.specs.Prelude.{◌≡◌, ◌∷◌, [], ◌++◌, length, map, filter, option_copied, IfOk, OnOk};
 ghost use Rattle.dns_record.specs.Record.{record_octets};
-ghost use Rattle.dns_message.specs.Spelling.{records_octets, spelled};
+ghost use Rattle.dns_message.specs.Spelling.{records_octets};
+ghost use Rattle.reply_build.specs.Draft.{draft_of};
 ghost use Rattle.reply_build.specs.Reply as form;
 ghost use Rattle.reply_build.specs.Reply.{alias_record, local_record};
 
+use crate::draft::{Draft, opt_count};
 use crate::reply::{reply_header, server_failure, soa_slice};
 use crate::target::{ANY, alias_in, asks_alias, target_of};
 use action_codec::LocalRow;
@@ -76,17 +78,21 @@ fn local_answer(
     query: &Query,
     rows: &[LocalRow],
     soa: &Record,
-) -> Result<Octets, AllocError>
-    ensures { IfOk result (λ reply. reply ≡ spelled (form.local_answer query.now rows.now soa.now)) }
+) -> Result<Draft, AllocError>
+    ensures { IfOk result (λ draft. draft ≡ draft_of query.now (form.local_answer query.now rows.now soa.now)) }
 {
     let header = reply_header(false, 0, query);
     let qtype = query.question.qtype;
     let count = count_asked(qtype, rows);
     let mut out = Octets::with_capacity(alloc, 512)?;
-    write_start(&mut out, &header, Some(&query.question), count, 0, 1)?;
+    let additional = 1 + opt_count(query);
+    write_start(&mut out, &header, Some(&query.question), count, 0, additional)?;
     write_asked(&mut out, &query.question.name, qtype, rows)?;
     write_records(&mut out, slice::from_ref(soa))?;
-    Ok(out)
+    Ok(Draft {
+        header,
+        octets: out,
+    })
 }
 
 // Writes the alias of the name that was asked for at the end.
@@ -114,8 +120,8 @@ fn with_alias(
     answers: &[Record],
     authority: &[Record],
     soa: &Record,
-) -> Result<Octets, AllocError>
-    ensures { IfOk result (λ reply. reply ≡ spelled (form.reply_of rcode query.now (alias_record query.now ttl target.now ∷ answers.now) authority.now (soa.now ∷ []))) }
+) -> Result<Draft, AllocError>
+    ensures { IfOk result (λ draft. draft ≡ draft_of query.now (form.sections rcode (alias_record query.now ttl target.now ∷ answers.now) authority.now (soa.now ∷ []))) }
 {
     let header = reply_header(false, rcode, query);
     let count = answers.len() + 1;
@@ -126,16 +132,19 @@ fn with_alias(
         Some(&query.question),
         count,
         authority.len(),
-        1,
+        1 + opt_count(query),
     )?;
     write_alias(&mut out, query, ttl, target)?;
     write_records(&mut out, answers)?;
     write_records(&mut out, authority)?;
     write_records(&mut out, slice::from_ref(soa))?;
-    Ok(out)
+    Ok(Draft {
+        header,
+        octets: out,
+    })
 }
 
-// An alias, and what the server says of its target.
+// An alias, and what the upstream says of its target.
 fn followed(
     alloc: Global,
     query: &Query,
@@ -143,8 +152,8 @@ fn followed(
     target: &Name,
     soa: &Record,
     fact: Option<&Fact>,
-) -> Result<Octets, AllocError>
-    ensures { IfOk result (λ reply. reply ≡ spelled (form.followed query.now (alias_record query.now ttl target.now) soa.now (option_copied fact.entry))) }
+) -> Result<Draft, AllocError>
+    ensures { IfOk result (λ draft. draft ≡ draft_of query.now (form.followed (alias_record query.now ttl target.now) soa.now (option_copied fact.entry))) }
 {
     match fact {
         Some(Fact::Answer(answer)) => with_alias(
@@ -169,8 +178,8 @@ fn to_target(
     soa: &Record,
     facts: &Facts,
     target: Option<&Name>,
-) -> Result<Octets, AllocError>
-    ensures { IfOk result (λ reply. reply ≡ spelled (form.to_target query.now ttl soa.now facts.now (option_copied target.entry))) }
+) -> Result<Draft, AllocError>
+    ensures { IfOk result (λ draft. draft ≡ draft_of query.now (form.to_target query.now ttl soa.now facts.now (option_copied target.entry))) }
 {
     let Some(target) = target else {
         return server_failure(alloc, query);
@@ -190,8 +199,8 @@ pub fn local_reply(
     rows: &[LocalRow],
     soa: &Record,
     facts: &Facts,
-) -> Result<Octets, AllocError>
-    ensures { IfOk result (λ reply. reply ≡ spelled (form.local_reply query.now rows.now soa.now facts.now)) }
+) -> Result<Draft, AllocError>
+    ensures { IfOk result (λ draft. draft ≡ draft_of query.now (form.local_reply query.now rows.now soa.now facts.now)) }
 {
     match alias_in(rows) {
         None => local_answer(alloc, query, rows, soa),

@@ -1,10 +1,11 @@
 //! Replies of records that are at hand.
 
-ghost use Rattle.std.specs.Prelude.{◌≡◌, Some, None, option_copied, IfOk};
-ghost use Rattle.dns_message.specs.Spelling.{parts_octets, spelled};
+ghost use Rattle.std.specs.Prelude.{◌≡◌, option_copied, IfOk};
+ghost use Rattle.reply_build.specs.Draft.{draft_of};
 ghost use Rattle.reply_build.specs.Reply as form;
 
-use dns_message::{Header, Query, write_parts};
+use crate::draft::{Draft, opt_count};
+use dns_message::{Header, Query, write_records, write_start};
 use dns_name::Octets;
 use dns_record::Record;
 use std::alloc::{AllocError, Global};
@@ -27,62 +28,63 @@ pub fn reply_header(tc: bool, rcode: u8, query: &Query) -> Header
     }
 }
 
-// The reply of this header, the question as it came, and these records.
+// The reply of these sections, but for its OPT record.
 fn written(
     alloc: Global,
-    header: &Header,
+    tc: bool,
+    rcode: u8,
     query: &Query,
     answer: &[Record],
     authority: &[Record],
     additional: &[Record],
-) -> Result<Octets, AllocError>
-    ensures { IfOk result (λ reply. reply ≡ parts_octets 0 header.now (Some query.now.question) answer.now authority.now additional.now None) }
+) -> Result<Draft, AllocError>
+    ensures { IfOk result (λ draft. draft ≡ draft_of query.now (record { tc = tc; rcode = rcode; answer = answer.now; authority = authority.now; additional = additional.now })) }
 {
-    let mut out = Octets::with_capacity(alloc, 512)?;
-    write_parts(
-        &mut out,
-        header,
+    let header = reply_header(tc, rcode, query);
+    let mut octets = Octets::with_capacity(alloc, 512)?;
+    write_start(
+        &mut octets,
+        &header,
         Some(&query.question),
-        answer,
-        authority,
-        additional,
-        None,
+        answer.len(),
+        authority.len(),
+        additional.len() + opt_count(query),
     )?;
-    Ok(out)
+    write_records(&mut octets, answer)?;
+    write_records(&mut octets, authority)?;
+    write_records(&mut octets, additional)?;
+    Ok(Draft { header, octets })
 }
 
 /// There is no answer by the policy: the name doesn't exist (rcode 3), or has no records of the type (rcode 0).
-pub fn denial(alloc: Global, rcode: u8, query: &Query, soa: &Record) -> Result<Octets, AllocError>
-    ensures { IfOk result (λ reply. reply ≡ spelled (form.denial rcode query.now soa.now)) }
+pub fn denial(alloc: Global, rcode: u8, query: &Query, soa: &Record) -> Result<Draft, AllocError>
+    ensures { IfOk result (λ draft. draft ≡ draft_of query.now (form.denial rcode soa.now)) }
 {
-    let header = reply_header(false, rcode, query);
-    written(alloc, &header, query, &[], &[], slice::from_ref(soa))
+    written(alloc, false, rcode, query, &[], &[], slice::from_ref(soa))
 }
 
 /// The client is to ask again over TCP.
-pub fn truncation(alloc: Global, query: &Query) -> Result<Octets, AllocError>
-    ensures { IfOk result (λ reply. reply ≡ spelled (form.truncation query.now)) }
+pub fn truncation(alloc: Global, query: &Query) -> Result<Draft, AllocError>
+    ensures { IfOk result (λ draft. draft ≡ draft_of query.now form.truncation) }
 {
-    let header = reply_header(true, 0, query);
-    written(alloc, &header, query, &[], &[], &[])
+    written(alloc, true, 0, query, &[], &[], &[])
 }
 
 /// There is no answer.
-pub fn server_failure(alloc: Global, query: &Query) -> Result<Octets, AllocError>
-    ensures { IfOk result (λ reply. reply ≡ spelled (form.server_failure query.now)) }
+pub fn server_failure(alloc: Global, query: &Query) -> Result<Draft, AllocError>
+    ensures { IfOk result (λ draft. draft ≡ draft_of query.now form.server_failure) }
 {
-    let header = reply_header(false, 2, query);
-    written(alloc, &header, query, &[], &[], &[])
+    written(alloc, false, 2, query, &[], &[], &[])
 }
 
-// The answer of the server as it is.
-fn answered(alloc: Global, query: &Query, answer: &Answer) -> Result<Octets, AllocError>
-    ensures { IfOk result (λ reply. reply ≡ spelled (form.answered query.now answer.now)) }
+// The answer of the upstream as it is.
+fn answered(alloc: Global, query: &Query, answer: &Answer) -> Result<Draft, AllocError>
+    ensures { IfOk result (λ draft. draft ≡ draft_of query.now (form.answered answer.now)) }
 {
-    let header = reply_header(false, answer.rcode(), query);
     written(
         alloc,
-        &header,
+        false,
+        answer.rcode(),
         query,
         answer.answers(),
         soa_slice(answer),
@@ -100,9 +102,9 @@ pub fn soa_slice(answer: &Answer) -> &[Record]
     }
 }
 
-/// What the server says passes.
-pub fn passed(alloc: Global, query: &Query, fact: Option<&Fact>) -> Result<Octets, AllocError>
-    ensures { IfOk result (λ reply. reply ≡ spelled (form.passed query.now (option_copied fact.entry))) }
+/// What the upstream says passes.
+pub fn passed(alloc: Global, query: &Query, fact: Option<&Fact>) -> Result<Draft, AllocError>
+    ensures { IfOk result (λ draft. draft ≡ draft_of query.now (form.passed (option_copied fact.entry))) }
 {
     match fact {
         Some(Fact::Answer(answer)) => answered(alloc, query, answer),

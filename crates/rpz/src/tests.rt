@@ -12,7 +12,7 @@ const SCRIPT: &[u8] = b"query 0 udp 192.0.2.7 -\nquery 1 udp 192.0.2.7 abcd11000
 // Their outputs: lines of 9 and 33 bytes.
 const OUTPUT: &[u8] = b"silent 0\nreply 1 abcd91840000000000000000\n";
 
-fn replay_words(alloc: Global) -> Result<Vec<String>, AllocError> {
+pub fn replay_words(alloc: Global) -> Result<Vec<String>, AllocError> {
     let mut words = Vec::new(alloc);
     words.push(String::from_str(alloc, "replay")?)?;
     Ok(words)

@@ -1,8 +1,8 @@
 -- Runs of lines, one after another.
-use Rattle.std.proofs.Common.{◌≡◌, ℕ, ◌+◌, ◌<◌, ◌≤◌, List, [], ◌∷◌, ◌++◌, Ok, Err, Result, refl, sym, ◌∙◌, ap, append_assoc, length, nat_lt, true, false, arith}
+use Rattle.std.proofs.Common.{◌≡◌, ℕ, ◌+◌, ◌<◌, ◌≤◌, List, [], ◌∷◌, ◌++◌, Ok, Err, Result, refl, sym, ◌∙◌, ap, append_assoc, length, nat_lt, true, false, arith, ◌-◌, ◌^◌}
 use Rattle.std.specs.Prelude.{Bool, if◌then◌else◌}
 use Rattle.std.proofs.lemmas.Bool.Decides.{nat_tests}
-use Rattle.rpz_program.specs.Fold.{Ran, ran, ran_on, judged, unread}
+use Rattle.rpz_program.specs.Fold.{Ran, ran, ran_on, judged, numbered, unread}
 
 module _ {M W : Type 0} where
   -- what is output before goes before
@@ -61,3 +61,41 @@ module _ {M W : Type 0} (too_many too_long : W) (step : M → List ℕ → Resul
   -- a line that is too long is refused, first for its number
   pub judged-long : (old : ℕ × M) (line : List ℕ) → 200000 < length line → judged too_many too_long step old line ≡ Err (unread too_many too_long old.0)
   judged-long old line long = let test : nat_lt 200000 (length line) ≡ true = grind (arith, nat_tests) in rw test (unread-is (nat_lt 4294967295 old.0))
+
+  number_in : Result (ℕ × M) (ℕ × W) → ℕ
+  number_in (Ok state) = state.0
+  number_in (Err bad) = 0
+
+  next_number : Result ((ℕ × M) × List ℕ) W → ℕ
+  next_number (Ok next) = next.0.0
+  next_number (Err why) = 0
+
+  -- a line that is taken is one line
+  one-counts : (many long : Bool) (number : ℕ) (stepped : Result (M × List ℕ) W) (next : (ℕ × M) × List ℕ)
+      → (if many then Err too_many else (if long then Err too_long else numbered number stepped)) ≡ Ok next → next.0.0 ≡ number + 1
+  one-counts true long number stepped next is = absurd (cc)
+  one-counts false true number stepped next is = absurd (cc)
+  one-counts false false number (Ok x) next is = sym (ap next_number is)
+  one-counts false false number (Err why) next is = absurd (cc)
+
+  on-counts : (number : ℕ) (stepped : Result ((ℕ × M) × List ℕ) W) (lines : List (List ℕ)) (new : ℕ × M) (written : List ℕ)
+      → ((next : (ℕ × M) × List ℕ) → stepped ≡ Ok next → next.0.0 ≡ number + 1)
+      → ((old : ℕ × M) (w : List ℕ) → ran too_many too_long step old lines ≡ (w, Ok new) → new.0 ≡ old.0 + length lines)
+      → ran_on number stepped (λ next. ran too_many too_long step next lines) ≡ (written, Ok new) → new.0 ≡ number + (length lines + 1)
+  on-counts number (Ok next) lines new written one more is =
+      let w : List ℕ = (ran too_many too_long step next.0 lines).0 in
+      let end : ran too_many too_long step next.0 lines ≡ (w, Ok new) = ap (λ (v : Result (ℕ × M) (ℕ × W)). (w, v)) (ap (λ (r : Ran M W). r.1) is) in
+      omega (arith, one next refl, more next.0 w end)
+  on-counts number (Err why) lines new written one more is =
+      let refused : Result (ℕ × M) (ℕ × W) = Err (number, why) in
+      let clash : refused ≡ Ok new = ap (λ (r : Ran M W). r.1) is in
+      absurd (cc)
+
+  -- after a run of lines the number is higher by as many
+  pub ran-counts : (lines : List (List ℕ)) (old new : ℕ × M) (written : List ℕ) → ran too_many too_long step old lines ≡ (written, Ok new) → new.0 ≡ old.0 + length lines
+  ran-counts [] old new written is = omega (arith, ap number_in (ap (λ (r : Ran M W). r.1) is))
+  ran-counts (line ∷ lines) old new written is =
+      on-counts old.0 (judged too_many too_long step old line) lines new written
+        (λ next taken. one-counts (nat_lt (2 ^ 32 - 1) old.0) (nat_lt 200000 (length line)) old.0 (step old.1 line) next taken)
+        (λ from w ends. ran-counts lines from new w ends)
+        is

@@ -1,5 +1,5 @@
 -- How far a replay has come, and what it has done where it ends.
-use Rattle.std.proofs.Common.{◌≡◌, ◌≢◌, ℕ, ◌+◌, ◌<◌, List, [], ◌∷◌, ◌++◌, Option, Some, None, Ok, Err, Result, IfSome, take, drop, refl, sym, ◌∙◌, ap, subst, arith, append_assoc, length}
+use Rattle.std.proofs.Common.{◌≡◌, ◌≢◌, ℕ, ◌+◌, ◌<◌, ◌≤◌, inl, inr, List, [], ◌∷◌, ◌++◌, Option, Some, None, Ok, Err, Result, IfSome, take, drop, refl, sym, ◌∙◌, ap, subst, arith, append_assoc, length}
 use Rattle.std.specs.List.{AllByRecursion}
 use Rattle.std.proofs.lemmas.List.{append-nil, take-append-drop}
 use Rattle.std.proofs.lemmas.List.Elements.{recursion_from_All}
@@ -12,9 +12,9 @@ use Rattle.rpz_program.specs.declared.reader.ReadError.TheVariants.{ReadFault as
 use Rattle.rpz_program.specs.Reader.{Reads}
 use Rattle.rpz_program.specs.Lines.{NoFeed, lines_of, ended_lines}
 use Rattle.rpz_program.specs.Fold.{Ran, ran, judged, unread, transcript, verdict}
-use Rattle.rpz_program.specs.Replay.{IsPrefix, Moved, BeginsTranscript, Answers, Ends, Took, StopsAt}
+use Rattle.rpz_program.specs.Replay.{IsPrefix, Moved, BeginsTranscript, Answers, Ends, Took, TookPart, ReadsNoFurther, StopsAt}
 use Rattle.rpz_program.proofs.Lines.{Feedless, bytes_of, bytes_of-push, each-push, lines_of-ended, lines_of-one, lines_of-bytes_of, ended_lines-bytes_of, ended_lines-part, first_line}
-use Rattle.rpz_program.proofs.Folds.{after, ran-append, ran-refused, ran-taken, judged-long}
+use Rattle.rpz_program.proofs.Folds.{after, ran-append, ran-counts, ran-refused, ran-taken, judged-long}
 
 -- these lines were read, and answered
 pub record Progress {M W : Type 0} (too_many too_long : W) (step : M → List ℕ → Result (M × List ℕ) W) (first : M) (left_before left_now held_before held_now : Option (List ℕ)) (held : List ℕ) (here : ℕ × M) : Type 0 where
@@ -24,6 +24,16 @@ pub record Progress {M W : Type 0} (too_many too_long : W) (step : M → List �
   pub answered : ran too_many too_long step (1, first) lines ≡ (written, Ok here)
   pub from_source : left_before ≡ prepended (bytes_of lines ++ held) left_now
   pub to_sink : held_now ≡ appended held_before written
+
+bad_number : {W : Type 0} → Result (Unit {0}) (Stop W) → ℕ
+bad_number (Err (BadLine number why)) = number
+bad_number (Err ReadFault) = 0
+bad_number (Err WriteFault) = 0
+bad_number (Err OutOfMemory) = 0
+bad_number (Ok u) = 0
+
+bad_is : {W : Type 0} (number : ℕ) (other : W) (bad : ℕ) (why : W) → Err {A = Unit {0}} (BadLine number other) ≡ Err (BadLine bad why) → bad ≡ number
+bad_is {W} number other bad why is = sym (ap (λ (r : Result (Unit {0}) (Stop W)). bad_number r) is)
 
 if_some : {X : Type 0} (o : Option X) (P : X → Type 0) → ((x : X) → o ≡ Some x → P x) → IfSome o P
 if_some None P each = tt
@@ -140,14 +150,10 @@ module _ {M W : Type 0} {too_many too_long : W} {step : M → List ℕ → Resul
   runs_on : (x line written : List ℕ) (others : List (List ℕ)) (new : ℕ × M) → lines_of x ≡ line ∷ others → judged too_many too_long step here line ≡ Ok (new, written) → ran too_many too_long step here (lines_of x) ≡ after written (ran too_many too_long step new others)
   runs_on x line written others new first does = ap (λ (l : List (List ℕ)). ran too_many too_long step here l) first ∙ ran-taken too_many too_long step here new line written others does
 
-  -- whatever an answer did, what was written begins the transcript
-  pub answered_prefix : (result : Result (Unit {0}) (Stop W)) (line x : List ℕ) (others : List (List ℕ)) (new : M) (left held_after : Option (List ℕ)) → prepended held left_now ≡ prepended x left → lines_of x ≡ line ∷ others
-      → Answers too_many too_long step result here.0 here.1 line new held_now held_after → Moved left_before left held_before held_after (BeginsTranscript too_many too_long step first)
-  answered_prefix (Ok u) line x others new left held_after came one took =
-      begins x took.written left held_after came took.to_sink ((ran too_many too_long step (here.0 + 1, new) others).0, ap (λ (r : Ran M W). r.0) (runs_on x line took.written others (here.0 + 1, new) one took.does))
-  answered_prefix (Err (BadLine number why)) line x others new left held_after came one told = begins_same x left held_after came told.2
-  answered_prefix (Err ReadFault) line x others new left held_after came one told = absurd told
-  answered_prefix (Err WriteFault) line x others new left held_after came one took =
+  -- the first of what a line outputs was written
+  part_prefix : (line x : List ℕ) (others : List (List ℕ)) (left held_after : Option (List ℕ)) → prepended held left_now ≡ prepended x left → lines_of x ≡ line ∷ others
+      → TookPart too_many too_long step here line held_now held_after → Moved left_before left held_before held_after (BeginsTranscript too_many too_long step first)
+  part_prefix line x others left held_after came one took =
       let more : List ℕ = (ran too_many too_long step took.next others).0 in
       begins x (take took.count took.written) left held_after came took.to_sink (
         drop took.count took.written ++ more,
@@ -155,7 +161,17 @@ module _ {M W : Type 0} {too_many too_long : W} {step : M → List ℕ → Resul
             ∙ ap (λ (l : List ℕ). l ++ more) (sym (take-append-drop took.count took.written))
             ∙ append_assoc (take took.count took.written) (drop took.count took.written) more,
       )
-  answered_prefix (Err OutOfMemory) line x others new left held_after came one same = begins_same x left held_after came same
+
+  -- whatever an answer did, what was written begins the transcript
+  pub answered_prefix : (result : Result (Unit {0}) (Stop W)) (line x : List ℕ) (others : List (List ℕ)) (new : M) (left held_after : Option (List ℕ)) → prepended held left_now ≡ prepended x left → lines_of x ≡ line ∷ others
+      → Answers too_many too_long step result here.0 here.1 line new held_now held_after → Moved left_before left held_before held_after (BeginsTranscript too_many too_long step first)
+  answered_prefix (Ok u) line x others new left held_after came one took =
+      begins x took.written left held_after came took.to_sink ((ran too_many too_long step (here.0 + 1, new) others).0, ap (λ (r : Ran M W). r.0) (runs_on x line took.written others (here.0 + 1, new) one took.does))
+  answered_prefix (Err (BadLine number why)) line x others new left held_after came one told = begins_same x left held_after came told.2
+  answered_prefix (Err ReadFault) line x others new left held_after came one told = absurd told
+  answered_prefix (Err WriteFault) line x others new left held_after came one took = part_prefix line x others left held_after came one took
+  answered_prefix (Err OutOfMemory) line x others new left held_after came one (inl same) = begins_same x left held_after came same
+  answered_prefix (Err OutOfMemory) line x others new left held_after came one (inr took) = part_prefix line x others left held_after came one took
 
   -- the last line was answered, which has no line feed
   pub answered_last : (result : Result (Unit {0}) (Stop W)) (line : List ℕ) (new : M) (left held_after : Option (List ℕ)) → NoFeed line → line ≢ [] → prepended held left_now ≡ prepended line left → IsAtEnd left
@@ -208,6 +224,44 @@ module _ {M W : Type 0} {too_many too_long : W} {step : M → List ℕ → Resul
   pub stopped_prefix : (error : ReadError) (line held_next : List ℕ) (left : Option (List ℕ)) → Reads (Err error) (prepended held left_now) line held_next left → Moved left_before left held_before held_now (BeginsTranscript too_many too_long step first)
   stopped_prefix Fault line held_next left came = begins_same line left held_now came refl
   stopped_prefix Memory line held_next left came = begins_same (line ++ held_next) left held_now came refl
+
+  -- the line feeds of all that was read before a line end the lines before it
+  feeds_before : (line : List ℕ) → NoFeed line → length (ended_lines (bytes_of so.lines ++ line)) ≡ length so.lines
+  feeds_before line no_feed =
+      let none : ended_lines line ≡ [] = ended_lines-part line (recursion_from_All _ line no_feed) in
+      ap (λ (l : List (List ℕ)). length l) (ended_lines-bytes_of so.lines line so.each ∙ ap (λ (l : List (List ℕ)). so.lines ++ l) none ∙ append-nil so.lines)
+
+  -- what was read behind the line is a chunk
+  pub read_no_further : (line chunk : List ℕ) (left : Option (List ℕ)) → NoFeed line → length chunk ≤ 8192 → prepended held left_now ≡ prepended (line ++ chunk) left → ReadsNoFurther here.0 left_before left
+  read_no_further line chunk left no_feed fits came = record {
+    first = bytes_of so.lines ++ line;
+    chunk = chunk;
+    from_source = read_on (line ++ chunk) left came ∙ ap (λ (l : List ℕ). prepended l left) (sym (append_assoc (bytes_of so.lines) line chunk));
+    is_chunk = fits;
+    is_short = omega (arith, feeds_before line no_feed, ran-counts too_many too_long step so.lines (1, first) here so.written so.answered);
+  }
+
+  -- the line that an answer refuses
+  pub refused_no_further : (result : Result (Unit {0}) (Stop W)) (bad : ℕ) (why : W) (answered line chunk : List ℕ) (new : M) (left before after : Option (List ℕ)) → NoFeed line → length chunk ≤ 8192 → prepended held left_now ≡ prepended (line ++ chunk) left
+      → Answers too_many too_long step result here.0 here.1 answered new before after → result ≡ Err (BadLine bad why) → ReadsNoFurther bad left_before left
+  refused_no_further (Ok u) bad why answered line chunk new left before after no_feed fits came told is = absurd cc
+  refused_no_further (Err (BadLine number other)) bad why answered line chunk new left before after no_feed fits came told is =
+      let same : bad ≡ here.0 = bad_is number other bad why is ∙ told.0 in
+      subst (λ (n : ℕ). ReadsNoFurther n left_before left) (sym same) (read_no_further line chunk left no_feed fits came)
+  refused_no_further (Err ReadFault) bad why answered line chunk new left before after no_feed fits came told is = absurd cc
+  refused_no_further (Err WriteFault) bad why answered line chunk new left before after no_feed fits came told is = absurd cc
+  refused_no_further (Err OutOfMemory) bad why answered line chunk new left before after no_feed fits came told is = absurd cc
+
+  -- a line that is too long, or one too many
+  pub unread_no_further : (other : W) (bad : ℕ) (why : W) (line chunk : List ℕ) (left : Option (List ℕ)) → NoFeed line → length chunk ≤ 8192 → prepended held left_now ≡ prepended (line ++ chunk) left
+      → Err {A = Unit {0}} (BadLine here.0 other) ≡ Err (BadLine bad why) → ReadsNoFurther bad left_before left
+  unread_no_further other bad why line chunk left no_feed fits came is =
+      subst (λ (n : ℕ). ReadsNoFurther n left_before left) (sym (bad_is here.0 other bad why is)) (read_no_further line chunk left no_feed fits came)
+
+  -- no line is refused where none could be read
+  pub stopped_no_further : (error : ReadError) (stop : Stop W) (bad : ℕ) (why : W) (left : Option (List ℕ)) → StopsAt error stop → Err {A = Unit {0}} stop ≡ Err (BadLine bad why) → ReadsNoFurther bad left_before left
+  stopped_no_further Fault stop bad why left is told = absurd cc
+  stopped_no_further Memory stop bad why left is told = absurd cc
 
   -- nothing is left
   pub done : (line : List ℕ) (left : Option (List ℕ)) → line ≡ [] → prepended held left_now ≡ prepended line left → IsAtEnd left → Ends too_many too_long step (Ok tt) first here.1 left_before left held_before held_now

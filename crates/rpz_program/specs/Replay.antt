@@ -1,10 +1,11 @@
 -- What a replay reads, writes and answers.
-use Rattle.std.specs.Prelude.{◌≡◌, ℕ, ◌+◌, List, [], ◌++◌, Option, Some, Result, Ok, Err, take, IfSome, IsOkAnd, ⊤}
+use Rattle.std.specs.Prelude.{◌≡◌, ℕ, ◌+◌, ◌<◌, ◌≤◌, ◌⊎◌, List, [], ◌++◌, Option, Some, Result, Ok, Err, take, length, IfSome, IsOkAnd, ⊤}
 use Rattle.edge_io.specs.Edge.{prepended, appended}
 use Rattle.rpz_program.specs.declared.script.AnswerError.{AnswerError}
 use Rattle.rpz_program.specs.declared.script.AnswerError.TheVariants.{Refused, OutOfMemory as NoMemory}
 use Rattle.rpz_program.specs.declared.reader.ReadError.{ReadError}
 use Rattle.rpz_program.specs.declared.reader.ReadError.TheVariants.{ReadFault as Fault, OutOfMemory as Memory}
+use Rattle.rpz_program.specs.declared.reader.TheConstants.{CHUNK}
 use Rattle.rpz_program.specs.declared.script.Stop.{Stop}
 use Rattle.rpz_program.specs.declared.script.Stop.TheVariants.{BadLine, ReadFault, WriteFault, OutOfMemory}
 use Rattle.rpz_program.specs.Lines.{ended_lines}
@@ -27,6 +28,15 @@ pub record Moved (left_before left_after held_before held_after : Option (List �
   pub from_source : left_before ≡ prepended read left_after
   pub to_sink : held_after ≡ appended held_before written
   pub have : P read written
+
+-- No more of the source was read than the chunk in which the line ends: what was read is, but for a chunk at its end,
+-- too short to have the line feed of this line.
+pub record ReadsNoFurther (line : ℕ) (left_before left_after : Option (List ℕ)) : Type 0 where
+  pub first : List ℕ
+  pub chunk : List ℕ
+  pub from_source : left_before ≡ prepended (first ++ chunk) left_after
+  pub is_chunk : length chunk ≤ CHUNK
+  pub is_short : length (ended_lines first) < line
 
 -- the fault that the error tells has happened
 abbrev pub Blames : {W : Type 0} → Stop W → Type 0 → Type 0 → Type 0
@@ -67,7 +77,7 @@ module _ {M W : Type 0} (too_many too_long : W) (step : M → List ℕ → Resul
   Answers (Ok u) number old line new before after = Took (number, old) line (number + 1, new) before after
   Answers (Err (BadLine bad why)) number old line new before after = (bad ≡ number) × (judged too_many too_long step (number, old) line ≡ Err why) × (after ≡ before)
   Answers (Err WriteFault) number old line new before after = TookPart (number, old) line before after
-  Answers (Err OutOfMemory) number old line new before after = after ≡ before
+  Answers (Err OutOfMemory) number old line new before after = (after ≡ before) ⊎ TookPart (number, old) line before after
   Answers (Err ReadFault) number old line new before after = ⊥
 
   -- each line whose line feed was read is answered, and none is refused

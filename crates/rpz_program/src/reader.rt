@@ -141,6 +141,8 @@ impl LineReader {
         ensures fault { IfErr result (λ stop. BlamesSource stop
             (Rose (S.faults source.old) (S.faults source.new))) }
         ensures no_feed { NoFeed line.new.items }
+        ensures chunk { length self.new ≤ CHUNK }
+        ensures feed { result ≡ Ok Next.Whole → length self.new < CHUNK }
         ensures count { S.faults source.old ≤ S.faults source.new }
     {
         line.clear();

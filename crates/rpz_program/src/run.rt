@@ -1,8 +1,8 @@
 //! A whole run.
 
-ghost use Rattle.std.specs.Prelude.{◌≡◌, ◌≢◌, ◌↔◌, ◌+◌, ◌-◌, ◌≤◌, ◌^◌, ℕ, [], Some, Err, IfErr, IfOk, IfSome, IsTrue};
+ghost use Rattle.std.specs.Prelude.{◌≡◌, ◌≢◌, ◌↔◌, ◌+◌, ◌-◌, ◌≤◌, ◌^◌, ℕ, [], Some, Err, IfErr, IfOk, IfSome, IsOk, IsTrue};
 ghost use Rattle.edge_io.specs.Edge.{appended, Rose};
-ghost use Rattle.rpz_program.specs.Replay.{Blames, Moved};
+ghost use Rattle.rpz_program.specs.Replay.{Blames, Moved, ReadsNoFurther};
 ghost use Rattle.rpz_program.specs.Run.{AnswersEnded, BeginsTranscript, Ends, IsFirstBadLine, IsReplay, IsVerdict, IsWholeScript};
 ghost use Rattle.rpz_program.specs.World.{transcript, verdict};
 
@@ -35,6 +35,10 @@ pub fn run<S: Source, K: Sink>(
     // The line is the first that is refused, and the transcript up to it was written.
     ensures bad_line { (line : ℕ) (why : _) → result ≡ Status.BadLine line why → IfSome (S.left script.old) (λ bytes.
         IsFirstBadLine bytes line why (K.held out.old) (K.held out.new)) }
+
+    // No more was read than the chunk of 8,192 bytes in which that line ends.
+    ensures no_further { (line : ℕ) (why : _) → result ≡ Status.BadLine line why →
+        ReadsNoFurther line (S.left script.old) (S.left script.new) }
 
     // After a fault of the source, each line whose line feed was read is answered.
     ensures read_fault { result ≡ Status.ReadFault → Moved (S.left script.old) (S.left script.new) (K.held out.old) (K.held out.new) AnswersEnded }
@@ -78,6 +82,8 @@ fn replay_script<S: Source, K: Sink>(
     out: &mut K,
 ) -> Result<(), Stop<Why>>
     ensures ends { Ends result (S.left script.old) (S.left script.new) (K.held out.old) (K.held out.new) }
+    ensures no_further { (line : ℕ) (why : Why) → result ≡ Err (Stop.BadLine line why) →
+        ReadsNoFurther line (S.left script.old) (S.left script.new) }
     ensures prefix { Moved (S.left script.old) (S.left script.new) (K.held out.old) (K.held out.new) BeginsTranscript }
     ensures fault { IfErr result (λ stop. Blames stop (Rose (S.faults script.old) (S.faults script.new)) (Rose (K.faults out.old) (K.faults out.new))) }
 {
@@ -87,9 +93,9 @@ fn replay_script<S: Source, K: Sink>(
     }
 }
 
-/// The transcript of a script in memory, if each of its lines is of the form.
+/// The transcript of a script in memory, if no line of it is refused.
 pub fn replayed(alloc: Global, script: Vec<u8>) -> Result<Vec<u8>, Status>
-    ensures ok { IfOk result (λ out. out.items ≡ transcript script.items) }
+    ensures ok { IfOk result (λ out. IsOk (verdict script.items) × (out.items ≡ transcript script.items)) }
     ensures bad_line { (line : ℕ) (why : _) → result ≡ Err (Status.BadLine line why) → verdict script.items ≡ Err (line, why) }
     ensures read_fault { result ≢ Err Status.ReadFault }
     ensures not_done { result ≢ Err Status.Done }

@@ -3,10 +3,10 @@ ghost use Rattle.std.specs.Prelude.{◌≡◌, ◌+◌, ◌-◌, ◌<◌, ◌≤
 ghost use Rattle.edge_io.specs.Edge.{Rose};
 ghost use Rattle.rpz_program.specs.declared.script.AnswerError.TheVariants.{OutOfMemory as NoMemory};
 ghost use Rattle.rpz_program.specs.Fold.{unread};
-ghost use Rattle.rpz_program.specs.Replay.{Steps, Moved, Answers, AnswersEnded, BeginsTranscript, Ends, Blames, BlamesSink, StopsAt};
+ghost use Rattle.rpz_program.specs.Replay.{Steps, Moved, Answers, AnswersEnded, BeginsTranscript, Ends, Blames, BlamesSink, ReadsNoFurther, StopsAt};
 
 use crate::reader::{LONGEST, LineReader, Next, ReadError};
-use edge_io::{Sink, Source, write_all};
+use edge_io::{Sink, SinkError, Source, write_all};
 use std::alloc::{AllocError, AllocFailed, Global};
 
 /// A script has at most this many lines. Line 1 is the first.
@@ -80,7 +80,7 @@ pub enum Stop<W> {
     ReadFault,
     /// A write of the output has failed.
     WriteFault,
-    /// There is no memory for a line or its answer.
+    /// There is no memory for a line or its answer, or no room for it in the sink.
     OutOfMemory,
 }
 
@@ -112,6 +112,10 @@ pub fn replay<M: Machine, S: Source, K: Sink>(
     // What it reads and writes, by how it ends.
     ensures ends { Ends M.too_many M.too_long M.step result machine.old machine.new
         (S.left script.old) (S.left script.new) (K.held out.old) (K.held out.new) }
+
+    // Where a line is refused, no more was read than the chunk in which it ends.
+    ensures no_further { (line : ℕ) (why : M.Why) → result ≡ Err (Stop.BadLine line why) →
+        ReadsNoFurther line (S.left script.old) (S.left script.new) }
 
     // However it ends, what was written begins the transcript of what was read.
     ensures prefix { Moved (S.left script.old) (S.left script.new) (K.held out.old) (K.held out.new)
@@ -162,7 +166,8 @@ fn answer<M: Machine, K: Sink>(
     match machine.answer(alloc, line, reply) {
         Ok(()) => match write_all(out, reply) {
             Ok(()) => Ok(()),
-            Err(_) => Err(Stop::WriteFault),
+            Err(SinkError::WriteFault) => Err(Stop::WriteFault),
+            Err(SinkError::OutOfMemory) => Err(Stop::OutOfMemory),
         },
         Err(AnswerError::Refused(why)) => Err(Stop::BadLine { line: number, why }),
         Err(AnswerError::OutOfMemory) => Err(Stop::OutOfMemory),

@@ -1,6 +1,6 @@
 //! What is known of several questions.
 
-ghost use Rattle.std.specs.Prelude.{◌≡◌, [], ◌∷◌, ◌++◌, option_copied, OnOk, OnErr};
+ghost use Rattle.std.specs.Prelude.{◌≡◌, [], ◌∷◌, ◌++◌, option_copied, OnOk, IfErr};
 ghost use Rattle.std.specs.List.{find};
 ghost use Rattle.upstream_link.specs.Fact as form;
 ghost use Rattle.upstream_link.specs.Facts.{known};
@@ -10,7 +10,7 @@ use crate::fact::Fact;
 use dns_message::Question;
 use dns_name::Name;
 use dns_record::class;
-use std::alloc::{AllocError, Global};
+use std::alloc::{AllocFailed, Global};
 use std::marker::Model;
 
 /// What is known: facts, each beside the question that it answers. Contracts see their list, in the order in which
@@ -38,13 +38,18 @@ impl Facts {
         }
     }
 
-    /// Puts a fact behind the others. An `Err` leaves them as they were, and drops the fact.
-    pub fn push(&mut self, question: Question, fact: Fact) -> Result<(), AllocError>
+    /// Puts a fact behind the others. An `Err` leaves them as they were, gives the question back and drops the fact.
+    pub fn push(&mut self, question: Question, fact: Fact) -> Result<(), AllocFailed<Question>>
         ensures ok { OnOk result (self.new ≡ self.old ++ (question, fact) ∷ []) }
-        ensures err { OnErr result (self.new ≡ self.old) }
+        ensures err { IfErr result (λ refused. (refused.value ≡ question) × (self.new ≡ self.old)) }
     {
-        self.facts.push((question, fact))?;
-        Ok(())
+        match self.facts.push((question, fact)) {
+            Ok(()) => Ok(()),
+            Err(refused) => {
+                let (question, _dropped) = refused.value;
+                Err(AllocFailed { value: question })
+            }
+        }
     }
 
     /// What is known of the question of this name and type in class IN, capitals of ASCII counting as small letters in

@@ -3,7 +3,7 @@ use Rattle.std.proofs.lemmas.Grind.{common_steps}
 use Rattle.std.proofs.lemmas.Result.{err_from_is_err_and}
 use Rattle.std.proofs.lemmas.List.Elements.{recursion_from_All}
 use Rattle.rpz_program.proofs.Lines.{lines_of-ended, lines_of-one}
-use Rattle.rpz_program.proofs.Steps.{started, stopped_reading, stopped_prefix, cut_short, done, begins_same, answered_last, answered_prefix, answered_whole, goes_on}
+use Rattle.rpz_program.proofs.Steps.{started, stopped_reading, stopped_no_further, stopped_prefix, cut_short, unread_no_further, done, begins_same, answered_last, answered_prefix, answered_whole, goes_on, refused_no_further}
 use Rattle.rpz_program.proofs.script.replay.Goals as goal
 
 pub loop-reply-init : goal.loop-reply-init
@@ -84,3 +84,25 @@ returns-in_err-answer-in-Whole-clause-prefix g c =
     let answers = rw c.deref-in-Whole.ensures.value at c.answer-in-Whole.ensures.answers in
     let first = lines_of-ended c.next.new.line.items c.next.new.self (recursion_from_All _ c.next.new.line.items c.in_ok-next.ensures.no_feed) in
     answered_prefix c.loop-reply.invariant.so_far c.answer-in-Whole.result c.next.new.line.items _ _ c.answer-in-Whole.new.machine _ _ reads first answers
+
+pub returns-in_err-next-clause-no_further : goal.returns-in_err-next-clause-no_further
+returns-in_err-next-clause-no_further g c = λ line why told.
+    let p = err_from_is_err_and c.from_residual.result c.from_residual.ensures.1 in
+    stopped_no_further c.loop-reply.invariant.so_far c.in_err-next.field-0.0 p.0 line why _ p.2 (rw p.1 at told)
+
+pub returns-in-Cut-clause-no_further : goal.returns-in-Cut-clause-no_further
+returns-in-Cut-clause-no_further g c = λ line why told.
+    let reads = rw c.in-Cut.is at c.in_ok-next.ensures.reads in
+    unread_no_further c.loop-reply.invariant.so_far _ line why c.next.new.line.items c.next.new.self _ c.in_ok-next.ensures.no_feed c.in_ok-next.ensures.chunk reads.0 (rw c.refused_unread.ensures at told)
+
+pub returns-in-Last-2-clause-no_further : goal.returns-in-Last-2-clause-no_further
+returns-in-Last-2-clause-no_further g c = λ line why told.
+    let reads = rw c.in-Last-2.is at c.in_ok-next.ensures.reads in
+    let came = reads.0 ∙ ap (λ (l : List ℕ). prepended l (g.S.Source.left c.next.new.script)) (sym (append-nil c.next.new.line.items)) in
+    refused_no_further c.loop-reply.invariant.so_far c.answer.result line why _ c.next.new.line.items [] c.answer.new.machine _ _ _ c.in_ok-next.ensures.no_feed (omega arith) came c.answer.ensures.answers told
+
+pub returns-in_err-answer-in-Whole-clause-no_further : goal.returns-in_err-answer-in-Whole-clause-no_further
+returns-in_err-answer-in-Whole-clause-no_further g c = λ line why told.
+    let p = err_from_is_err_and c.from_residual-in_err-answer-in-Whole.result c.from_residual-in_err-answer-in-Whole.ensures.1 in
+    let reads = rw c.in-Whole.is at c.in_ok-next.ensures.reads in
+    refused_no_further c.loop-reply.invariant.so_far c.answer-in-Whole.result line why _ c.next.new.line.items (10 ∷ c.next.new.self) c.answer-in-Whole.new.machine _ _ _ c.in_ok-next.ensures.no_feed (omega arith) reads c.answer-in-Whole.ensures.answers ?
