@@ -4,8 +4,8 @@ use Rattle.dns_message.specs.declared.question.Question.{Question}
 use Rattle.dns_message.specs.declared.request.Incoming.{Incoming}
 use Rattle.dns_message.specs.declared.request.Incoming.TheVariants.{Silent, Refuse, Query as Asks}
 use Rattle.dns_message.specs.declared.request.Query.{Query}
-use Rattle.dns_message.specs.declared.limit.TheConstants.{MIN_LIMIT}
-use Rattle.dns_message.specs.Limit.{limit_of, spelled_within}
+use Rattle.dns_message.specs.declared.limit.TheConstants.{LEAST_LIMIT}
+use Rattle.dns_message.specs.Limit.{reply_limit, spelled_within}
 use Rattle.upstream_link.specs.declared.fact.Fact.{Fact}
 use Rattle.upstream_link.specs.Facts.{PlainFacts}
 use Rattle.upstream_link.specs.Question.{main_question}
@@ -21,7 +21,7 @@ use Rattle.query_session.specs.Talk.{Talk}
 
 -- what is decided is said, once all is known that the reply needs
 abbrev pub unless_missing : Query → PlainVerdict → PlainFacts → Option Question → Turn
-unless_missing query verdict facts None = Said (reply (limit_of query) query verdict facts)
+unless_missing query verdict facts None = Said (reply (reply_limit query) query verdict facts)
 unless_missing query verdict facts (Some question) = Ask question
 
 abbrev pub verdict_turn : Query → PlainFacts → Option PlainVerdict → Turn
@@ -31,7 +31,7 @@ verdict_turn query facts (Some verdict) = unless_missing query verdict facts (mi
 -- What is done at this point. A refusal has at most the question and the OPT record, and keeps to the least limit.
 abbrev pub turn_by : PlainPolicy → Incoming → PlainFacts → Turn
 turn_by policy Silent facts = Said said.Silent
-turn_by policy (Refuse message) facts = Said (said.Reply (spelled_within MIN_LIMIT message))
+turn_by policy (Refuse message) facts = Said (said.Reply (spelled_within LEAST_LIMIT message))
 turn_by policy (Asks query) facts = verdict_turn query facts (decided query facts policy)
 
 abbrev pub turn_of : Talk → Turn

@@ -7,7 +7,7 @@ ghost use Rattle.query_session.specs.Seen.{verdict_seen};
 ghost use Rattle.query_session.specs.Session.{asked_in as asks, begun, given, turn_of, turned, verdict_turn};
 
 use crate::policy::Policy;
-use dns_message::{Incoming, MIN_LIMIT, Query, Question, classify, reply_limit, write_message};
+use dns_message::{Incoming, LEAST_LIMIT, Query, Question, classify, reply_limit, write_message};
 use ip_prefix::{Addr, Transport};
 use reply_build::{Said, Verdict, build, missing};
 use std::alloc::{AllocError, Global};
@@ -72,7 +72,7 @@ impl Session {
         match &self.incoming {
             Incoming::Silent => Ok(Turn::Said(Said::Silent)),
             Incoming::Refuse(message) => {
-                let reply = write_message(self.alloc, message, MIN_LIMIT)?;
+                let reply = write_message(self.alloc, message, LEAST_LIMIT)?;
                 Ok(Turn::Said(Said::Reply(reply)))
             }
             Incoming::Query(query) => turn_about(self.alloc, &self.policy, query, &self.facts),

@@ -6,7 +6,7 @@ use Rattle.dns_record.specs.Record.{PlainRecord, record_octets}
 use Rattle.dns_message.specs.declared.header.Header.{Header}
 use Rattle.dns_message.specs.declared.question.Question.{Question}
 use Rattle.dns_message.specs.declared.request.Query.{Query}
-use Rattle.dns_message.specs.Limit.{spelled_within, truncated_octets, within_limit}
+use Rattle.dns_message.specs.Limit.{octets_within, spelled_within}
 use Rattle.dns_message.specs.Request.{reply_edns}
 use Rattle.dns_message.specs.Spelling.{start_octets, records_octets, opt_count, opt_octets, parts_octets, spelled}
 use Rattle.action_codec.specs.Local.{PlainLocal}
@@ -68,12 +68,12 @@ unfolding start_octets parts_octets
 whole_reply query s = refl
 
 pub finished : (limit : ℕ) (query : Query) (s : Sections) (draft : Draft) (out : List ℕ) → draft ≡ draft_of query s
-    → out ≡ within_limit limit (draft.octets ++ opt_octets (reply_edns 0 query.edns)) (truncated_octets draft.header (Some query.question) (reply_edns 0 query.edns))
+    → out ≡ octets_within limit (draft.octets ++ opt_octets (reply_edns 0 query.edns)) draft.header (Some query.question) (reply_edns 0 query.edns)
     → out ≡ spelled_within limit (reply_of query s)
 finished limit query s draft out is e =
     e
-    ∙ ap (λ (d : Draft). within_limit limit (d.octets ++ opt_octets (reply_edns 0 query.edns)) (truncated_octets d.header (Some query.question) (reply_edns 0 query.edns))) is
-    ∙ ap (λ (l : List ℕ). within_limit limit l (truncated_octets (reply_header s.tc s.rcode query) (Some query.question) (reply_edns 0 query.edns))) (whole_reply query s)
+    ∙ ap (λ (d : Draft). octets_within limit (d.octets ++ opt_octets (reply_edns 0 query.edns)) d.header (Some query.question) (reply_edns 0 query.edns)) is
+    ∙ ap (λ (l : List ℕ). octets_within limit l (reply_header s.tc s.rcode query) (Some query.question) (reply_edns 0 query.edns)) (whole_reply query s)
 
 draft_in : Draft → Option Draft → Draft
 draft_in other None = other

@@ -12,7 +12,7 @@ use crate::reply::{denial, passed, truncation};
 use crate::said::Said;
 use crate::verdict::Verdict;
 use action_codec::Action;
-use dns_message::{MAX_LIMIT, MIN_LIMIT, Query};
+use dns_message::{GREATEST_LIMIT, LEAST_LIMIT, Query};
 use dns_record::Record;
 use std::alloc::{AllocError, Global};
 use upstream_link::Facts;
@@ -27,8 +27,8 @@ pub fn build(
     facts: &Facts,
     limit: usize,
 ) -> Result<Said, AllocError>
-    requires low { MIN_LIMIT ≤ limit }
-    requires high { limit ≤ MAX_LIMIT }
+    requires low { LEAST_LIMIT ≤ limit }
+    requires high { limit ≤ GREATEST_LIMIT }
     ensures { IfOk result (λ said. said ≡ reply limit query.now (verdict_of verdict.entry) facts.now) }
 {
     match draft(alloc, query, verdict, facts)? {

@@ -7,7 +7,7 @@ ghost use Rattle.dns_message.specs.Spelling.{opt_count as count_of_opt};
 ghost use Rattle.reply_build.specs.Draft.{draft_of};
 ghost use Rattle.reply_build.specs.Reply.{Sections, reply_of};
 
-use dns_message::{Header, MAX_LIMIT, MIN_LIMIT, Query, finish_message, reply_edns};
+use dns_message::{Header, GREATEST_LIMIT, LEAST_LIMIT, Query, finish_message, reply_edns};
 use dns_name::Octets;
 use std::alloc::AllocError;
 
@@ -31,14 +31,14 @@ pub fn opt_count(query: &Query) -> usize
 /// The reply, or its truncated form where it is longer than the limit.
 #[tactic(auto, using(crate::proofs::Pieces::finished))]
 pub fn finish(draft: Draft, query: &Query, limit: usize) -> Result<Octets, AllocError>
-    requires low { MIN_LIMIT ≤ limit }
-    requires high { limit ≤ MAX_LIMIT }
+    requires low { LEAST_LIMIT ≤ limit }
+    requires high { limit ≤ GREATEST_LIMIT }
     ensures { (s : Sections) → draft ≡ draft_of query.now s →
         IfOk result (λ reply. reply ≡ spelled_within limit (reply_of query.now s)) }
 {
     let Draft { header, octets } = draft;
     let mut reply = octets;
     let edns = reply_edns(0, query.edns.as_ref());
-    finish_message(&mut reply, &header, Some(&query.question), edns.as_ref(), limit)?;
+    finish_message(&mut reply, limit, &header, Some(&query.question), edns.as_ref())?;
     Ok(reply)
 }
