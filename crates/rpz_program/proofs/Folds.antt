@@ -2,6 +2,7 @@
 use Rattle.std.proofs.Common.{◌≡◌, ℕ, ◌+◌, ◌<◌, ◌≤◌, List, [], ◌∷◌, ◌++◌, Ok, Err, Result, refl, sym, ◌∙◌, ap, append_assoc, length, nat_lt, true, false, arith, ◌-◌, ◌^◌}
 use Rattle.std.specs.Prelude.{Bool, if◌then◌else◌}
 use Rattle.std.proofs.lemmas.Bool.Decides.{nat_tests}
+use Rattle.script_codec.specs.declared.line_reading.TheConstants.{LINE_BYTES, LINES}
 use Rattle.rpz_program.specs.Fold.{Ran, ran, ran_on, judged, numbered, unread}
 
 module _ {M W : Type 0} where
@@ -51,7 +52,7 @@ module _ {M W : Type 0} (too_many too_long : W) (step : M → List ℕ → Resul
   pub judged-taken : (number : ℕ) (old new : M) (line written : List ℕ) → number ≤ 4294967295 → length line ≤ 200000 → step old line ≡ Ok (new, written) → judged too_many too_long step (number, old) line ≡ Ok ((number + 1, new), written)
   judged-taken number old new line written few short is =
       let not_many : nat_lt 4294967295 number ≡ false = grind (arith, nat_tests) in
-      let not_long : nat_lt 200000 (length line) ≡ false = grind (arith, nat_tests) in
+      let not_long : nat_lt LINE_BYTES (length line) ≡ false = grind (arith, nat_tests) in
       rw (not_many, not_long, is) refl
 
   unread-is : (many : Bool) → (if many then Err too_many else Err too_long) ≡ refused {M = M} (if many then too_many else too_long)
@@ -60,7 +61,7 @@ module _ {M W : Type 0} (too_many too_long : W) (step : M → List ℕ → Resul
 
   -- a line that is too long is refused, first for its number
   pub judged-long : (old : ℕ × M) (line : List ℕ) → 200000 < length line → judged too_many too_long step old line ≡ Err (unread too_many too_long old.0)
-  judged-long old line long = let test : nat_lt 200000 (length line) ≡ true = grind (arith, nat_tests) in rw test (unread-is (nat_lt 4294967295 old.0))
+  judged-long old line long = let test : nat_lt LINE_BYTES (length line) ≡ true = grind (arith, nat_tests) in rw test (unread-is (nat_lt 4294967295 old.0))
 
   number_in : Result (ℕ × M) (ℕ × W) → ℕ
   number_in (Ok state) = state.0
@@ -96,6 +97,6 @@ module _ {M W : Type 0} (too_many too_long : W) (step : M → List ℕ → Resul
   ran-counts [] old new written is = omega (arith, ap number_in (ap (λ (r : Ran M W). r.1) is))
   ran-counts (line ∷ lines) old new written is =
       on-counts old.0 (judged too_many too_long step old line) lines new written
-        (λ next taken. one-counts (nat_lt (2 ^ 32 - 1) old.0) (nat_lt 200000 (length line)) old.0 (step old.1 line) next taken)
+        (λ next taken. one-counts (nat_lt LINES old.0) (nat_lt LINE_BYTES (length line)) old.0 (step old.1 line) next taken)
         (λ from w ends. ran-counts lines from new w ends)
         is

@@ -1,5 +1,6 @@
 -- What the lines of a script do to a machine, one after another.
 use Rattle.std.specs.Prelude.{ℕ, ◌+◌, ◌-◌, ◌^◌, List, [], ◌∷◌, ◌++◌, if◌then◌else◌, nat_lt, Result, Ok, Err, length}
+use Rattle.script_codec.specs.declared.line_reading.TheConstants.{LINE_BYTES, LINES}
 use Rattle.rpz_program.specs.Lines.{lines_of}
 
 -- the state is the number of the next line, and the machine
@@ -18,15 +19,15 @@ ran_on number (Err why) more = ([], Err (number, why))
 
 -- why a line that is too long is refused: its number comes first
 abbrev pub unread : {W : Type 0} → W → W → ℕ → W
-unread too_many too_long number = if nat_lt (2 ^ 32 - 1) number then too_many else too_long
+unread too_many too_long number = if nat_lt LINES number then too_many else too_long
 
 -- The machine names why a line is refused whatever it says: there are too many lines, or it is too long.
 module _ {M W : Type 0} (too_many too_long : W) (step : M → List ℕ → Result (M × List ℕ) W) where
   -- the state after a line, and what it outputs
   abbrev pub judged : ℕ × M → List ℕ → Result ((ℕ × M) × List ℕ) W
   judged old line =
-      if nat_lt (2 ^ 32 - 1) old.0 then Err too_many
-      else (if nat_lt 200000 (length line) then Err too_long
+      if nat_lt LINES old.0 then Err too_many
+      else (if nat_lt LINE_BYTES (length line) then Err too_long
       else numbered old.0 (step old.1 line))
 
   abbrev pub ran : ℕ × M → List (List ℕ) → Ran M W

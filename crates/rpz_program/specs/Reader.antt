@@ -5,6 +5,7 @@ use Rattle.rpz_program.specs.declared.reader.Next.{Next}
 use Rattle.rpz_program.specs.declared.reader.Next.TheVariants.{Whole, Last, Cut}
 use Rattle.rpz_program.specs.declared.reader.ReadError.{ReadError}
 use Rattle.rpz_program.specs.declared.reader.ReadError.TheVariants.{ReadFault, OutOfMemory}
+use Rattle.script_codec.specs.declared.line_reading.TheConstants.{LINE_BYTES}
 use Rattle.rpz_program.specs.Lines.{NoFeed}
 
 -- the held bytes begin with the rest of a line and its line feed, which went to the line
@@ -24,7 +25,7 @@ pub record TakesAll (held line held_after line_after : List ℕ) : Type 0 where
 abbrev pub Reads : Result Next ReadError → Option (List ℕ) → List ℕ → List ℕ → Option (List ℕ) → Type 0
 Reads (Ok Whole) before line held left = before ≡ prepended (line ++ 10 ∷ held) left
 Reads (Ok Last) before line held left = (before ≡ prepended line left) × IsAtEnd left
-Reads (Ok Cut) before line held left = (before ≡ prepended (line ++ held) left) × (200000 < length line)
+Reads (Ok Cut) before line held left = (before ≡ prepended (line ++ held) left) × (LINE_BYTES < length line)
 Reads (Err ReadFault) before line held left = before ≡ prepended line left
 Reads (Err OutOfMemory) before line held left = before ≡ prepended (line ++ held) left
 

@@ -6,11 +6,9 @@ ghost use Rattle.rpz_program.specs.Lines.{NoFeed};
 ghost use Rattle.rpz_program.specs.Reader.{TakesLine, TakesAll, Reads, BlamesSource};
 
 use edge_io::{Failed, Source};
+use script_codec::LINE_BYTES;
 use std::alloc::AllocError;
 use std::marker::Model;
-
-/// A line has at most this many bytes, without its line feed.
-pub const LONGEST: usize = 200_000;
 
 // A read takes at most this many bytes.
 const CHUNK: usize = 8192;
@@ -146,7 +144,7 @@ impl LineReader {
         ensures count { S.faults source.old ≤ S.faults source.new }
     {
         line.clear();
-        while line.len() <= LONGEST {
+        while line.len() <= LINE_BYTES {
             if self.is_empty() && !self.refill(source)? {
                 return Ok(Next::Last);
             }

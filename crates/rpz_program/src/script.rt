@@ -5,12 +5,10 @@ ghost use Rattle.rpz_program.specs.declared.script.AnswerError.TheVariants.{OutO
 ghost use Rattle.rpz_program.specs.Fold.{unread};
 ghost use Rattle.rpz_program.specs.Replay.{Steps, Moved, Answers, AnswersEnded, BeginsTranscript, Ends, Blames, BlamesSink, ReadsNoFurther, StopsAt};
 
-use crate::reader::{LONGEST, LineReader, Next, ReadError};
+use crate::reader::{LineReader, Next, ReadError};
 use edge_io::{Sink, SinkError, Source, write_all};
+use script_codec::{LINE_BYTES, LINES};
 use std::alloc::{AllocError, AllocFailed, Global};
-
-/// A script has at most this many lines. Line 1 is the first.
-pub const LINES: u64 = 4_294_967_295;
 
 /// Why a line has no answer.
 #[derive(Clone, Copy, Debug, PartialEq, Eq)]
@@ -159,7 +157,7 @@ fn answer<M: Machine, K: Sink>(
     ensures count { K.faults out.old ≤ K.faults out.new }
     ensures more { OnOk result (number < 2 ^ 32) }
 {
-    if number > LINES || line.len() > LONGEST {
+    if number > LINES || line.len() > LINE_BYTES {
         return Err(refused_unread::<M>(number));
     }
     reply.clear();

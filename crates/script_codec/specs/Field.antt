@@ -10,6 +10,7 @@ use Rattle.ip_prefix.specs.declared.Addr.{Addr}
 use Rattle.ip_prefix.specs.declared.Addr.TheVariants as addr
 use Rattle.ip_prefix.specs.declared.Transport.{Transport}
 use Rattle.ip_prefix.specs.declared.Transport.TheVariants as transport
+use Rattle.script_codec.specs.declared.field.TheConstants.{MESSAGE_BYTES}
 use Rattle.script_codec.specs.declared.why.Why.{Why}
 use Rattle.script_codec.specs.declared.why.Why.TheVariants as why
 use Rattle.script_codec.specs.Outcome.{◌>>=◌, refuse_if}
@@ -97,5 +98,5 @@ bytes_of text = if bytes_eq text (codes "-") then Ok [] else or_refused (decode_
 unfoldable pub message_of : List ℕ → Result (List ℕ) Why
 message_of text = do
   bytes ← bytes_of text
-  _ ← refuse_if (nat_lt 65535 (length bytes)) why.Long
+  _ ← refuse_if (nat_lt MESSAGE_BYTES (length bytes)) why.Long
   Ok bytes

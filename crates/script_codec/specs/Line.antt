@@ -3,6 +3,7 @@ use Rattle.std.specs.Prelude.{ℕ, ◌==◌, ◌&&◌, Bool, true, not, if◌the
 use Rattle.std.specs.List.{list_all}
 use Rattle.std.specs.Str.{bytes_eq}
 use Rattle.script_codec.specs.declared.line.Line.{Line}
+use Rattle.script_codec.specs.declared.line_reading.TheConstants.{LINE_BYTES, LINES}
 use Rattle.script_codec.specs.declared.line.Line.TheVariants as line
 use Rattle.script_codec.specs.declared.state.ScriptState.{ScriptState}
 use Rattle.script_codec.specs.declared.why.Why.{Why}
@@ -105,6 +106,6 @@ unnumbered_line text state = do
 -- what the line of this number says
 unfoldable pub line_of : ℕ → List ℕ → ScriptState → Result (Option Line) Why
 line_of number text state = do
-  _ ← refuse_if (nat_lt 4294967295 number) why.Lines
-  _ ← refuse_if (nat_lt 200000 (length text)) why.TooLong
+  _ ← refuse_if (nat_lt LINES number) why.Lines
+  _ ← refuse_if (nat_lt LINE_BYTES (length text)) why.TooLong
   unnumbered_line text state

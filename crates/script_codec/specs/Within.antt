@@ -2,6 +2,7 @@
 use Rattle.std.specs.Prelude.{ℕ, ◌≤◌, ◌<◌, List, length, Option, Some, None}
 use Rattle.dns_name.specs.Labels.{IsName}
 use Rattle.script_codec.specs.Field.{workers}
+use Rattle.script_codec.specs.declared.field.TheConstants.{MESSAGE_BYTES}
 use Rattle.script_codec.specs.declared.line.Line.{Line}
 use Rattle.script_codec.specs.declared.line.Line.TheVariants.{Zone, Transfer, Full, Query, Give, Fail, Clock}
 use Rattle.script_codec.specs.declared.state.ScriptState.{ScriptState}
@@ -16,7 +17,7 @@ IsWorker worker = worker < workers
 
 -- a message is not too long (RFC 1035, section 4.2.2)
 abbrev pub IsMessage : List ℕ → Type 0
-IsMessage message = length message ≤ 65535
+IsMessage message = length message ≤ MESSAGE_BYTES
 
 abbrev pub IsWithin : ScriptState → Line → Type 0
 IsWithin state (Zone origin) = IsName origin

@@ -13,7 +13,7 @@ mod state;
 mod why;
 
 pub use line::Line;
-pub use line_reading::{read_line, read_unnumbered};
+pub use line_reading::{LINE_BYTES, LINES, read_line, read_unnumbered};
 pub use names::Names;
 pub use output::Output;
 pub use output_text::write_output;

@@ -16,10 +16,10 @@ use crate::why::{BadLine, LineError, ReadError, Why};
 use std::alloc::Global;
 
 /// The greatest number of a line.
-const LINES: u64 = 4_294_967_295;
+pub const LINES: u64 = 4_294_967_295;
 
 /// The most bytes of a line, its line feed not counted.
-const LINE_BYTES: usize = 200_000;
+pub const LINE_BYTES: usize = 200_000;
 
 /// What the line of this number says, which comes without its line feed; `None` exactly where it is
 /// empty or begins with `#`. Line 1 is the first. It is refused for the first reason that applies.
