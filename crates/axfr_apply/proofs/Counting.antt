@@ -1,5 +1,5 @@
 -- A transfer comes on with each message.
-use Rattle.std.proofs.Common.{◌≡◌, ℕ, ◌+◌, ◌-◌, ◌<◌, ◌≤◌, Bool, true, false, cond, List, [], ◌∷◌, Option, Some, None, Result, Ok, Err, refl, sym, ap, ◌∙◌, subst, arith, leb, leb-false}
+use Rattle.std.proofs.Common.{◌≡◌, ℕ, ◌+◌, ◌<◌, ◌≤◌, Bool, true, false, List, [], ◌∷◌, Result, Ok, Err, refl, subst, arith, leb-false}
 use Rattle.std.specs.Prelude.{nat_le, ◌==◌}
 use Rattle.dns_name.specs.Reading.{◌>>=◌}
 use Rattle.dns_record.specs.Record.{PlainRecord}
@@ -9,7 +9,7 @@ use Rattle.axfr_apply.specs.declared.fault.TransferFault.{TransferFault}
 use Rattle.axfr_apply.specs.declared.progress.Progress.{Progress}
 use Rattle.axfr_apply.specs.declared.step.Step.{Step}
 use Rattle.axfr_apply.specs.declared.step.Step.TheVariants.{Lead, Row, Close, Current}
-use Rattle.axfr_apply.specs.Progress.{Next, on, current, counted, checked, stepped, step_of, answer_run, answers_run, message_run, going_on}
+use Rattle.axfr_apply.specs.Progress.{Next, on, current, checked_message, next_of, step_of, answer_run, answers_run, message_run, then_more}
 
 -- the count after the progress
 abbrev Rises : Asked → ℕ → Result Next TransferFault → Type 0
@@ -17,7 +17,7 @@ Rises asked count (Ok (on q)) = (count ≤ q.count) × (q.count < asked.most)
 Rises asked count (Ok (current theirs)) = Unit {0}
 Rises asked count (Err fault) = Unit {0}
 
-step_rises : (asked : Asked) (p : Progress) (r : PlainRecord) (st : Result Step TransferFault) → p.count < asked.most → Rises asked p.count (stepped p r st)
+step_rises : (asked : Asked) (p : Progress) (r : PlainRecord) (st : Result Step TransferFault) → p.count < asked.most → Rises asked p.count (next_of p r st)
 step_rises asked p r (Err fault) few = tt
 step_rises asked p r (Ok (Current theirs)) few = tt
 step_rises asked p r (Ok (Lead soa)) few = (omega arith, few)
@@ -34,10 +34,10 @@ answer_by asked p r true e = rw e tt
 answer_by asked p r false e =
     let few : p.count + 1 < asked.most = omega (arith, leb-false _ _ e) in
     let q : Progress = record { count = p.count + 1; begun = p.begun; rows = p.rows } in
-    rw e (lower asked p.count (p.count + 1) (stepped q r (step_of asked p.begun r)) (omega arith) (step_rises asked q r (step_of asked p.begun r) few))
+    rw e (lower asked p.count (p.count + 1) (next_of q r (step_of asked p.begun r)) (omega arith) (step_rises asked q r (step_of asked p.begun r) few))
 
 answers_by : (asked : Asked) (p : Progress) (rs : List PlainRecord) (run : Result Next TransferFault) → Rises asked p.count run → ((q : Progress) → q.count < asked.most → Rises asked q.count (answers_run asked q rs))
-    → Rises asked p.count (run >>= going_on (λ now. answers_run asked now rs))
+    → Rises asked p.count (run >>= then_more (λ now. answers_run asked now rs))
 answers_by asked p rs (Err fault) rises more = tt
 answers_by asked p rs (Ok (current theirs)) rises more = tt
 answers_by asked p rs (Ok (on q)) rises more = lower asked p.count q.count (answers_run asked q rs) rises.0 (more q rises.1)
@@ -55,7 +55,7 @@ unfolding message_run
 message_by asked p octets true e = rw e tt
 message_by asked p octets false e =
     let few : p.count + 1 < asked.most = omega (arith, leb-false _ _ e) in
-    rw e (head_by asked (record { count = p.count + 1; begun = p.begun; rows = p.rows }) (checked asked (p.count == 0) octets) few)
+    rw e (head_by asked (record { count = p.count + 1; begun = p.begun; rows = p.rows }) (checked_message asked (p.count == 0) octets) few)
 
 pub message_rises : (asked : Asked) (p q : Progress) (octets : List ℕ) → message_run asked p octets ≡ Ok (on q) → (p.count < q.count) × (q.count < asked.most)
 message_rises asked p q octets e =

@@ -1,8 +1,7 @@
 -- The first item that ends a transfer.
-use Rattle.std.proofs.Common.{◌≡◌, ℕ, Bool, true, false, cond, List, [], ◌∷◌, ◌++◌, length, Option, Some, None, Result, Ok, Err, refl, sym, ap, ◌∙◌, append_assoc, append-nil}
+use Rattle.std.proofs.Common.{◌≡◌, List, [], ◌∷◌, ◌++◌, Option, Some, None, refl, sym, ap, ◌∙◌, append_assoc, append-nil}
 use Rattle.std.specs.Option.{option_or}
 use Rattle.axfr_apply.specs.declared.asked.Asked.{Asked}
-use Rattle.axfr_apply.specs.declared.fault.TransferFault.{TransferFault}
 use Rattle.axfr_apply.specs.Item.{Item}
 use Rattle.axfr_apply.specs.Reading.{Outcome, end_by, first_end}
 

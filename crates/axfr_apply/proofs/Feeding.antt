@@ -1,15 +1,12 @@
 -- What a message does to a reader.
-use Rattle.std.proofs.Common.{◌≡◌, ℕ, ◌+◌, ◌-◌, ◌<◌, ◌≤◌, Bool, true, false, ◌||◌, cond, List, [], ◌∷◌, ◌++◌, length, map, Option, Some, None, Result, Ok, Err, refl, sym, ap, ◌∙◌, append_assoc, append-nil, subst, arith}
-use Rattle.std.specs.Prelude.{nat_le, is_some, IfSome}
-use Rattle.std.specs.Option.{option_or}
+use Rattle.std.proofs.Common.{◌≡◌, ℕ, ◌-◌, Bool, true, false, ◌||◌, List, [], ◌∷◌, ◌++◌, Option, Some, None, Result, Ok, Err, refl, sym, ap, ◌∙◌, append-nil, subst, arith}
 use Rattle.std.specs.List.{flat_map, list_any}
 use Rattle.std.proofs.lemmas.Grind.{flat_map-append}
 use Rattle.std.proofs.lemmas.List.Folds.{list_any-append}
 use Rattle.dns_name.specs.Reading.{◌>>=◌}
-use Rattle.dns_record.specs.declared.soa.Soa.{Soa}
 use Rattle.dns_record.specs.Record.{PlainRecord}
 use Rattle.zone_rows.specs.declared.transfer.Transfer.TheVariants.{Whole}
-use Rattle.zone_rows.specs.Row.{PlainRow, row_of}
+use Rattle.zone_rows.specs.Row.{PlainRow}
 use Rattle.axfr_apply.specs.declared.asked.Asked.{Asked}
 use Rattle.axfr_apply.specs.declared.fault.TransferError.{TransferError}
 use Rattle.axfr_apply.specs.declared.fault.TransferError.TheVariants as errors
@@ -19,10 +16,10 @@ use Rattle.axfr_apply.specs.declared.step.Begun.{Begun}
 use Rattle.axfr_apply.specs.declared.taken.Fed.{Fed}
 use Rattle.axfr_apply.specs.declared.taken.Fed.TheVariants as fed
 use Rattle.axfr_apply.specs.declared.taken.Taken.TheVariants as taken
-use Rattle.axfr_apply.specs.Feeding.{Reader, IsFinished, IsClosing, HasZone, HasRead, Stands, IsOpen, WaitsBehind, Waits, Feeds, Fate, more, current_at, done, begun_fate, next_fate, fate, GoesOn, Meets, Falls, progress_left, left_of}
+use Rattle.axfr_apply.specs.Feeding.{Reader, HasZone, HasRead, Stands, IsOpen, WaitsBehind, Waits, Feeds, Fate, more, current_at, done, begun_fate, next_fate, fate, Meets, Falls, progress_left, left_of}
 use Rattle.axfr_apply.specs.Item.{Item, items, items_of, records}
-use Rattle.axfr_apply.specs.Progress.{Next, on, current, message_run, not_begun}
-use Rattle.axfr_apply.specs.Reading.{Outcome, soa_held, is_soa, first_end, until_soa, whole_of, closed, outcome_of}
+use Rattle.axfr_apply.specs.Progress.{Next, on, current, message_run, new_progress}
+use Rattle.axfr_apply.specs.Reading.{Outcome, is_soa, first_end, until_soa, whole_zone, outcome_of}
 use Rattle.axfr_apply.proofs.Counting.{message_rises}
 use Rattle.axfr_apply.proofs.Ends.{first_end-behind}
 use Rattle.axfr_apply.proofs.Standing.{Agrees, message_agrees}
@@ -48,25 +45,25 @@ until_last [] last none is_last = rw is_last refl
 until_last (r ∷ rs) last none is_last = let p = parts (is_soa r) (list_any is_soa rs) none in rw (p.0) (ap (λ (l : List PlainRecord). r ∷ l) (until_last rs last p.1 is_last))
 
 -- the zone that the records are, where the second SOA came
-closed-zone : (begun : Begun) (rows : List PlainRow) (rs : List PlainRecord) → HasZone begun rows rs → begun.is_closed ≡ true → closed rs ≡ Some (Ok (taken.New (Whole begun.soa rows)))
-unfolding closed
+closed-zone : (begun : Begun) (rows : List PlainRow) (rs : List PlainRecord) → HasZone begun rows rs → begun.is_closed ≡ true → whole_zone rs ≡ Some (Ok (taken.New (Whole begun.soa rows)))
+unfolding whole_zone
 closed-zone begun rows rs zone shut =
     let one = closing_closed begun.is_closed zone.last shut zone.closing in
     let all : rs ≡ zone.first ∷ (zone.between ++ one.0 ∷ []) = zone.all ∙ ap (λ (l : List PlainRecord). zone.first ∷ (zone.between ++ l)) one.1 in
     let some : list_any is_soa (zone.between ++ one.0 ∷ []) ≡ true = list_any-append is_soa zone.between (one.0 ∷ []) ∙ rw (zone.no_soa, one.2) refl in
-    ap closed all ∙ rw (zone.soa, some) (rw (until_last zone.between one.0 zone.no_soa one.2, ← zone.are_rows) refl)
+    ap whole_zone all ∙ rw (zone.soa, some) (rw (until_last zone.between one.0 zone.no_soa one.2, ← zone.are_rows) refl)
 
 -- nothing where it didn't
-not_closed-zone : (begun : Begun) (rows : List PlainRow) (rs : List PlainRecord) → HasZone begun rows rs → begun.is_closed ≡ false → closed rs ≡ None
-unfolding closed
+not_closed-zone : (begun : Begun) (rows : List PlainRow) (rs : List PlainRecord) → HasZone begun rows rs → begun.is_closed ≡ false → whole_zone rs ≡ None
+unfolding whole_zone
 not_closed-zone begun rows rs zone still =
     let none : zone.last ≡ [] = closing_open begun.is_closed zone.last still zone.closing in
     let all : rs ≡ zone.first ∷ zone.between = zone.all ∙ ap (λ (l : List PlainRecord). zone.first ∷ (zone.between ++ l)) none ∙ ap (λ (l : List PlainRecord). zone.first ∷ l) (append-nil zone.between) in
-    ap closed all ∙ rw (zone.soa, zone.no_soa) refl
+    ap whole_zone all ∙ rw (zone.soa, zone.no_soa) refl
 
 -- what the reader does where the items don't end the transfer
 record Goes (asked : Asked) (p : Progress) (messages : List (List ℕ)) : Type 0 where
-  ends : closed (records (items messages)) ≡ fate_end (Ok (begun_fate p.begun p))
+  ends : whole_zone (records (items messages)) ≡ fate_end (Ok (begun_fate p.begun p))
   waits : (q : Progress) → begun_fate p.begun p ≡ more q → WaitsBehind asked (Some q) messages
 
 same_more : (p q : Progress) → more p ≡ more q → p ≡ q
@@ -90,13 +87,13 @@ goes_by asked p messages false begun stands some still =
     }
 
 goes : (asked : Asked) (p : Progress) (messages : List (List ℕ)) (begun : Option Begun) → Stands asked p (items messages) → p.begun ≡ begun → Goes asked p messages
-unfolding closed
+unfolding whole_zone
 goes asked p messages None stands none =
     let read : HasRead None p.rows (records (items messages)) = rw none at stands.has_read in
     let is_open : IsOpen p.begun = rw none tt in
     let goes_on : begun_fate p.begun p ≡ more p = ap (λ (b : Option Begun). begun_fate b p) none in
     record {
-      ends = ap closed read.0 ∙ sym (ap (λ (x : Fate). fate_end (Ok x)) goes_on);
+      ends = ap whole_zone read.0 ∙ sym (ap (λ (x : Fate). fate_end (Ok x)) goes_on);
       waits = λ q e. let same : more p ≡ more q = sym goes_on ∙ e in subst (λ (x : Progress). WaitsBehind asked (Some x) messages) (same_more p q same) (stands, is_open);
     }
 goes asked p messages (Some begun) stands some = goes_by asked p messages begun.is_closed begun stands some refl
@@ -181,6 +178,6 @@ falls old new p asked octets result same is after meets =
     (subst (λ (n : ℕ). Falls result (asked.most - p.count) n) (sym left) (falls_by asked p new.progress octets result meets))
 
 -- nothing came yet
-pub none_waits : (asked : Asked) → Stands asked not_begun (items [])
+pub none_waits : (asked : Asked) → Stands asked new_progress (items [])
 unfolding items first_end records
 none_waits asked = record { count = refl; no_end = refl; has_read = (refl, refl) }

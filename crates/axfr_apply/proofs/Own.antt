@@ -1,5 +1,5 @@
 -- Which faults a message shows.
-use Rattle.std.proofs.Common.{◌≡◌, ℕ, ◌+◌, Bool, true, false, not, ◌&&◌, cond, List, [], ◌∷◌, Option, Some, None, Result, Ok, Err, refl, sym, ap, ◌∙◌, subst}
+use Rattle.std.proofs.Common.{ℕ, ◌+◌, Bool, true, false, not, ◌&&◌, cond, List, [], ◌∷◌, Option, Some, None, Result, Ok, Err, subst}
 use Rattle.std.specs.Prelude.{IfSome, IfErr, nat_le, ◌==◌}
 use Rattle.dns_name.specs.Reading.{◌>>=◌}
 use Rattle.dns_record.specs.declared.soa.Soa.{Soa}
@@ -17,11 +17,10 @@ use Rattle.axfr_apply.specs.declared.fault.TransferFault.TheVariants.{WrongId, N
 use Rattle.axfr_apply.specs.declared.progress.Progress.{Progress}
 use Rattle.axfr_apply.specs.declared.step.Begun.{Begun}
 use Rattle.axfr_apply.specs.declared.step.Step.{Step}
-use Rattle.axfr_apply.specs.declared.step.Step.TheVariants.{Lead, Row, Close, Current}
+use Rattle.axfr_apply.specs.declared.step.Step.TheVariants.{Lead, Close, Current}
 use Rattle.axfr_apply.specs.declared.taken.Fed.{Fed}
-use Rattle.axfr_apply.specs.declared.taken.Fed.TheVariants as fed
-use Rattle.axfr_apply.specs.Feeding.{IsOfMessage, IsOfReader, Fate, fate, next_fate, more, Meets}
-use Rattle.axfr_apply.specs.Progress.{Next, on, current, placed, unless, head_checked, checked, lead_step, later_step, step_by, step_of, counted, stepped, answer_run, answers_run, message_run, going_on}
+use Rattle.axfr_apply.specs.Feeding.{IsOfMessage, IsOfReader, Fate, fate, next_fate, Meets}
+use Rattle.axfr_apply.specs.Progress.{Next, on, current, fault_or, unless, checked_head, checked_message, lead_step, later_step, step_by, step_of, one_more, next_of, answer_run, answers_run, message_run, then_more}
 use Rattle.axfr_apply.specs.Reading.{soa_held, is_soa, place_fault, head_fault, question_fits}
 
 abbrev IsOwn : Option TransferFault → Type 0
@@ -64,11 +63,11 @@ own_unless : {X : Type 0} (fault : Option TransferFault) (x : X) → IsOwn fault
 own_unless None x p = tt
 own_unless (Some fault) x p = p
 
-own_placed : {X : Type 0} (fault : Option TransferFault) (x : Result X TransferFault) → IsOwn fault → FailsOwn x → FailsOwn (placed fault x)
+own_placed : {X : Type 0} (fault : Option TransferFault) (x : Result X TransferFault) → IsOwn fault → FailsOwn x → FailsOwn (fault_or fault x)
 own_placed None x p q = q
 own_placed (Some fault) x p q = p
 
-own_checked : (asked : Asked) (is_first : Bool) (read : Result Message MessageFault) → FailsOwn (head_checked asked is_first read)
+own_checked : (asked : Asked) (is_first : Bool) (read : Result Message MessageFault) → FailsOwn (checked_head asked is_first read)
 own_checked asked is_first (Ok m) = own_unless (head_fault asked is_first m) m (own_head asked is_first m)
 own_checked asked is_first (Err fault) = tt
 
@@ -85,31 +84,31 @@ own_later first (Some soa) = fails_if (soa.serial == first.serial) (Ok Close) (E
 own_step : (have : Option ℕ) (begun : Option Begun) (soa : Option Soa) (fault : Option TransferFault) → IsOwn fault → FailsOwn (step_by have begun soa fault)
 own_step have None None fault p = tt
 own_step have None (Some soa) fault p = own_placed fault (lead_step have soa) p (own_lead have soa)
-own_step have (Some begun) soa fault p = fails_if begun.is_closed (Err TrailingRecord) (placed fault (later_step begun.soa soa)) tt (own_placed fault (later_step begun.soa soa) p (own_later begun.soa soa))
+own_step have (Some begun) soa fault p = fails_if begun.is_closed (Err TrailingRecord) (fault_or fault (later_step begun.soa soa)) tt (own_placed fault (later_step begun.soa soa) p (own_later begun.soa soa))
 
-own_stepped : (p : Progress) (r : PlainRecord) (st : Result Step TransferFault) → FailsOwn st → FailsOwn (stepped p r st)
+own_stepped : (p : Progress) (r : PlainRecord) (st : Result Step TransferFault) → FailsOwn st → FailsOwn (next_of p r st)
 own_stepped p r (Ok st) h = tt
 own_stepped p r (Err fault) h = h
 
-own_counted : (asked : Asked) (p : Progress) → FailsOwn (counted asked p)
+own_counted : (asked : Asked) (p : Progress) → FailsOwn (one_more asked p)
 own_counted asked p = fails_if (nat_le asked.most (p.count + 1)) (Err (TooManyRecords asked.most)) (Ok (record p { count = p.count + 1 })) tt tt
 
 own_answer : (asked : Asked) (p : Progress) (r : PlainRecord) → FailsOwn (answer_run asked p r)
-own_answer asked p r = fails_then (counted asked p) (λ now. stepped now r (step_of asked now.begun r)) (own_counted asked p)
+own_answer asked p r = fails_then (one_more asked p) (λ now. next_of now r (step_of asked now.begun r)) (own_counted asked p)
     (λ now. own_stepped now r (step_of asked now.begun r) (own_step asked.have now.begun (soa_held r) (place_fault asked.origin (is_soa r) r) (own_place asked.origin (is_soa r) r)))
 
-own_going : (f : Progress → Result Next TransferFault) → ((p : Progress) → FailsOwn (f p)) → (next : Next) → FailsOwn (going_on f next)
+own_going : (f : Progress → Result Next TransferFault) → ((p : Progress) → FailsOwn (f p)) → (next : Next) → FailsOwn (then_more f next)
 own_going f own (on p) = own p
 own_going f own (current theirs) = tt
 
 own_answers : (asked : Asked) (p : Progress) (rs : List PlainRecord) → FailsOwn (answers_run asked p rs)
 own_answers asked p [] = tt
-own_answers asked p (r ∷ rs) = fails_then (answer_run asked p r) (going_on (λ now. answers_run asked now rs)) (own_answer asked p r) (own_going (λ now. answers_run asked now rs) (λ now. own_answers asked now rs))
+own_answers asked p (r ∷ rs) = fails_then (answer_run asked p r) (then_more (λ now. answers_run asked now rs)) (own_answer asked p r) (own_going (λ now. answers_run asked now rs) (λ now. own_answers asked now rs))
 
 own_message : (asked : Asked) (p : Progress) (octets : List ℕ) → FailsOwn (message_run asked p octets)
 unfolding message_run
-own_message asked p octets = fails_then (counted asked p) (λ now. checked asked (p.count == 0) octets >>= λ m. answers_run asked now m.answer) (own_counted asked p)
-    (λ now. fails_then (checked asked (p.count == 0) octets) (λ m. answers_run asked now m.answer) (own_checked asked (p.count == 0) (message_of octets)) (λ m. own_answers asked now m.answer))
+own_message asked p octets = fails_then (one_more asked p) (λ now. checked_message asked (p.count == 0) octets >>= λ m. answers_run asked now m.answer) (own_counted asked p)
+    (λ now. fails_then (checked_message asked (p.count == 0) octets) (λ m. answers_run asked now m.answer) (own_checked asked (p.count == 0) (message_of octets)) (λ m. own_answers asked now m.answer))
 
 own_next : (next : Next) → FailsOwn (next_fate next)
 own_next (on p) = tt

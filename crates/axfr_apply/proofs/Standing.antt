@@ -1,6 +1,6 @@
 -- How far the items that were read bring a transfer.
-use Rattle.std.proofs.Common.{◌≡◌, ℕ, ◌+◌, Bool, true, false, cond, List, [], ◌∷◌, ◌++◌, length, map, Option, Some, None, Result, Ok, Err, refl, sym, ap, ◌∙◌, append_assoc, append-nil, length-append, subst, arith}
-use Rattle.std.specs.Prelude.{nat_le, ◌==◌, option_map}
+use Rattle.std.proofs.Common.{◌≡◌, ℕ, ◌+◌, Bool, true, false, List, [], ◌∷◌, ◌++◌, length, map, Option, Some, None, Result, Ok, Err, refl, sym, ap, ◌∙◌, append_assoc, append-nil, length-append, arith}
+use Rattle.std.specs.Prelude.{nat_le, ◌==◌}
 use Rattle.std.specs.Option.{option_or}
 use Rattle.std.specs.List.{flat_map}
 use Rattle.std.proofs.lemmas.Grind.{flat_map-append}
@@ -11,14 +11,14 @@ use Rattle.dns_message.specs.declared.message.Message.{Message}
 use Rattle.dns_message.specs.Reading.{message_of}
 use Rattle.axfr_apply.specs.declared.asked.Asked.{Asked}
 use Rattle.axfr_apply.specs.declared.fault.TransferFault.{TransferFault}
-use Rattle.axfr_apply.specs.declared.fault.TransferFault.TheVariants.{BadMessage, TooManyRecords}
+use Rattle.axfr_apply.specs.declared.fault.TransferFault.TheVariants.{TooManyRecords}
 use Rattle.axfr_apply.specs.declared.progress.Progress.{Progress}
 use Rattle.axfr_apply.specs.declared.step.Step.{Step}
 use Rattle.axfr_apply.specs.declared.step.Step.TheVariants.{Lead, Row, Close, Current}
 use Rattle.axfr_apply.specs.declared.taken.Taken.TheVariants as taken
 use Rattle.axfr_apply.specs.Feeding.{Stands}
 use Rattle.axfr_apply.specs.Item.{Item, head, answer, items_of, answers_in, records, records_of}
-use Rattle.axfr_apply.specs.Progress.{Next, on, current, counted, checked, head_checked, unless, stepped, step_of, after_step, answer_run, answers_run, message_run, going_on}
+use Rattle.axfr_apply.specs.Progress.{Next, on, current, checked_head, unless, next_of, step_of, after_step, answer_run, answers_run, message_run, then_more}
 use Rattle.axfr_apply.specs.Reading.{Outcome, soa_held, is_soa, place_fault, head_fault, end_by, first_end}
 use Rattle.axfr_apply.proofs.Ends.{first_end-one, first_end-append, first_end-behind}
 use Rattle.axfr_apply.proofs.Zones.{step_end, record_step, ReadsOn, read_on}
@@ -62,13 +62,10 @@ more_stands asked p q its it stands count none read = record {
   has_read = read;
 }
 
-one_more : Progress → Progress
-one_more p = record p { count = p.count + 1 }
-
 -- how a step of an answer record agrees
 step_agrees : (asked : Asked) (p : Progress) (its : List Item) (r : PlainRecord) (st : Result Step TransferFault) → Stands asked p its → end_by asked its (answer r) ≡ step_end st
     → ((step : Step) → st ≡ Ok step → ReadsOn (after_step (record { count = p.count + 1; begun = p.begun; rows = p.rows }) r step) (records its ++ r ∷ []))
-    → Agrees asked its (answer r ∷ []) (stepped (record { count = p.count + 1; begun = p.begun; rows = p.rows }) r st)
+    → Agrees asked its (answer r ∷ []) (next_of (record { count = p.count + 1; begun = p.begun; rows = p.rows }) r st)
 step_agrees asked p its r (Err fault) stands ends reads = first_end-one asked its (answer r) ∙ ends
 step_agrees asked p its r (Ok (Current theirs)) stands ends reads = first_end-one asked its (answer r) ∙ ends
 step_agrees asked p its r (Ok (Lead soa)) stands ends reads = more_stands asked p _ its (answer r) stands refl ends (rw (records-answer its r) (reads (Lead soa) refl))
@@ -92,7 +89,7 @@ answer_agrees asked p its r stands = answer_by asked p its r (nat_le asked.most 
 
 answers_by : (asked : Asked) (p : Progress) (its : List Item) (r : PlainRecord) (rs : List PlainRecord) (run : Result Next TransferFault) → Stands asked p its → Agrees asked its (answer r ∷ []) run
     → ((q : Progress) → Stands asked q (its ++ answer r ∷ []) → Agrees asked (its ++ answer r ∷ []) (map answer rs) (answers_run asked q rs))
-    → Agrees asked its (answer r ∷ map answer rs) (run >>= going_on (λ now. answers_run asked now rs))
+    → Agrees asked its (answer r ∷ map answer rs) (run >>= then_more (λ now. answers_run asked now rs))
 answers_by asked p its r rs (Err fault) stands a more = ends_more asked its (answer r ∷ []) (map answer rs) (Err fault) a
 answers_by asked p its r rs (Ok (current theirs)) stands a more = ends_more asked its (answer r ∷ []) (map answer rs) (Ok (taken.Current theirs)) a
 answers_by asked p its r rs (Ok (on q)) stands a more =
@@ -117,7 +114,7 @@ head_by asked p its octets m None stands few read h =
     (answers_agree asked q (its ++ head octets ∷ []) m.answer behind)
 
 abbrev after_head : Asked → Progress → Bool → Result Message MessageFault → Result Next TransferFault
-after_head asked p is_first read = head_checked asked is_first read >>= λ m. answers_run asked (record { count = p.count + 1; begun = p.begun; rows = p.rows }) m.answer
+after_head asked p is_first read = checked_head asked is_first read >>= λ m. answers_run asked (record { count = p.count + 1; begun = p.begun; rows = p.rows }) m.answer
 
 read_by : (asked : Asked) (p : Progress) (its : List Item) (octets : List ℕ) (read : Result Message MessageFault) → Stands asked p its → nat_le asked.most (length its + 1) ≡ false → message_of octets ≡ read
     → Agrees asked its (head octets ∷ map answer (answers_in read)) (after_head asked p (length its == 0) read)

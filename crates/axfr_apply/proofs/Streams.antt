@@ -1,11 +1,10 @@
 -- How far a stream was read.
-use Rattle.std.proofs.Common.{◌≡◌, ℕ, zero, suc, ◌+◌, ◌*◌, ◌<◌, ◌≤◌, Bool, true, false, cond, List, [], ◌∷◌, ◌++◌, length, take, drop, Option, Some, None, Result, Ok, Err, refl, sym, ap, ◌∙◌, append_assoc, append-nil, length-append, subst, arith, take_at, drop_at}
+use Rattle.std.proofs.Common.{◌≡◌, ℕ, zero, suc, ◌+◌, ◌*◌, ◌/◌, ◌%◌, ◌<◌, false, List, [], ◌∷◌, ◌++◌, length, Option, Some, None, Result, Ok, Err, refl, sym, ap, ◌∙◌, append_assoc, append-nil, length-append, subst, arith, take_at, drop_at}
 use Rattle.std.specs.Prelude.{nat_lt, IfSome}
 use Rattle.std.proofs.lemmas.Bool.{lt-ltb, le-ltb}
 use Rattle.edge_io.specs.Edge.{prepended, IsAtEnd}
-use Rattle.edge_io.specs.Frame.{TakesSome, TakesFrame, TakesNone, TakesCut, IsCut}
+use Rattle.edge_io.specs.Frame.{frame_octets, TakesSome, TakesFrame, TakesNone, TakesCut, IsCut}
 use Rattle.axfr_apply.specs.declared.asked.Asked.{Asked}
-use Rattle.axfr_apply.specs.declared.fault.TransferFault.{TransferFault}
 use Rattle.axfr_apply.specs.declared.fault.TransferError.{TransferError}
 use Rattle.axfr_apply.specs.declared.fault.TransferError.TheVariants as errors
 use Rattle.axfr_apply.specs.declared.fault.TransferFault.TheVariants.{ReadFault, Cut, EndedEarly}
@@ -107,8 +106,8 @@ pub record Framed (asked : Asked) (messages : List (List ℕ)) (bytes : List ℕ
 
 pub frame_comes : (asked : Asked) (messages : List (List ℕ)) (message bytes : List ℕ) (now after : Option (List ℕ)) → Comes asked messages bytes now → TakesFrame message now after → Framed asked (messages ++ message ∷ []) bytes after
 frame_comes asked messages message bytes now after comes takes =
-    let parts = is_some_end after comes.rest (takes.high ∷ takes.low ∷ message) (sym comes.left ∙ takes.taken) in
-    let frame : frame_at comes.rest ≡ whole message parts.0 = ap frame_at parts.2 ∙ whole_at takes.high takes.low message parts.0 takes.is_length in
+    let parts = is_some_end after comes.rest (frame_octets message) (sym comes.left ∙ takes.taken) in
+    let frame : frame_at comes.rest ≡ whole message parts.0 = ap frame_at parts.2 ∙ whole_at (length message / 256) (length message % 256) message parts.0 (omega arith) in
     let step = read_step asked messages comes.rest comes.frames (whole message parts.0) comes.enough frame in
     record {
       rest = parts.0;
@@ -154,7 +153,7 @@ retold message items now after e takes = subst (λ (m : List ℕ). TakesFrame m 
 
 -- a message that was read of the stream
 frame_taken : (message : List ℕ) (now after : Option (List ℕ)) → TakesFrame message now after → TakesSome now after
-frame_taken message now after takes = (takes.high ∷ takes.low ∷ message, takes.taken)
+frame_taken message now after takes = (frame_octets message, takes.taken)
 
 -- how a message that was fed ends the transfer
 abbrev FedAll : Asked → Reader → Reader → List ℕ → Result Fed TransferError → Type 0

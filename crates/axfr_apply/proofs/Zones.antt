@@ -1,7 +1,7 @@
 -- What a record makes of the records before it.
-use Rattle.std.proofs.Common.{◌≡◌, ℕ, Bool, true, false, not, ◌&&◌, ◌||◌, cond, eqb, ltb, List, [], ◌∷◌, ◌++◌, length, map, Option, Some, None, Result, Ok, Err, refl, sym, ap, ◌∙◌, append-nil, subst, ◌⊎◌, inl, inr, arith}
+use Rattle.std.proofs.Common.{◌≡◌, ℕ, Bool, true, false, ◌||◌, cond, List, [], ◌∷◌, ◌++◌, length, Option, Some, None, Result, Ok, Err, refl, sym, ap, ◌∙◌, append-nil, subst, ◌⊎◌, inl, inr, arith}
 use Rattle.std.proofs.lemmas.Bool.{ne_eqb}
-use Rattle.std.specs.Prelude.{is_some, nat_lt, ◌==◌}
+use Rattle.std.specs.Prelude.{is_some, ◌==◌}
 use Rattle.std.specs.List.{list_any, filter_map}
 use Rattle.std.proofs.lemmas.List.{map-append}
 use Rattle.std.proofs.lemmas.List.Elements.{filter_map-append}
@@ -11,15 +11,14 @@ use Rattle.dns_record.specs.Record.{PlainRecord}
 use Rattle.dns_record.specs.Serial.{is_newer}
 use Rattle.zone_rows.specs.Row.{PlainRow, row_of}
 use Rattle.axfr_apply.specs.declared.fault.TransferFault.{TransferFault}
-use Rattle.axfr_apply.specs.declared.fault.TransferFault.TheVariants.{NoLeadingSoa, SoaDiffers, SerialNotNewer, TrailingRecord}
+use Rattle.axfr_apply.specs.declared.fault.TransferFault.TheVariants.{SoaDiffers, SerialNotNewer, TrailingRecord}
 use Rattle.axfr_apply.specs.declared.step.Begun.{Begun}
 use Rattle.axfr_apply.specs.declared.step.Step.{Step}
 use Rattle.axfr_apply.specs.declared.step.Step.TheVariants.{Lead, Row, Close, Current}
 use Rattle.axfr_apply.specs.declared.taken.Taken.TheVariants as taken
-use Rattle.axfr_apply.specs.declared.progress.Progress.{Progress}
 use Rattle.axfr_apply.specs.Feeding.{HasRead, HasZone, IsClosing}
-use Rattle.axfr_apply.specs.Progress.{Next, on, current, placed, lead_step, later_step, step_by, after_step, begins, closes}
-use Rattle.axfr_apply.specs.Reading.{Outcome, soa_held, is_soa, soas, record_end, placed_end, soa_end, first_soa_end}
+use Rattle.axfr_apply.specs.Progress.{Next, on, current, fault_or, lead_step, later_step, step_by, after_step, closes}
+use Rattle.axfr_apply.specs.Reading.{Outcome, soa_held, is_soa, soas, record_end, first_soa_end}
 
 -- how a step ends a transfer
 abbrev pub step_end : Result Step TransferFault → Option Outcome
@@ -45,7 +44,7 @@ first_case have None fault = refl
 first_case have (Some soa) None = sym (lead_end have soa)
 first_case have (Some soa) (Some fault) = refl
 
-later_case : (have : Option ℕ) (first : Soa) (soa : Option Soa) (fault : Option TransferFault) → record_end have (first ∷ []) false soa fault ≡ step_end (placed fault (later_step first soa))
+later_case : (have : Option ℕ) (first : Soa) (soa : Option Soa) (fault : Option TransferFault) → record_end have (first ∷ []) false soa fault ≡ step_end (fault_or fault (later_step first soa))
 later_case have first soa (Some fault) = refl
 later_case have first None None = refl
 later_case have first (Some soa) None = sym (step_end-cond (soa.serial == first.serial) (Ok Close) (Err (SoaDiffers first.serial soa.serial)))
@@ -190,7 +189,7 @@ reads_later count begun rows rs r (Some soa) step still h zone e =
     let close : Close ≡ step = sym (close_by (soa.serial == begun.soa.serial) (SoaDiffers begun.soa.serial soa.serial) step e) in
     subst (StepReads count (Some begun) rows rs r) close (reads_close begun rows rs r soa still h zone)
 
-no_fault : (fault : Option TransferFault) (x : Result Step TransferFault) (step : Step) → placed fault x ≡ Ok step → x ≡ Ok step
+no_fault : (fault : Option TransferFault) (x : Result Step TransferFault) (step : Step) → fault_or fault x ≡ Ok step → x ≡ Ok step
 no_fault None x step e = e
 no_fault (Some fault) x step e = absurd cc
 
@@ -198,7 +197,7 @@ reads_some : (b : Bool) (have : Option ℕ) (count : ℕ) (begun : Begun) (rows 
     → soa_held r ≡ held → HasZone begun rows rs → step_by have (Some begun) held fault ≡ Ok step → StepReads count (Some begun) rows rs r step
 reads_some true have count begun rows rs r held fault step b h zone e = let stop : Err TrailingRecord ≡ Ok step = rw b at e in absurd cc
 reads_some false have count begun rows rs r held fault step b h zone e =
-    let goes : placed fault (later_step begun.soa held) ≡ Ok step = rw b at e in
+    let goes : fault_or fault (later_step begun.soa held) ≡ Ok step = rw b at e in
     reads_later count begun rows rs r held step b h zone (no_fault fault (later_step begun.soa held) step goes)
 
 pub read_on : (have : Option ℕ) (count : ℕ) (begun : Option Begun) (rows : List PlainRow) (rs : List PlainRecord) (r : PlainRecord) (held : Option Soa) (fault : Option TransferFault) (step : Step) → soa_held r ≡ held → HasRead begun rows rs

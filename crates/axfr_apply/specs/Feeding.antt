@@ -1,5 +1,5 @@
 -- A reader of a transfer, which takes message after message, and what it stands for: the list of messages that it took.
-use Rattle.std.specs.Prelude.{◌≡◌, ℕ, ◌+◌, ◌-◌, ◌<◌, Bool, true, false, if◌then◌else◌, List, [], ◌∷◌, ◌++◌, length, map, Option, Some, None, Result, Ok, Err, IfSome, MatchOption, ⊤}
+use Rattle.std.specs.Prelude.{◌≡◌, ℕ, ◌-◌, ◌<◌, Bool, true, false, if◌then◌else◌, List, [], ◌∷◌, ◌++◌, length, map, Option, Some, None, Result, Ok, Err, IfSome, ⊤}
 use Rattle.std.specs.List.{list_any}
 use Rattle.dns_name.specs.Reading.{◌>>=◌}
 use Rattle.dns_record.specs.Record.{PlainRecord}
@@ -17,7 +17,7 @@ use Rattle.axfr_apply.specs.declared.taken.Fed.{Fed}
 use Rattle.axfr_apply.specs.declared.taken.Fed.TheVariants as fed
 use Rattle.axfr_apply.specs.declared.taken.Taken.TheVariants.{Current, New}
 use Rattle.axfr_apply.specs.Item.{Item, items, records}
-use Rattle.axfr_apply.specs.Progress.{Next, on, current, message_run, not_begun}
+use Rattle.axfr_apply.specs.Progress.{Next, on, current, message_run, new_progress}
 use Rattle.axfr_apply.specs.Reading.{Outcome, soa_held, is_soa, first_end}
 
 -- a reader: what was asked for, and how far the transfer has come, unless it has ended
@@ -26,7 +26,7 @@ pub record Reader : Type 0 where
   pub progress : Option Progress
 
 abbrev pub new_reader : Asked → Reader
-new_reader asked = record { asked = asked; progress = Some not_begun }
+new_reader asked = record { asked = asked; progress = Some new_progress }
 
 -- the transfer has ended
 abbrev pub IsFinished : Reader → Type 0

@@ -7,7 +7,7 @@ use Rattle.dns_record.specs.Serial.{is_newer}
 use Rattle.dns_message.specs.declared.fault.MessageFault.{MessageFault}
 use Rattle.dns_message.specs.declared.message.Message.{Message}
 use Rattle.dns_message.specs.Reading.{message_of}
-use Rattle.zone_rows.specs.Row.{PlainRow, row_of}
+use Rattle.zone_rows.specs.Row.{row_of}
 use Rattle.axfr_apply.specs.declared.asked.Asked.{Asked}
 use Rattle.axfr_apply.specs.declared.fault.TransferError.{TransferError}
 use Rattle.axfr_apply.specs.declared.fault.TransferError.TheVariants as errors
@@ -33,18 +33,19 @@ abbrev pub unless : {X : Type 0} → Option TransferFault → X → Result X Tra
 unless None x = Ok x
 unless (Some fault) x = Err fault
 
-abbrev pub head_checked : Asked → Bool → Result Message MessageFault → Result Message TransferFault
-head_checked asked is_first (Ok m) = unless (head_fault asked is_first m) m
-head_checked asked is_first (Err fault) = Err BadMessage
-
 -- the message, if nothing is wrong with its head
-abbrev pub checked : Asked → Bool → List ℕ → Result Message TransferFault
-checked asked is_first octets = head_checked asked is_first (message_of octets)
+abbrev pub checked_head : Asked → Bool → Result Message MessageFault → Result Message TransferFault
+checked_head asked is_first (Ok m) = unless (head_fault asked is_first m) m
+checked_head asked is_first (Err fault) = Err BadMessage
 
--- the value, unless there is a fault
-abbrev pub placed : {X : Type 0} → Option TransferFault → Result X TransferFault → Result X TransferFault
-placed None x = x
-placed (Some fault) x = Err fault
+-- the message that the octets are, if nothing is wrong with it or its head
+abbrev pub checked_message : Asked → Bool → List ℕ → Result Message TransferFault
+checked_message asked is_first octets = checked_head asked is_first (message_of octets)
+
+-- the fault, if there is one, else the result
+abbrev pub fault_or : {X : Type 0} → Option TransferFault → Result X TransferFault → Result X TransferFault
+fault_or None x = x
+fault_or (Some fault) x = Err fault
 
 abbrev pub lead_step : Option ℕ → Soa → Result Step TransferFault
 lead_step None soa = Ok (Lead soa)
@@ -61,8 +62,8 @@ later_step first (Some soa) = if soa.serial == first.serial then Ok Close else E
 -- what a record is, by the SOA that it holds and what is wrong with its class and owner
 abbrev pub step_by : Option ℕ → Option Begun → Option Soa → Option TransferFault → Result Step TransferFault
 step_by have None None fault = Err NoLeadingSoa
-step_by have None (Some soa) fault = placed fault (lead_step have soa)
-step_by have (Some begun) soa fault = if begun.is_closed then Err TrailingRecord else placed fault (later_step begun.soa soa)
+step_by have None (Some soa) fault = fault_or fault (lead_step have soa)
+step_by have (Some begun) soa fault = if begun.is_closed then Err TrailingRecord else fault_or fault (later_step begun.soa soa)
 
 -- what a record is, where the transfer has begun so
 abbrev pub step_of : Asked → Option Begun → PlainRecord → Result Step TransferFault
@@ -73,12 +74,13 @@ pub data Next : Type 0 where
   on : Progress → Next
   current : ℕ → Next
 
-abbrev pub not_begun : Progress
-not_begun = record { count = 0; begun = None; rows = [] }
+-- nothing came yet
+abbrev pub new_progress : Progress
+new_progress = record { count = 0; begun = None; rows = [] }
 
 -- one more message or record
-abbrev pub counted : Asked → Progress → Result Progress TransferFault
-counted asked p = if nat_le asked.most (p.count + 1) then Err (TooManyRecords asked.most) else Ok (record p { count = p.count + 1 })
+abbrev pub one_more : Asked → Progress → Result Progress TransferFault
+one_more asked p = if nat_le asked.most (p.count + 1) then Err (TooManyRecords asked.most) else Ok (record p { count = p.count + 1 })
 
 abbrev pub begins : Soa → Begun
 begins soa = record { soa = soa; is_closed = false }
@@ -92,27 +94,29 @@ after_step p r Row = on (record { count = p.count; begun = p.begun; rows = p.row
 after_step p r Close = on (record { count = p.count; begun = option_map closes p.begun; rows = p.rows })
 after_step p r (Current theirs) = current theirs
 
-abbrev pub stepped : Progress → PlainRecord → Result Step TransferFault → Result Next TransferFault
-stepped p r (Ok step) = Ok (after_step p r step)
-stepped p r (Err fault) = Err fault
+-- what a record does, by what it is or its fault
+abbrev pub next_of : Progress → PlainRecord → Result Step TransferFault → Result Next TransferFault
+next_of p r (Ok step) = Ok (after_step p r step)
+next_of p r (Err fault) = Err fault
 
 abbrev pub answer_run : Asked → Progress → PlainRecord → Result Next TransferFault
-answer_run asked p r = counted asked p >>= λ now. stepped now r (step_of asked now.begun r)
+answer_run asked p r = one_more asked p >>= λ now. next_of now r (step_of asked now.begun r)
 
-abbrev pub going_on : (Progress → Result Next TransferFault) → Next → Result Next TransferFault
-going_on more (on p) = more p
-going_on more (current theirs) = Ok (current theirs)
+-- what is done further, where the transfer goes on
+abbrev pub then_more : (Progress → Result Next TransferFault) → Next → Result Next TransferFault
+then_more more (on p) = more p
+then_more more (current theirs) = Ok (current theirs)
 
 -- what answer records do
 abbrev pub answers_run : Asked → Progress → List PlainRecord → Result Next TransferFault
 answers_run asked p [] = Ok (on p)
-answers_run asked p (r ∷ rs) = answer_run asked p r >>= going_on (λ now. answers_run asked now rs)
+answers_run asked p (r ∷ rs) = answer_run asked p r >>= then_more (λ now. answers_run asked now rs)
 
 -- what a message does
 unfoldable pub message_run : Asked → Progress → List ℕ → Result Next TransferFault
 message_run asked p octets = do
-  now ← counted asked p
-  m ← checked asked (p.count == 0) octets
+  now ← one_more asked p
+  m ← checked_message asked (p.count == 0) octets
   answers_run asked now m.answer
 
 -- the count rose, or there were too many

@@ -13,7 +13,6 @@ use Rattle.dns_message.specs.declared.fault.MessageFault.{MessageFault}
 use Rattle.dns_message.specs.declared.message.Message.{Message}
 use Rattle.dns_message.specs.declared.question.Question.{Question}
 use Rattle.dns_message.specs.Reading.{message_of}
-use Rattle.zone_rows.specs.declared.transfer.Transfer.{Transfer}
 use Rattle.zone_rows.specs.declared.transfer.Transfer.TheVariants.{Whole}
 use Rattle.zone_rows.specs.Row.{row_of}
 use Rattle.axfr_apply.specs.declared.asked.Asked.{Asked}
@@ -122,10 +121,10 @@ whole_of None others = None
 whole_of (Some soa) others = if list_any is_soa others then Some (Ok (New (Whole soa (map row_of (until_soa others))))) else None
 
 -- the whole zone: the first SOA, and the records between it and the second as rows; None where there is no second
-unfoldable pub closed : List PlainRecord → Option Outcome
-closed [] = None
-closed (first ∷ others) = whole_of (soa_held first) others
+unfoldable pub whole_zone : List PlainRecord → Option Outcome
+whole_zone [] = None
+whole_zone (first ∷ others) = whole_of (soa_held first) others
 
 -- how these messages end the transfer: by the first item that does, else by the second SOA; None where they don't
 unfoldable pub outcome_of : Asked → List (List ℕ) → Option Outcome
-outcome_of asked messages = option_or (first_end asked [] (items messages)) (closed (records (items messages)))
+outcome_of asked messages = option_or (first_end asked [] (items messages)) (whole_zone (records (items messages)))

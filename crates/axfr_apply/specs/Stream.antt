@@ -1,6 +1,5 @@
 -- What a stream of bytes is as the transfer of a whole zone.
 use Rattle.std.specs.Prelude.{◌≡◌, ℕ, zero, suc, ◌+◌, ◌*◌, nat_lt, if◌then◌else◌, List, [], ◌∷◌, ◌++◌, length, take, drop, Option, Some, None, Result, Ok, Err, IfSome, ⊤}
-use Rattle.std.specs.Global.{Vec}
 use Rattle.edge_io.specs.Frame.{TakesSome, TakesFrame, TakesNone, TakesCut}
 use Rattle.axfr_apply.specs.declared.fault.TransferError.{TransferError}
 use Rattle.axfr_apply.specs.declared.fault.TransferError.TheVariants as errors
@@ -66,8 +65,8 @@ TakesOnFault Cut before after = TakesCut before after
 TakesOnFault EndedEarly before after = TakesNone before after
 TakesOnFault fault before after = ⊥
 
-abbrev pub TakesMessage : Result (Vec ℕ) TransferError → Option (List ℕ) → Option (List ℕ) → Type 0
-TakesMessage (Ok message) before after = TakesFrame message.items before after
+abbrev pub TakesMessage : Result (List ℕ) TransferError → Option (List ℕ) → Option (List ℕ) → Type 0
+TakesMessage (Ok message) before after = TakesFrame message before after
 TakesMessage (Err errors.OutOfMemory) before after = TakesSome before after
 TakesMessage (Err (errors.Fault fault)) before after = TakesOnFault fault before after
 

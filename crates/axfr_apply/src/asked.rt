@@ -8,7 +8,7 @@ pub const MOST: u32 = 33_554_432;
 /// What was asked for: the whole zone of an origin.
 #[derive(Debug, Drop)]
 pub struct Asked {
-    /// The identifier of the request, which each message of the answer has.
+    /// The ID of the request, which each message of the answer has.
     pub id: u16,
     /// The name of the zone.
     pub origin: Name,

@@ -8,8 +8,9 @@ use dns_message::MessageError;
 use edge_io::{FrameError, FrameFault};
 use std::alloc::{AllocError, AllocFailed};
 
-/// What is wrong with a transfer: the first fault, in the order of its messages and records. The faults of one message or record
-/// come in this order, but that one too many comes first.
+/// What is wrong with a transfer: the first fault, in the order of its messages and records. The faults
+/// of one message or record come in this order, with two exceptions: [`TransferFault::TooManyRecords`]
+/// comes before all others, and [`TransferFault::TrailingRecord`] before all others of a record.
 #[derive(Clone, Copy, Debug, PartialEq, Eq)]
 pub enum TransferFault {
     /// A read has failed.
@@ -20,7 +21,7 @@ pub enum TransferFault {
     EndedEarly,
     /// A message can't be read.
     BadMessage,
-    /// A message has another identifier than the request.
+    /// A message has another ID than the request.
     WrongId,
     /// A message is no response, or its opcode isn't 0.
     NotResponse,
@@ -42,15 +43,15 @@ pub enum TransferFault {
     SoaDiffers { first: u32, last: u32 },
     /// The serial of the zone (`theirs`) is neither the one that we have (`ours`) nor newer (RFC 1982).
     SerialNotNewer { ours: u32, theirs: u32 },
-    /// A record stands behind the second SOA, in the same message.
+    /// A record stands behind the second SOA, in the same message, whatever else is wrong with it.
     TrailingRecord,
     /// There are too many messages and records: this is the number of the last, counted together from 1.
     TooManyRecords { at: u32 },
-    /// The transfer has ended before, by a fault, for want of memory or as a whole.
+    /// The transfer has ended before: by a fault, out of memory, or as a whole.
     Finished,
 }
 
-/// Why a transfer gives nothing: a fault, or want of memory.
+/// Why a transfer gives nothing: a fault, or no memory.
 #[derive(Clone, Copy, Debug, PartialEq, Eq)]
 pub enum TransferError {
     OutOfMemory,

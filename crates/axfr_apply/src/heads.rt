@@ -1,7 +1,7 @@
 //! The head of a message of a transfer.
 
 ghost use Rattle.std.specs.Prelude.{◌≡◌, option_copied};
-ghost use Rattle.axfr_apply.specs.Progress.{Gives, checked};
+ghost use Rattle.axfr_apply.specs.Progress.{Gives, checked_message};
 ghost use Rattle.axfr_apply.specs.Reading as form;
 
 use crate::asked::Asked;
@@ -58,7 +58,7 @@ pub fn read_checked(
     is_first: bool,
     bytes: &[u8],
 ) -> Result<Message, TransferError>
-    ensures { Gives result (checked asked.now is_first bytes.now) }
+    ensures { Gives result (checked_message asked.now is_first bytes.now) }
 {
     let message = read_message(alloc, bytes)?;
     match head_fault(asked, is_first, &message) {

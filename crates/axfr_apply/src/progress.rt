@@ -1,7 +1,7 @@
 //! How far a transfer has come.
 
 ghost use Rattle.std.specs.Prelude.{◌≡◌, ◌+◌, ◌<◌, []};
-ghost use Rattle.axfr_apply.specs.Progress.{Counts, Takes, answer_run, answers_run, counted, message_run, not_begun};
+ghost use Rattle.axfr_apply.specs.Progress.{Counts, Takes, answer_run, answers_run, message_run, new_progress, one_more};
 
 use crate::asked::Asked;
 use crate::fault::{TransferError, TransferFault};
@@ -25,7 +25,7 @@ pub struct Progress {
 impl Progress {
     /// Nothing came yet.
     pub fn new(alloc: Global) -> Self
-        ensures { result ≡ not_begun }
+        ensures { result ≡ new_progress }
     {
         Progress {
             count: 0,
@@ -36,7 +36,7 @@ impl Progress {
 
     // Counts a message or a record.
     fn count_one(&mut self, asked: &Asked) -> Result<(), TransferFault>
-        ensures { Counts result self.new (counted asked.now self.old) }
+        ensures { Counts result self.new (one_more asked.now self.old) }
     {
         let most = asked.most;
         match self.count.checked_add(1) {

@@ -16,7 +16,8 @@ use std::alloc::{AllocError, Global};
 use std::marker::Model;
 use zone_rows::Transfer;
 
-/// Reads the transfer of a whole zone, message after message (RFC 5936, section 2.2). Of the messages it keeps what they say of the zone.
+/// Reads the transfer of a whole zone, message after message (RFC 5936, section 2.2). Of the messages it
+/// keeps what they say of the zone.
 #[derive(Debug, Drop)]
 pub struct WholeReader {
     alloc: Global,
@@ -33,15 +34,16 @@ impl Model for WholeReader {
 }
 
 impl WholeReader {
-    /// A reader of the answers to a request of this identifier for the whole zone of an origin, of which we
-    /// have this serial or nothing. There may be fewer than 33,554,432 messages and answer records.
+    /// A reader of the answers to a request of this ID for the whole zone of an origin, of which we have this
+    /// serial or nothing. There may be fewer than 33,554,432 messages and answer records.
     pub fn start(
         alloc: Global,
         id: u16,
         origin: &Name,
         have: Option<u32>,
     ) -> Result<Self, AllocError>
-        ensures reader { IfOk result (λ reader. reader ≡ new_reader (record { id = id; origin = origin.now; have = have; most = 33554432 })) }
+        ensures reader { IfOk result (λ reader.
+            reader ≡ new_reader (record { id = id; origin = origin.now; have = have; most = MOST })) }
         ensures waits { IfOk result (λ reader. Waits reader []) }
     {
         WholeReader::start_within(alloc, id, origin, have, MOST)
@@ -55,7 +57,8 @@ impl WholeReader {
         have: Option<u32>,
         most: u32,
     ) -> Result<Self, AllocError>
-        ensures reader { IfOk result (λ reader. reader ≡ new_reader (record { id = id; origin = origin.now; have = have; most = most })) }
+        ensures reader { IfOk result (λ reader.
+            reader ≡ new_reader (record { id = id; origin = origin.now; have = have; most = most })) }
         ensures waits { IfOk result (λ reader. Waits reader []) }
     {
         let origin = origin.clone()?;
@@ -95,13 +98,15 @@ impl WholeReader {
         }
     }
 
-    /// Takes the next message of the answer. The transfer ends by the first fault, by a first SOA of the serial that we have, or at the end of the
-    /// message in which the second SOA stands; so does it for want of memory. From then on each message gives the
-    /// fault `Finished`, which comes in no other case.
+    /// Takes the next message of the answer. The transfer ends by the first fault, by a first SOA of the serial
+    /// that we have, at the end of the message in which the second SOA stands, or out of memory. From then on
+    /// each message gives the fault `Finished`, which comes in no other case.
     pub fn feed(&mut self, message: &[u8]) -> Result<Fed, TransferError>
         ensures fed { (messages : List (List ℕ)) → Waits self.old messages →
-            Feeds result self.new (messages ++ message.now ∷ []) (outcome_of self.old.asked (messages ++ message.now ∷ [])) }
-        ensures finished { IsFinished self.old → (result ≡ Err (errors.Fault faults.Finished)) × IsFinished self.new }
+            Feeds result self.new (messages ++ message.now ∷ [])
+            (outcome_of self.old.asked (messages ++ message.now ∷ [])) }
+        ensures finished { IsFinished self.old →
+            (result ≡ Err (errors.Fault faults.Finished)) × IsFinished self.new }
         ensures own { (IsFinished self.old → ⊥) → IfErr result IsOfReader }
         ensures asked { self.new.asked ≡ self.old.asked }
         ensures falls { Falls result (left_of self.old) (left_of self.new) }

@@ -86,7 +86,8 @@ fn step_by(
     soa: Option<Soa>,
     rr: &Record,
 ) -> Result<Step, TransferFault>
-    ensures exact { result ≡ form.step_by asked.now.have (option_copied begun.entry) soa (place_fault asked.now.origin (is_some soa) rr.now) }
+    ensures exact { result ≡ form.step_by asked.now.have (option_copied begun.entry) soa
+        (place_fault asked.now.origin (is_some soa) rr.now) }
     ensures class { IfOk result (λ _. rr.now.class ≡ 1) }
 {
     match begun {

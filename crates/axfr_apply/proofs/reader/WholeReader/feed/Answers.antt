@@ -1,6 +1,4 @@
-use Rattle.std.proofs.Common.{◌≡◌, Option, Some, sym, ap, ◌∙◌}
-use Rattle.axfr_apply.specs.declared.asked.Asked.{Asked}
-use Rattle.axfr_apply.specs.declared.progress.Progress.{Progress}
+use Rattle.std.proofs.Common.{◌≡◌, Some, sym, ap, ◌∙◌}
 use Rattle.axfr_apply.specs.Feeding.{Reader}
 use Rattle.axfr_apply.proofs.Feeding.{feeds, falls}
 use Rattle.axfr_apply.proofs.Own.{own_result}
