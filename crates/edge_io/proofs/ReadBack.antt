@@ -1,8 +1,7 @@
 -- A frame is read back.
-use Rattle.std.proofs.Common.{◌≡◌, ℕ, ◌+◌, ◌*◌, ◌/◌, ◌%◌, ◌<◌, List, [], ◌∷◌, ◌++◌, Option, Some, None, Result, Ok, Err, length, take, drop, refl, sym, ◌∙◌, ap, arith, length-append, take_at, drop_at}
+use Rattle.std.proofs.Common.{◌≡◌, ℕ, ◌/◌, ◌%◌, List, [], ◌∷◌, ◌++◌, Option, Some, None, Result, Ok, Err, length, take, drop, refl, sym, ◌∙◌, ap, arith, length-append, take_at, drop_at}
 use Rattle.std.proofs.lemmas.List.{append-nil}
-use Rattle.edge_io.specs.Edge.{prepended, IsAtEnd}
-use Rattle.edge_io.specs.Frame.{size_octets, frame_octets, TakesFrame, TakesNone, TakesCut, IsCut, ReadsFrame, ReadsBack}
+use Rattle.edge_io.specs.Frame.{frame_octets, TakesFrame, TakesNone, TakesCut, IsCut, ReadsFrame, ReadsBack}
 use Rattle.edge_io.specs.declared.frame.FrameFault.TheVariants.{ReadFault, Cut}
 use Rattle.edge_io.specs.declared.frame.FrameError.{FrameError}
 use Rattle.edge_io.specs.declared.frame.FrameError.TheVariants.{OutOfMemory, Fault}
