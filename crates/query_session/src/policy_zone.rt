@@ -1,7 +1,7 @@
 //! A policy zone with its rules.
 
 ghost use Rattle.std.specs.Prelude.{◌≡◌, Some, option_copied, IfOk};
-ghost use Rattle.zone_rows.specs.Zone.{Gives, applied};
+ghost use Rattle.zone_rows.specs.Zone.{Gives, apply_outcome};
 ghost use Rattle.reply_build.specs.Verdict.{passes};
 ghost use Rattle.query_session.specs.Finding as form;
 ghost use Rattle.query_session.specs.Finding.{zone_decides};
@@ -82,7 +82,7 @@ impl PolicyZone {
 
     /// The zone after a transfer, with rules of its own, or why it can't take it.
     pub fn after(&self, alloc: Global, transfer: Transfer) -> Result<PolicyZone, ApplyError>
-        ensures { Gives result (applied self.now transfer) }
+        ensures { Gives result (apply_outcome self.now transfer) }
     {
         let zone = self.zone.apply(alloc, transfer)?;
         let index = made_of(alloc, &zone.origin, zone.content.as_ref())?;

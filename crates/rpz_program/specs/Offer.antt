@@ -3,7 +3,8 @@ use Rattle.std.specs.Prelude.{ℕ, List, Option, Some, None, Result, Ok, Err}
 use Rattle.zone_rows.specs.declared.fault.ApplyFault.{ApplyFault}
 use Rattle.zone_rows.specs.declared.transfer.Transfer.{Transfer}
 use Rattle.zone_rows.specs.declared.zone.PlainZone.{PlainZone}
-use Rattle.zone_rows.specs.Zone.{applied}
+use Rattle.zone_rows.specs.Zone.{apply_outcome}
+use Rattle.axfr_apply.specs.declared.asked.TheConstants.{MOST}
 use Rattle.axfr_apply.specs.declared.asked.Asked.{Asked}
 use Rattle.axfr_apply.specs.declared.taken.Taken.TheVariants as taken
 use Rattle.axfr_apply.specs.Reading.{Outcome}
@@ -25,12 +26,12 @@ by_applied number transfer (Err fault) = stays (Refused number (refusal.Apply fa
 
 abbrev pub by_outcome : ℕ → PlainZone → Outcome → Offer
 by_outcome number zone (Ok (taken.Current theirs)) = stays (Current number theirs)
-by_outcome number zone (Ok (taken.New transfer)) = by_applied number transfer (applied zone transfer)
+by_outcome number zone (Ok (taken.New transfer)) = by_applied number transfer (apply_outcome zone transfer)
 by_outcome number zone (Err fault) = stays (Refused number (refusal.Transfer fault))
 
 -- what the zone asks for: all of it, in a request with the identifier 0
 abbrev pub asked_by : PlainZone → Asked
-asked_by zone = record { id = 0; origin = zone.origin; have = content_serial zone.content; most = 33554432 }
+asked_by zone = record { id = 0; origin = zone.origin; have = content_serial zone.content; most = MOST }
 
 -- what the zone of this number does with a stream
 abbrev pub zone_offered : ℕ → PlainZone → List ℕ → Offer

@@ -3,7 +3,7 @@ use Rattle.std.specs.Prelude.{ℕ, ◌-◌, ◌==◌, if◌then◌else◌, List,
 use Rattle.zone_rows.specs.declared.fault.ApplyFault.{ApplyFault}
 use Rattle.zone_rows.specs.declared.transfer.Transfer.{Transfer}
 use Rattle.zone_rows.specs.declared.zone.PlainZone.{PlainZone}
-use Rattle.zone_rows.specs.Zone.{applied}
+use Rattle.zone_rows.specs.Zone.{apply_outcome}
 use Rattle.query_session.specs.Policy.{PlainPolicy, unloaded}
 
 -- a transfer that was accepted, with the number of its zone; zones are numbered from 1
@@ -20,7 +20,7 @@ zone_by zone (Err fault) = zone
 
 -- the zone after a transfer: as it was where it can't take it
 abbrev pub zone_after : PlainZone → Transfer → PlainZone
-zone_after zone transfer = zone_by zone (applied zone transfer)
+zone_after zone transfer = zone_by zone (apply_outcome zone transfer)
 
 abbrev pub with_zone_after : PlainPolicy → Entry → Option PlainZone → PlainPolicy
 with_zone_after policy entry None = policy

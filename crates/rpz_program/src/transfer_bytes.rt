@@ -1,6 +1,7 @@
 //! Transfers out of bytes in memory.
 
 ghost use Rattle.std.specs.Prelude.{◌≡◌};
+ghost use Rattle.axfr_apply.specs.declared.asked.TheConstants.{MOST};
 ghost use Rattle.axfr_apply.specs.Progress.{Gives};
 ghost use Rattle.axfr_apply.specs.Stream.{reading};
 
@@ -17,7 +18,7 @@ pub fn read_stream(
     origin: &Name,
     have: Option<u32>,
 ) -> Result<Taken, TransferError>
-    ensures { Gives result (reading (record { id = 0; origin = origin.now; have = have; most = 33554432 }) stream).0 }
+    ensures { Gives result (reading (record { id = 0; origin = origin.now; have = have; most = MOST }) stream).0 }
 {
     let mut source = Bytes::new(stream.into_vec());
     read_whole(alloc, &mut source, 0, origin, have)

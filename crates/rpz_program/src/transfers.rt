@@ -2,7 +2,7 @@
 
 ghost use Rattle.std.specs.Prelude.{◌≡◌, ◌∷◌, [], Some, option_copied, IfSome};
 ghost use Rattle.std.specs.Arc.{arc_value};
-ghost use Rattle.zone_rows.specs.Zone.{applied};
+ghost use Rattle.zone_rows.specs.Zone.{apply_outcome};
 ghost use Rattle.rpz_program.specs.CoreSteps.{Makes, Offers, policy_takes};
 ghost use Rattle.rpz_program.specs.Offer.{by_applied, zone_offered};
 ghost use Rattle.rpz_program.specs.Policy.{zone_at as zone_in};
@@ -58,7 +58,7 @@ fn offer_transfer(
     number: u32,
     transfer: Transfer,
 ) -> Result<Offered, AllocError>
-    ensures { Offers zone.now (by_applied number transfer (applied zone.now transfer)) result }
+    ensures { Offers zone.now (by_applied number transfer (apply_outcome zone.now transfer)) result }
 {
     match zone.after(alloc, transfer) {
         Ok(next) => Ok(Offered::Takes(next)),

@@ -12,7 +12,7 @@ use Rattle.prefix_index.specs.Order.{prefix_order_total}
 use Rattle.prefix_index.proofs.Same.{same_prefix}
 use Rattle.qname_index.specs.Best.{pattern_order}
 use Rattle.trigger_codec.specs.Address.{prefix_read}
-use Rattle.trigger_codec.specs.Decode.{relative, pattern_read, by_prefix, by_marker, by_last, labels_trigger, trigger}
+use Rattle.trigger_codec.specs.Decode.{labels_before, pattern_read, by_prefix, by_marker, by_last, labels_trigger, trigger}
 use Rattle.trigger_codec.specs.Trigger.{Marker, client_ip, response_ip, ns_ip, ns_name, unknown, plain, marker_of, is_asterisk}
 use Rattle.trigger_codec.specs.declared.inert.Inert.{Inert}
 use Rattle.trigger_codec.specs.declared.inert.Inert.TheVariants.{Marker as UnknownMarker}
@@ -103,7 +103,7 @@ named_within false outcome inert h = tt
 
 named_trigger : (owner origin : List (List ℕ)) → IsName owner → GivesNamed (trigger owner origin)
 unfolding trigger
-named_trigger owner origin h = named_within (is_within owner origin) (labels_trigger (relative owner origin)) _ (named_labels (relative owner origin) (IsName-take owner (length owner - length origin) h))
+named_trigger owner origin h = named_within (is_within owner origin) (labels_trigger (labels_before owner origin)) _ (named_labels (labels_before owner origin) (IsName-take owner (length owner - length origin) h))
 
 named_some : (outcome : Result Trigger Inert) → GivesNamed outcome → AllNamed (named outcome)
 named_some (Ok t) h = h
