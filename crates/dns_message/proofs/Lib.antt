@@ -10,3 +10,4 @@ pub mod OptSpelling
 pub mod Standing
 pub mod MessageIs
 pub mod Limits
+pub mod MessageFaults

@@ -46,29 +46,29 @@ message_from bytes m h =
 
 -- from the message to the parts
 
-abbrev Records : Type 0
+abbrev pub Records : Type 0
 Records = List PlainRecord × ℕ
 
-abbrev read_message : List ℕ → Option Question × ℕ → Records → Records → Records → Option Edns → Message
+abbrev pub read_message : List ℕ → Option Question × ℕ → Records → Records → Records → Option Edns → Message
 read_message bytes question answer authority additional edns =
     record { header = header_in bytes; question = question.0; answer = answer.0; authority = authority.0; additional = filter (λ r. not (is_opt r)) additional.0; edns = edns }
 
-abbrev at_edns : List ℕ → Option Question × ℕ → Records → Records → Records → Option Edns → Result Message MessageFault
+abbrev pub at_edns : List ℕ → Option Question × ℕ → Records → Records → Records → Option Edns → Result Message MessageFault
 at_edns bytes question answer authority additional edns = Ok (read_message bytes question answer authority additional edns)
 
-abbrev at_additional : List ℕ → Option Question × ℕ → Records → Records → Records → Result Message MessageFault
+abbrev pub at_additional : List ℕ → Option Question × ℕ → Records → Records → Records → Result Message MessageFault
 at_additional bytes question answer authority additional = ended bytes additional.1 (edns_in (filter is_opt additional.0)) >>= at_edns bytes question answer authority additional
 
-abbrev at_authority : List ℕ → Option Question × ℕ → Records → Records → Result Message MessageFault
+abbrev pub at_authority : List ℕ → Option Question × ℕ → Records → Records → Result Message MessageFault
 at_authority bytes question answer authority = records_at (number_at 2 bytes 10) bytes authority.1 >>= at_additional bytes question answer authority
 
-abbrev at_answer : List ℕ → Option Question × ℕ → Records → Result Message MessageFault
+abbrev pub at_answer : List ℕ → Option Question × ℕ → Records → Result Message MessageFault
 at_answer bytes question answer = records_at (number_at 2 bytes 8) bytes answer.1 >>= at_authority bytes question answer
 
-abbrev at_question : List ℕ → Option Question × ℕ → Result Message MessageFault
+abbrev pub at_question : List ℕ → Option Question × ℕ → Result Message MessageFault
 at_question bytes question = records_at (number_at 2 bytes 6) bytes question.1 >>= at_answer bytes question
 
-ended_is : (bytes : List ℕ) (place : ℕ) (rest : Result (Option Edns) MessageFault) (edns : Option Edns) → ended bytes place rest ≡ Ok edns → (length bytes ≤ place) × (rest ≡ Ok edns)
+pub ended_is : (bytes : List ℕ) (place : ℕ) (rest : Result (Option Edns) MessageFault) (edns : Option Edns) → ended bytes place rest ≡ Ok edns → (length bytes ≤ place) × (rest ≡ Ok edns)
 ended_is bytes place rest edns =
     cond_both (ltb place (length bytes)) (Err Trailing) rest (λ (r : Result (Option Edns) MessageFault). r ≡ Ok edns → (length bytes ≤ place) × (rest ≡ Ok edns))
     (λ t e. absurd cc)

@@ -25,7 +25,7 @@ numbers q = number_octets 2 q.qtype ++ number_octets 2 q.qclass
 
 -- from the rules to what is read
 
-question_only : (q : Question) (bytes : List ℕ) (after : ℕ) → OneQuestionAt bytes q after → question_at bytes 12 ≡ Ok (q, after)
+pub question_only : (q : Question) (bytes : List ℕ) (after : ℕ) → OneQuestionAt bytes q after → question_at bytes 12 ≡ Ok (q, after)
 unfolding question_at
 question_only q bytes after h =
     let place = h.place in
@@ -47,7 +47,7 @@ questions_only count bytes (Some q) after h =
 -- from what is read to the rules
 
 -- what is read as a question
-record ReadsQuestion (q : Question) (bytes : List ℕ) (at after : ℕ) : Type 0 where
+pub record ReadsQuestion (q : Question) (bytes : List ℕ) (at after : ℕ) : Type 0 where
   pub place : ℕ
   pub name : name_at bytes at ≡ Ok (q.name, place)
   pub qtype : number_at 2 bytes place ≡ q.qtype
@@ -68,7 +68,7 @@ end_read bytes place count end =
 abbrev whole : List ℕ → List (List ℕ) × ℕ → ℕ → Question × ℕ
 whole bytes name after = (record { name = name.0; qtype = number_at 2 bytes name.1; qclass = number_at 2 bytes (name.1 + 2) }, after)
 
-question_reads : (bytes : List ℕ) (at : ℕ) (x : Question × ℕ) → question_at bytes at ≡ Ok x → ReadsQuestion x.0 bytes at x.1
+pub question_reads : (bytes : List ℕ) (at : ℕ) (x : Question × ℕ) → question_at bytes at ≡ Ok x → ReadsQuestion x.0 bytes at x.1
 unfolding question_at
 question_reads bytes at x e =
     let a = bind_ok (as_question (name_at bytes at)) (λ name. end_at bytes name.1 4 >>= λ after. Ok (whole bytes name after)) x e in
@@ -87,7 +87,7 @@ question_reads bytes at x e =
 number_stands : (bytes : List ℕ) (n at after : ℕ) → AreOctets bytes → number_at 2 bytes at ≡ n → after ≡ at + 2 → after ≤ length bytes → Stands (number_octets 2 n) bytes at after
 number_stands bytes n at after octets e f long = rw (← e, f) (u16_stands bytes at octets (omega (arith, f)))
 
-question_stands : (q : Question) (bytes : List ℕ) (after : ℕ) → AreOctets bytes → ReadsQuestion q bytes 12 after → OneQuestionAt bytes q after
+pub question_stands : (q : Question) (bytes : List ℕ) (after : ℕ) → AreOctets bytes → ReadsQuestion q bytes 12 after → OneQuestionAt bytes q after
 question_stands q bytes after octets h =
     let place = h.place in
     let qtype = number_stands bytes q.qtype place (place + 2) octets h.qtype refl (omega (arith, h.end, h.within)) in

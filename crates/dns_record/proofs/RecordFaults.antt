@@ -1,6 +1,6 @@
 -- The first fault of a record is told exactly where the rules of the grammar show it.
-use Rattle.std.proofs.Common.{◌≡◌, ℕ, ◌+◌, ◌<◌, ◌≤◌, ◌⊎◌, inl, inr, true, false, eqb, ltb, List, [], ◌∷◌, length, Option, Some, None, Result, Ok, Err, refl, sym, ap, subst, ◌∙◌, arith}
-use Rattle.std.proofs.lemmas.Bool.{cond_both, ltb-true, ltb-false, lt-ltb, le-ltb}
+use Rattle.std.proofs.Common.{◌≡◌, ℕ, ◌+◌, ◌<◌, ◌≤◌, inl, inr, true, false, eqb, ltb, List, [], ◌∷◌, length, Option, Some, None, Result, Ok, Err, refl, sym, ap, subst, ◌∙◌, arith}
+use Rattle.std.proofs.lemmas.Bool.{cond_both, ltb-true, lt-ltb, le-ltb}
 use Rattle.dns_name.specs.declared.fault.NameFault.{NameFault}
 use Rattle.dns_name.specs.Grammar.{NameAt}
 use Rattle.dns_name.specs.Reading as reading
@@ -12,16 +12,15 @@ use Rattle.dns_record.specs.declared.fault.RecordFault.TheVariants.{Name as InNa
 use Rattle.dns_record.specs.declared.part.Part.{Part}
 use Rattle.dns_record.specs.declared.part.Part.TheVariants.{Name, Fixed}
 use Rattle.dns_record.specs.Becomes.{as_owner, as_data}
-use Rattle.dns_record.specs.Faults.{EndsInFields, FieldsAt, EndsInData, HasNoData, RecordShows}
+use Rattle.dns_record.specs.Faults.{FieldsAt, RecordShows}
 use Rattle.dns_record.specs.Grammar.{DataAt}
 use Rattle.dns_record.specs.Number.{number_at, number_octets, AreOctets}
 use Rattle.dns_record.specs.Part.{layout_of}
-use Rattle.dns_record.specs.Reading.{end_at, with_octets, octets_at, part_at, parts_at, filled, laid_out, data_at, record_at}
-use Rattle.dns_record.specs.Record.{PlainRecord}
+use Rattle.dns_record.specs.Reading.{end_at, with_octets, part_at, parts_at, filled, laid_out, data_at, record_at}
 use Rattle.dns_record.proofs.Binding.{bind_err, err_is}
 use Rattle.dns_record.proofs.DataStanding.{data_stands, data_only}
 use Rattle.dns_record.proofs.Numbers.{number_read, number_fits, u16_stands}
-use Rattle.dns_record.proofs.RecordReads.{whole, at_data, at_end, at_fixed, at_owner, owner_read, end_read}
+use Rattle.dns_record.proofs.RecordReads.{at_data, at_end, at_fixed, at_owner, owner_read, end_read}
 
 -- what is wrong with the data is told as one fault
 
