@@ -102,7 +102,7 @@ abbrev pub AreTold : Type 0
 AreTold = (row other : PlainRow) → IsRow row → IsRow other → (identity row ≡ identity other) ↔ AreAlike row other
 
 same_owner : (a b : PlainRow) → IsRow a → IsRow b → by_owner a b ≡ Equal → a.owner ≡ b.owner
-same_owner a b is_a is_b h = sym is_a.small_owner ∙ same_name a.owner b.owner h ∙ is_b.small_owner
+same_owner a b is_a is_b h = sym is_a.owner_is_lower_case ∙ same_name a.owner b.owner h ∙ is_b.owner_is_lower_case
 
 identity_is : (row : PlainRow) → identity row ≡ name_octets row.owner ++ data_key row
 unfolding identity data_key

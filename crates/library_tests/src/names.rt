@@ -1,25 +1,9 @@
-//! Names: the vectors of RFC 1035, section 4.1.4, and of RFC 4034, section 6.1.
+//! Names that are made of others, and the vectors of RFC 4034, section 6.1.
 
-use dns_name::{Name, Octets, Pattern};
+use dns_name::Name;
 use std::alloc::Global;
 use std::cmp::Ordering;
 use std::test::Fail;
-
-// F.ISI.ARPA at 0, and behind it FOO with a pointer to it.
-const MESSAGE: &[u8] = b"\x01F\x03ISI\x04ARPA\0\x03FOO\xc0\0";
-
-#[test]
-fn a_name_is_read(rt: HostRuntime) -> Result<(), Fail> {
-    for (at, octets, after) in [
-        (0, b"\x01F\x03ISI\x04ARPA\0".as_slice(), 12),
-        (12, b"\x03FOO\x01F\x03ISI\x04ARPA\0", 18),
-    ] {
-        let (name, end) = Name::read(rt.alloc(), MESSAGE, at)?;
-        assert_eq!(rt; name.octets(), octets);
-        assert_eq!(rt; end, after);
-    }
-    Ok(())
-}
 
 // What is made of the name F.ISI.ARPA.
 #[derive(Clone, Copy)]
@@ -60,24 +44,6 @@ fn a_name_is_made_of_another(rt: HostRuntime) -> Result<(), Fail> {
     Ok(())
 }
 
-#[test]
-fn octets_are_written(rt: HostRuntime) -> Result<(), Fail> {
-    let mut out = Octets::with_capacity(rt.alloc(), 9)?;
-    out.push(7)?;
-    out.append(b"\x08\x09")?;
-    assert_eq!(rt; out.as_slice(), b"\x07\x08\x09".as_slice());
-    Ok(())
-}
-
-#[test]
-fn a_name_is_written(rt: HostRuntime) -> Result<(), Fail> {
-    let name = Name::from_text(rt.alloc(), b"a.B")?;
-    let mut out = Octets::from_slice(rt.alloc(), b"\x07")?;
-    name.write(&mut out)?;
-    assert_eq!(rt; out.as_slice(), b"\x07\x01a\x01B\0".as_slice());
-    Ok(())
-}
-
 fn order_of(alloc: Global, a: &[u8], b: &[u8]) -> Result<Ordering, Fail> {
     let a = Name::from_text(alloc, a)?;
     let b = Name::from_text(alloc, b)?;
@@ -99,13 +65,5 @@ fn names_have_an_order(rt: HostRuntime) -> Result<(), Fail> {
         assert_eq!(rt; order_of(rt.alloc(), b, a)?, Ordering::Greater);
         assert_eq!(rt; order_of(rt.alloc(), a, a)?, Ordering::Equal);
     }
-    Ok(())
-}
-
-#[test]
-fn a_pattern_has_its_base_in_lower_case(rt: HostRuntime) -> Result<(), Fail> {
-    let base = Name::from_text(rt.alloc(), b"A.b")?;
-    let pattern = Pattern::new(rt.alloc(), &base, true)?;
-    assert_eq!(rt; pattern.base().octets(), b"\x01a\x01b\0".as_slice());
     Ok(())
 }

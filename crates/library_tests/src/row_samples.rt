@@ -1,16 +1,10 @@
-//! Rows that the tests of several crates use.
+//! A row and a zone that the tests of several crates use.
 
 use dns_name::Name;
 use dns_record::{class, read_record};
 use std::alloc::Global;
 use std::test::Fail;
 use zone_rows::{Row, Rows};
-
-/// `bad.test.rpz.example` is an alias of the root, for 1 second.
-pub const BAD: &[u8] = b"\x03bad\x04test\x03rpz\x07example\0\0\x05\0\x01\0\0\0\x01\0\x01\0";
-
-/// The same in upper case, for 2 seconds.
-pub const BAD_AGAIN: &[u8] = b"\x03BAD\x04test\x03RPZ\x07example\0\0\x05\0\x01\0\0\0\x02\0\x01\0";
 
 /// A rule about the name server `ns.test`: an alias of `*.`, which says that there are no records.
 pub const SERVER: &[u8] =

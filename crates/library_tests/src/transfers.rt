@@ -1,44 +1,15 @@
-//! Transfers of a whole zone, read from messages, from bytes, and from a source that fails.
+//! Transfers of a whole zone out of a source that fails, and what is left in one.
 
 use crate::row_samples::zone_name;
-use axfr_apply::{Fed, Taken, TransferError, TransferFault, WholeReader, read_whole};
+use axfr_apply::{TransferError, TransferFault, read_whole};
 use edge_io::{Bytes, ListSource, read_frame};
 use std::alloc::Global;
 use std::test::Fail;
-use zone_rows::Transfer;
 
 // A transfer of the zone `rpz.example` in one message of 155 bytes behind its length: the serial 1, and the row
 // `bad.example` CNAME `.`.
 const STREAM: &[u8] =
     b"\0\x9b\0\0\x84\0\0\x01\0\x03\0\0\0\0\x03rpz\x07example\0\0\xfc\0\x01\x03rpz\x07example\0\0\x06\0\x01\0\0\0<\0\x16\0\0\0\0\0\x01\0\0\x0e\x10\0\0\x02X\0\x01Q\x80\0\0\0<\x03bad\x07example\x03rpz\x07example\0\0\x05\0\x01\0\0\0<\0\x01\0\x03rpz\x07example\0\0\x06\0\x01\0\0\0<\0\x16\0\0\0\0\0\x01\0\0\x0e\x10\0\0\x02X\0\x01Q\x80\0\0\0<";
-
-// The serial and the number of rows.
-fn size(transfer: &Transfer) -> (u32, usize) {
-    let Transfer::Whole { soa, rows } = transfer;
-    (soa.serial, rows.len())
-}
-
-#[test]
-fn a_zone_is_read_from_a_message(rt: HostRuntime) -> Result<(), Fail> {
-    let origin = zone_name(rt.alloc())?;
-    let mut reader = WholeReader::start(rt.alloc(), 0, &origin, None)?;
-    let Fed::Done(transfer) = reader.feed(&STREAM[2..])? else {
-        return Err("a zone".into());
-    };
-    assert_eq!(rt; size(&transfer), (1, 1));
-    Ok(())
-}
-
-#[test]
-fn a_zone_is_read_from_bytes(rt: HostRuntime) -> Result<(), Fail> {
-    let origin = zone_name(rt.alloc())?;
-    let mut source = Bytes::new(STREAM.to_vec(rt.alloc())?);
-    let Taken::New(transfer) = read_whole(rt.alloc(), &mut source, 0, &origin, None)? else {
-        return Err("a zone".into());
-    };
-    assert_eq!(rt; size(&transfer), (1, 1));
-    Ok(())
-}
 
 // What the stream gives that comes a byte a call, where the call of this number fails.
 fn read_singly(alloc: Global, call: u64) -> Result<Option<TransferError>, Fail> {
