@@ -43,6 +43,9 @@ fn what_follows_is_left(rt: HostRuntime) -> Result<(), Fail> {
     let mut source = Bytes::new(bytes);
     assert!(rt; read_whole(rt.alloc(), &mut source, 0, &origin, None).is_ok());
     let next = read_frame(rt.alloc(), &mut source)?;
-    assert_eq!(rt; next.as_ref().map(|bytes| bytes.as_slice()), Some(b"ab".as_slice()));
+    assert_eq!(rt;
+        next.as_ref().map(|bytes| bytes.as_slice()),
+        Some(b"ab".as_slice())
+    );
     Ok(())
 }
