@@ -35,7 +35,7 @@ question_octets (Some question) = name_octets question.name ++ number_octets 2 q
 unfoldable pub count_octets : ℕ → ℕ → ℕ → ℕ → List ℕ
 count_octets questions answers authorities additionals = number_octets 2 questions ++ number_octets 2 answers ++ number_octets 2 authorities ++ number_octets 2 additionals
 
--- the header: the identifier, the flags and the counts
+-- the header: the ID, the flags and the counts
 unfoldable pub header_octets : ℕ → Header → ℕ → ℕ → ℕ → ℕ → List ℕ
 header_octets z h questions answers authorities additionals = number_octets 2 h.id ++ (first_flags h ∷ second_flags z h ∷ []) ++ count_octets questions answers authorities additionals
 
@@ -52,7 +52,7 @@ opt_count None = 0
 opt_count (Some edns) = 1
 
 -- An OPT record (RFC 6891, section 6.1.2): the root, the type 41, the size for the class, the higher bits of
--- the response code, the version and no flags for the time to live, and no options.
+-- the response code, the version and no flags for the TTL, and no options.
 unfoldable pub opt_octets : Option Edns → List ℕ
 opt_octets None = []
 opt_octets (Some edns) = 0 ∷ [] ++ number_octets 2 41 ++ number_octets 2 edns.payload ++ (edns.extended ∷ edns.version ∷ 0 ∷ 0 ∷ []) ++ number_octets 2 0

@@ -23,7 +23,7 @@ pub enum MessageFault {
     TwoOpts,
 }
 
-/// Why a message could not be read: a fault of the bytes, or want of memory.
+/// Why a message could not be read: a fault of the bytes, or out of memory.
 #[derive(Clone, Copy, Debug, PartialEq, Eq)]
 pub enum MessageError {
     OutOfMemory,

@@ -134,15 +134,6 @@ IsWhole-wire message at wire end h = IsWire-octets wire h.name h.wire_is (name_i
 pub IsWhole-read : (message : List ℕ) (at : ℕ) (wire : List ℕ) (end : ℕ) → IsWhole message at wire end → name_at message at ≡ Ok (labels_in wire, end)
 IsWhole-read message at wire end h = h.read ∙ ap (λ (name : List (List ℕ)). Ok (name, end)) (sym (labels_in-octets wire h.name h.wire_is (name_is h.name message at end h.read)))
 
--- a zero ends the name
-pub whole_end : (message : List ℕ) (at run used place : ℕ) (wire : List ℕ) (after : Option ℕ) (wire' : List ℕ) (end : ℕ) → wire' ≡ wire ++ 0 ∷ [] → end ≡ unwrap_or after (place + 1)
-    → HasWalked message at run used place wire after → piece_at run used (drop place message) ≡ Ok reading.end → IsWhole message at wire' end
-whole_end message at run used place wire after wire' end w e h piece = record {
-  name = h.labels;
-  wire_is = w ∙ ap (λ (bytes : List ℕ). bytes ++ 0 ∷ []) h.wire_is;
-  read = HasRead-ends message at run used place h.labels after h.read piece ∙ ap (λ (n : ℕ). Ok (h.labels, n)) (sym e);
-}
-
 pub whole_by : (message : List ℕ) (at run used place : ℕ) (wire : List ℕ) (after : Option ℕ) (target : ℕ) (tail wire' : List ℕ) (end : ℕ) → wire' ≡ wire ++ tail → end ≡ unwrap_or after (place + 2) → used + length tail ≤ 255
     → HasWalked message at run used place wire after → target < run → piece_at run used (drop place message) ≡ Ok (reading.pointer target) → IsTailAt message target tail → IsWhole message at wire' end
 whole_by message at run used place wire after target tail wire' end w e room h earlier piece known =
@@ -159,25 +150,40 @@ pub too_long_by : (message : List ℕ) (at run used place : ℕ) (wire : List �
 too_long_by message at run used place wire after target tail long h earlier piece known =
     known_too_long message at target used h.labels (unwrap_or after (place + 2)) known.0 (HasRead-pointer message at run used place h.labels after target h.read earlier piece) known.1 (omega (arith, long, ap length known.2))
 
--- a run of labels that is copied whole
-run_more : (message first : List ℕ) (run place place' : ℕ) → run ≤ place → place' ≡ place + length first + 1 → Begins (drop place message) (label_octets first)
-    → take (place' - run) (drop run message) ≡ take (place - run) (drop run message) ++ label_octets first
-run_more message first run place place' h e begins =
+-- a run of labels that is copied whole, and what follows it
+run_more : (message front : List ℕ) (run place place' : ℕ) → run ≤ place → place' ≡ place + length front → Begins (drop place message) front
+    → take (place' - run) (drop run message) ≡ take (place - run) (drop run message) ++ front
+run_more message front run place place' h e begins =
     let n = place - run in
-    let total : place' - run ≡ n + length (label_octets first) = omega arith in
+    let total : place' - run ≡ n + length front = omega arith in
     let there : drop n (drop run message) ≡ drop place message = drop-drop n run message ∙ ap (λ (k : ℕ). drop k message) (omega arith) in
-    ap (λ (k : ℕ). take k (drop run message)) total ∙ take-add n (length (label_octets first)) (drop run message)
-    ∙ ap (λ (l : List ℕ). take n (drop run message) ++ take (length (label_octets first)) l) there ∙ ap (λ (l : List ℕ). take n (drop run message) ++ l) begins
+    ap (λ (k : ℕ). take k (drop run message)) total ∙ take-add n (length front) (drop run message)
+    ∙ ap (λ (l : List ℕ). take n (drop run message) ++ take (length front) l) there ∙ ap (λ (l : List ℕ). take n (drop run message) ++ l) begins
 
 -- what the bytes begin with, where a label comes next
 label_begins : (run used : ℕ) (bytes first : List ℕ) → piece_at run used bytes ≡ Ok (reading.label first) → Begins bytes (label_octets first)
 label_begins run used bytes first e = (rw e at (piece_said run used bytes)).1
 
+end_begins : (run used : ℕ) (bytes : List ℕ) → piece_at run used bytes ≡ Ok reading.end → Begins bytes (0 ∷ [])
+end_begins run used bytes e = rw e at (piece_said run used bytes)
+
+-- a zero ends the name
+pub whole_end : (message : List ℕ) (at run used place : ℕ) (wire : List ℕ) (after : Option ℕ) (wire' : List ℕ) (end : ℕ) → wire' ≡ wire ++ take (place + 1 - run) (drop run message) → end ≡ unwrap_or after (place + 1) → run ≤ place
+    → HasWalked message at run used place (wire ++ take (place - run) (drop run message)) after → piece_at run used (drop place message) ≡ Ok reading.end → IsWhole message at wire' end
+whole_end message at run used place wire after wire' end w e order h piece =
+    let so_far = take (place - run) (drop run message) in
+    let more : take (place + 1 - run) (drop run message) ≡ so_far ++ 0 ∷ [] = run_more message (0 ∷ []) run place (place + 1) order refl (end_begins run used (drop place message) piece) in
+    record {
+      name = h.labels;
+      wire_is = w ∙ ap (λ (bytes : List ℕ). wire ++ bytes) more ∙ sym (append_assoc wire so_far (0 ∷ [])) ∙ ap (λ (bytes : List ℕ). bytes ++ 0 ∷ []) h.wire_is;
+      read = HasRead-ends message at run used place h.labels after h.read piece ∙ ap (λ (n : ℕ). Ok (h.labels, n)) (sym e);
+    }
+
 pub run_label : (message wire : List ℕ) (run used place : ℕ) (first : List ℕ) (place' : ℕ) → run ≤ place → place' ≡ place + length first + 1 → piece_at run used (drop place message) ≡ Ok (reading.label first)
     → wire ++ take (place' - run) (drop run message) ≡ ((wire ++ take (place - run) (drop run message)) ++ length first ∷ []) ++ first
 run_label message wire run used place first place' h e piece =
     let so_far = take (place - run) (drop run message) in
-    ap (λ (l : List ℕ). wire ++ l) (run_more message first run place place' h e (label_begins run used (drop place message) first piece))
+    ap (λ (l : List ℕ). wire ++ l) (run_more message (label_octets first) run place place' h (omega (arith, e)) (label_begins run used (drop place message) first piece))
     ∙ sym (append_assoc wire so_far (label_octets first)) ∙ sym (append_assoc (wire ++ so_far) (length first ∷ []) first)
 
 -- no label is copied yet

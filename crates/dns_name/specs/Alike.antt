@@ -1,7 +1,7 @@
--- Which names are alike, and which lie under others. Capitals of ASCII count as small letters (RFC 1035, section 2.3.3).
+-- Which names are alike, and which end with others. The case of ASCII letters doesn't count (RFC 1035, section 2.3.3).
 use Rattle.std.specs.Prelude.{ℕ, Bool, not, ◌&&◌, if◌then◌else◌, List}
 use Rattle.std.specs.Cmp.Lexicographic.{pointwise}
-use Rattle.std.specs.List.{ends_with}
+use Rattle.std.specs.List as lists
 use Rattle.std.specs.Str.{bytes_eq}
 use Rattle.dns_name.specs.Labels.{lowered}
 
@@ -10,8 +10,8 @@ abbrev pub same_name : List (List ℕ) → List (List ℕ) → Bool
 same_name a b = pointwise bytes_eq (lowered a) (lowered b)
 
 -- the last labels of the name are the zone's: it is the zone or lies below it (RFC 1034, section 3.1)
-abbrev pub is_within : List (List ℕ) → List (List ℕ) → Bool
-is_within name zone = ends_with bytes_eq (lowered name) (lowered zone)
+abbrev pub ends_with : List (List ℕ) → List (List ℕ) → Bool
+ends_with name zone = lists.ends_with bytes_eq (lowered name) (lowered zone)
 
 -- What a pattern is about: its base, or all names below it and not the base itself (draft-vixie-dnsop-dns-rpz, section 4.2).
 pub record PlainPattern : Type 0 where
@@ -20,4 +20,4 @@ pub record PlainPattern : Type 0 where
 
 -- the pattern is about this name
 abbrev pub matches : PlainPattern → List (List ℕ) → Bool
-matches pattern name = if pattern.wild then is_within name pattern.base && not (same_name name pattern.base) else same_name name pattern.base
+matches pattern name = if pattern.wild then ends_with name pattern.base && not (same_name name pattern.base) else same_name name pattern.base

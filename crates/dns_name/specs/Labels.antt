@@ -21,10 +21,10 @@ pub record IsName (name : List (List ℕ)) : Type 0 where
   pub labels : AllByRecursion IsLabel name
   pub short : length (name_octets name) ≤ 255
 
--- the name with small letters in place of ASCII's capitals
+-- the name in lower case: the capitals of ASCII alone are changed (RFC 4343, section 3)
 abbrev pub lowered : List (List ℕ) → List (List ℕ)
 lowered name = map (λ label. map to_ascii_lowercase label) name
 
--- the name is the zone, with labels before it or none; capitals count as small letters
-abbrev pub IsUnder : List (List ℕ) → List (List ℕ) → Type 0
-IsUnder name zone = (front : List (List ℕ)) × (lowered name ≡ front ++ lowered zone)
+-- the name is the zone, with labels before it or none; the case of ASCII letters doesn't count
+abbrev pub EndsWith : List (List ℕ) → List (List ℕ) → Type 0
+EndsWith name zone = (front : List (List ℕ)) × (lowered name ≡ front ++ lowered zone)

@@ -5,7 +5,7 @@ use Rattle.std.specs.Cmp.Lexicographic.{slice_cmp}
 use Rattle.std.specs.Ordering.{nat_cmp}
 use Rattle.std.specs.declared.cmp.Ordering.{Ordering}
 
--- labels compare as bytes, in small letters
+-- labels compare as bytes, in lower case
 abbrev pub label_order : List ℕ → List ℕ → Ordering
 label_order a b = slice_cmp nat_cmp (map to_ascii_lowercase a) (map to_ascii_lowercase b)
 

@@ -22,7 +22,7 @@ pub enum NameFault {
     TooLong,
 }
 
-/// Why a name could not be read: a fault of the bytes, or want of memory.
+/// Why a name could not be read: a fault of the bytes, or out of memory.
 #[derive(Clone, Copy, Debug, PartialEq, Eq)]
 pub enum NameError {
     OutOfMemory,
@@ -67,7 +67,7 @@ pub enum TextFault {
     TooLong,
 }
 
-/// Why a text is no name: a fault of the text, or want of memory.
+/// Why a text is no name: a fault of the text, or out of memory.
 #[derive(Clone, Copy, Debug, PartialEq, Eq)]
 pub enum TextError {
     OutOfMemory,
@@ -102,7 +102,7 @@ impl From<TextFault> for TextError {
 #[derive(Clone, Copy, Debug, PartialEq, Eq)]
 pub struct TooLong;
 
-/// Why two names were not joined: the name would be too long, or want of memory.
+/// Why two names were not joined: the name would be too long, or out of memory.
 #[derive(Clone, Copy, Debug, PartialEq, Eq)]
 pub enum JoinError {
     OutOfMemory,

@@ -1,8 +1,8 @@
 //! Laws of names. Each function is its clauses, and does nothing.
 
 ghost use Rattle.std.specs.Prelude.{◌≡◌, ◌≢◌, ◌↔◌, ℕ, ◌+◌, List, [], ◌++◌, length, Ok, IsTrue};
-ghost use Rattle.dns_name.specs.Labels.{IsName, name_octets, lowered, IsUnder};
-ghost use Rattle.dns_name.specs.Alike.{same_name, is_within};
+ghost use Rattle.dns_name.specs.Labels.{IsName, name_octets, lowered, EndsWith};
+ghost use Rattle.dns_name.specs.Alike.{same_name, ends_with};
 ghost use Rattle.dns_name.specs.Grammar.{NameAt};
 ghost use Rattle.dns_name.specs.Reading.{Outcome, name_at};
 ghost use Rattle.dns_name.specs.Standing.{Stands};
@@ -40,9 +40,9 @@ pub fn a_name_is_read_from_its_text()
     ensures { (name : List (List ℕ)) → IsName name → name ≢ [] → IsTrue (has_label_bytes name) → text_name (text_of name) ≡ Ok name }
 {}
 
-/// Two names are alike exactly if they are one in small letters, and one is within a zone exactly if it is
-/// the zone with labels before it or none, in small letters.
+/// Two names are alike exactly if they are one in lower case, and one ends with another exactly if it is the
+/// other with labels before it or none, in lower case.
 pub fn names_that_are_alike()
     ensures same { (name other : List (List ℕ)) → IsTrue (same_name name other) ↔ (lowered name ≡ lowered other) }
-    ensures within { (name zone : List (List ℕ)) → IsTrue (is_within name zone) ↔ IsUnder name zone }
+    ensures within { (name zone : List (List ℕ)) → IsTrue (ends_with name zone) ↔ EndsWith name zone }
 {}

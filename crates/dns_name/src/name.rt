@@ -1,8 +1,8 @@
 //! A domain name in one buffer.
 
 ghost use Rattle.std.specs.Prelude.{◌≡◌, ℕ, List, [], ◌∷◌, ◌++◌, length, IfOk, OnOk, OnErr, IsTrue, ◌↔◌};
-ghost use Rattle.dns_name.specs.Labels.{IsName, name_octets, lowered, IsUnder};
-ghost use Rattle.dns_name.specs.Alike.{same_name, is_within};
+ghost use Rattle.dns_name.specs.Labels.{IsName, name_octets, lowered, EndsWith};
+ghost use Rattle.dns_name.specs.Alike.{same_name, ends_with};
 ghost use Rattle.dns_name.specs.Wire.{labels_in, IsWire};
 
 use crate::cursor::Labels;
@@ -87,7 +87,7 @@ impl Name {
         out.append(&self.wire)
     }
 
-    /// The name with small letters in place of ASCII's capitals.
+    /// The name in lower case: the capitals of ASCII alone are changed (RFC 4343, section 3).
     pub fn lower(&self, alloc: Global) -> Result<Name, AllocError>
         ensures lowered { IfOk result (λ name. name ≡ lowered self.now) }
         ensures name { IfOk result IsName }
@@ -97,7 +97,7 @@ impl Name {
         Ok(Name { wire })
     }
 
-    /// Whether the names are alike. Capitals of ASCII count as small letters.
+    /// Whether the names are alike. The case of ASCII letters doesn't count.
     pub fn is_same(&self, other: &Name) -> bool
         ensures letters { IsTrue result ↔ (lowered self.now ≡ lowered other.now) }
         ensures test { result ≡ same_name self.now other.now }
@@ -105,11 +105,11 @@ impl Name {
         self.octets().eq_ignore_ascii_case(other.octets())
     }
 
-    /// Whether the name is the other or lies below it: its last labels are the other's. Capitals of ASCII
-    /// count as small letters.
-    pub fn is_under(&self, other: &Name) -> bool
-        ensures under { IsTrue result ↔ IsUnder self.now other.now }
-        ensures test { result ≡ is_within self.now other.now }
+    /// Whether the name is the other or lies below it: its last labels are the other's. The case of
+    /// ASCII letters doesn't count.
+    pub fn ends_with(&self, other: &Name) -> bool
+        ensures ends { IsTrue result ↔ EndsWith self.now other.now }
+        ensures test { result ≡ ends_with self.now other.now }
     {
         let zone = other.octets();
         let mut labels = self.labels();

@@ -97,7 +97,7 @@ impl<'m> Names<'m> {
         ensures exact { Gives name_and_after result (name_at self.now at) }
     {
         let message = self.message;
-        let mut wire = Vec::with_capacity(alloc, 32)?;
+        let mut wire = Vec::new(alloc);
         let mut used = 0usize;
         // the labels from here to the place are not copied yet
         let mut run = at;
@@ -107,8 +107,8 @@ impl<'m> Names<'m> {
         loop {
             match item_at(message, run, place, used)? {
                 Item::End => {
-                    wire.extend_from_slice(&message[run..place])?;
-                    wire.push(0)?;
+                    // with the zero
+                    wire.extend_from_slice(&message[run..place + 1])?;
                     let after = after.unwrap_or(place + 1);
                     return Ok(Walked {
                         name: Name::from_wire(wire),

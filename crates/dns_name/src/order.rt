@@ -15,8 +15,8 @@ fn compare_labels(a: &[u8], b: &[u8]) -> Ordering
 }
 
 impl Name {
-    /// The canonical order of names: they compare label by label from the last on, each as bytes in small
-    /// letters, and a name comes before those below it (RFC 4034, section 6.1). It takes no memory, and
+    /// The canonical order of names: they compare label by label from the last on, each as bytes in lower
+    /// case, and a name comes before those below it (RFC 4034, section 6.1). It takes no memory, and
     /// its time is linear in the bytes of both names.
     pub fn canonical_cmp(&self, other: &Name) -> Ordering
         ensures { result ≡ canonical_order self.now other.now }

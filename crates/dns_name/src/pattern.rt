@@ -8,7 +8,7 @@ use crate::name::Name;
 use std::alloc::{AllocError, Global};
 use std::marker::Model;
 
-/// A base, in small letters: the pattern is about this name alone, or, where it is wild, about all names
+/// A base, in lower case: the pattern is about this name alone, or, where it is wild, about all names
 /// below it and not the base itself.
 #[derive(Debug, Drop)]
 pub struct Pattern {
@@ -30,10 +30,10 @@ impl Model for Pattern {
 
 impl Pattern {
     /// The pattern about the base, or, if it is `wild`, about what lies below it. The base is copied, in
-    /// small letters.
+    /// lower case.
     pub fn new(alloc: Global, base: &Name, wild: bool) -> Result<Pattern, AllocError>
         ensures exact { IfOk result (λ pattern. pattern ≡ record { base = lowered base.now; wild = wild }) }
-        ensures small { IfOk result (λ pattern. lowered pattern.base ≡ pattern.base) }
+        ensures lower { IfOk result (λ pattern. lowered pattern.base ≡ pattern.base) }
     {
         Ok(Pattern {
             base: base.lower(alloc)?,
@@ -41,11 +41,11 @@ impl Pattern {
         })
     }
 
-    /// The base, in small letters.
+    /// The base, in lower case.
     pub fn base(&self) -> &Name
         ensures base { result.now ≡ self.now.base }
         ensures name { IsName result.now }
-        ensures small { lowered result.now ≡ result.now }
+        ensures lower { lowered result.now ≡ result.now }
     {
         &self.base
     }
@@ -57,13 +57,13 @@ impl Pattern {
         self.wild
     }
 
-    /// Whether the pattern is about this name. Capitals of ASCII count as small letters. It takes no
+    /// Whether the pattern is about this name. The case of ASCII letters doesn't count. It takes no
     /// memory.
     pub fn matches(&self, name: &Name) -> bool
         ensures { result ≡ matches self.now name.now }
     {
         if self.wild {
-            name.is_under(&self.base) && !name.is_same(&self.base)
+            name.ends_with(&self.base) && !name.is_same(&self.base)
         } else {
             name.is_same(&self.base)
         }

@@ -19,7 +19,7 @@ pub enum RecordFault {
     Data,
 }
 
-/// Why a record could not be read: a fault of the bytes, or want of memory.
+/// Why a record could not be read: a fault of the bytes, or out of memory.
 #[derive(Clone, Copy, Debug, PartialEq, Eq)]
 pub enum RecordError {
     OutOfMemory,

@@ -1,4 +1,4 @@
-use Rattle.std.proofs.Common.{◌∙◌, ◌++◌, ◌∷◌, [], ap, arith}
+use Rattle.std.proofs.Common.{◌∙◌, ◌++◌, [], ap, arith}
 use Rattle.std.proofs.lemmas.Result.{err_from_is_err_and}
 use Rattle.dns_name.proofs.Loop.{HasRead-start, HasRead-pointer, HasRead-fails, HasWalked-label}
 use Rattle.dns_name.proofs.TailLemmas.{whole_end, whole_by, too_long_by, IsWhole-wire, IsWhole-read, run_label, run_none}
@@ -9,27 +9,25 @@ loop-wire-init c = (
   omega arith,
   record {
     labels = [];
-    wire_is = run_none c.self.inside.message.now c.in_ok-wire.wire.items c.args.at ∙ c.in_ok-wire.ensures.items;
+    wire_is = run_none c.self.inside.message.now _ c.args.at ∙ c.new-wire.ensures.items;
     read = HasRead-start c.self.inside.message.now c.args.at;
   },
 )
 
 pub returns-in_err-item_at : goal.returns-in_err-item_at
 returns-in_err-item_at c =
-    let p = err_from_is_err_and c.from_residual-in_err-item_at.result c.from_residual-in_err-item_at.ensures.1 in
+    let p = err_from_is_err_and c.from_residual.result c.from_residual.ensures.1 in
     record { exact = rw (← c.self.view_is, p.1, p.2) (HasRead-fails c.self.inside.message.now c.args.at _ _ _ _ _ _ c.loop-wire.invariant.1.read c.in_err-item_at.ensures.item) }
 
 pub from_wire-requires : goal.from_wire-requires
 from_wire-requires c =
     let item = rw c.in-End.is at c.in_ok-item_at.ensures.item in
-    let ended = c.in_ok-push-in-End.ensures.items ∙ ap (λ bytes. bytes ++ 0 ∷ []) c.in_ok-extend_from_slice-in-End.ensures.items in
-    IsWhole-wire _ _ _ _ (whole_end c.self.inside.message.now c.args.at _ _ _ _ _ _ c.unwrap_or-after.result ended c.unwrap_or-after.ensures c.loop-wire.invariant.1 item)
+    IsWhole-wire _ _ _ _ (whole_end c.self.inside.message.now c.args.at _ _ _ _ _ _ c.unwrap_or-after.result c.in_ok-extend_from_slice-in-End.ensures.items c.unwrap_or-after.ensures c.loop-wire.invariant.0 c.loop-wire.invariant.1 item)
 
 pub returns-in-End : goal.returns-in-End
 returns-in-End c =
     let item = rw c.in-End.is at c.in_ok-item_at.ensures.item in
-    let ended = c.in_ok-push-in-End.ensures.items ∙ ap (λ bytes. bytes ++ 0 ∷ []) c.in_ok-extend_from_slice-in-End.ensures.items in
-    let whole = whole_end c.self.inside.message.now c.args.at _ _ _ _ _ _ c.unwrap_or-after.result ended c.unwrap_or-after.ensures c.loop-wire.invariant.1 item in
+    let whole = whole_end c.self.inside.message.now c.args.at _ _ _ _ _ _ c.unwrap_or-after.result c.in_ok-extend_from_slice-in-End.ensures.items c.unwrap_or-after.ensures c.loop-wire.invariant.0 c.loop-wire.invariant.1 item in
     record { exact = rw (← c.self.view_is, c.from_wire.ensures) (IsWhole-read _ _ _ _ whole) }
 
 pub loop-wire-preserved-in-Label : goal.loop-wire-preserved-in-Label

@@ -3,8 +3,8 @@ use Rattle.dns_name.specs.Labels.{lowered}
 use Rattle.dns_name.proofs.PartLemmas.{lowered-lowered}
 use Rattle.dns_name.proofs.pattern.Pattern.new.Goals as goal
 
-pub returns-clause-small : goal.returns-clause-small
-returns-clause-small c = ap lowered c.in_ok-lower.ensures.lowered ∙ lowered-lowered c.args.base.now ∙ sym c.in_ok-lower.ensures.lowered
+pub returns-clause-lower : goal.returns-clause-lower
+returns-clause-lower c = ap lowered c.in_ok-lower.ensures.lowered ∙ lowered-lowered c.args.base.now ∙ sym c.in_ok-lower.ensures.lowered
 
 pub invariant_of-result : goal.invariant_of-result
 invariant_of-result c = (c.in_ok-lower.ensures.name, ap lowered c.in_ok-lower.ensures.lowered ∙ lowered-lowered c.args.base.now ∙ sym c.in_ok-lower.ensures.lowered)
