@@ -2,6 +2,7 @@
 use Rattle.std.specs.Prelude.{◌≡◌, ℕ, ◌+◌, ◌-◌, ◌*◌, ◌≤◌, ◌<◌, ◌⊎◌, List, [], ◌∷◌, length, take, drop, Ok, Err}
 use Rattle.dns_name.specs.declared.fault.NameFault.{NameFault}
 use Rattle.dns_name.specs.declared.fault.NameFault.TheVariants.{Short, LabelType, Pointer, TooLong}
+use Rattle.dns_name.specs.declared.limits.TheConstants.{NAME_LIMIT, LABEL_LIMIT}
 use Rattle.dns_name.specs.Labels.{IsLabel, label_octets}
 use Rattle.dns_name.specs.Reading.{Outcome, with_labels, with_after}
 
@@ -12,7 +13,7 @@ Begins bytes front = take (length front) bytes ≡ front
 -- a label, which leaves room for the zero after it in a name of which `used` bytes are read
 pub record HasRoom (used : ℕ) (label : List ℕ) : Type 0 where
   pub is_label : IsLabel label
-  pub room : used + length label + 2 ≤ 255
+  pub room : used + length label + 2 ≤ NAME_LIMIT
 
 -- where a pointer of these two bytes leads: its last 14 bits
 abbrev pub target_of : ℕ → ℕ → ℕ
@@ -24,13 +25,13 @@ abbrev pub Shows : ℕ → ℕ → List ℕ → NameFault → Type 0
 -- the next byte is missing
 Shows run used [] Short = Unit {0}
 -- a label is cut off, or a pointer
-Shows run used (n ∷ rest) Short = ((1 ≤ n) × (n ≤ 63) × (length rest < n)) ⊎ ((192 ≤ n) × (rest ≡ []))
+Shows run used (n ∷ rest) Short = ((1 ≤ n) × (n ≤ LABEL_LIMIT) × (length rest < n)) ⊎ ((192 ≤ n) × (rest ≡ []))
 -- the byte begins with the bits 01 or 10
 Shows run used (n ∷ rest) LabelType = (64 ≤ n) × (n < 192)
 -- a pointer leads to where the labels began, or behind it
 Shows run used (n ∷ low ∷ rest) Pointer = (192 ≤ n) × (run ≤ target_of n low)
 -- the label is whole, and after it the zero has no room
-Shows run used (n ∷ rest) TooLong = (1 ≤ n) × (n ≤ 63) × (n ≤ length rest) × (255 < used + n + 2)
+Shows run used (n ∷ rest) TooLong = (1 ≤ n) × (n ≤ LABEL_LIMIT) × (n ≤ length rest) × (NAME_LIMIT < used + n + 2)
 Shows run used bytes fault = ⊥
 
 -- What stands at a place of a message, in a name of which `used` bytes are read, and whose labels stand one

@@ -1,5 +1,6 @@
 -- Names made of others.
 use Rattle.std.specs.Prelude.{◌≡◌, ℕ, nat_lt, if◌then◌else◌, List, [], ◌∷◌, ◌++◌, length, Option, Some, None, Result, Ok, Err}
+use Rattle.dns_name.specs.declared.limits.TheConstants.{NAME_LIMIT}
 use Rattle.dns_name.specs.Labels.{name_octets}
 use Rattle.dns_name.specs.declared.fault.TooLong.{TooLong}
 use Rattle.dns_name.specs.declared.fault.JoinError.{JoinError}
@@ -12,7 +13,7 @@ parent_of (label ∷ others) = Some others
 
 -- the first name's labels and then the other's, unless they are written in more than 255 bytes (RFC 1035, section 2.3.4)
 abbrev pub joined : List (List ℕ) → List (List ℕ) → Result (List (List ℕ)) TooLong
-joined front back = if nat_lt 255 (length (name_octets (front ++ back))) then Err (record {}) else Ok (front ++ back)
+joined front back = if nat_lt NAME_LIMIT (length (name_octets (front ++ back))) then Err (record {}) else Ok (front ++ back)
 
 -- What a function returned is this, unless memory ran out.
 abbrev pub JoinFails : JoinError → Result (List (List ℕ)) TooLong → Type 0

@@ -2,11 +2,12 @@
 use Rattle.std.specs.Prelude.{◌≡◌, ℕ, ◌≤◌, List, [], ◌∷◌, ◌++◌, length, map}
 use Rattle.std.specs.List.{flat_map, AllByRecursion}
 use Rattle.std.specs.Char.{to_ascii_lowercase}
+use Rattle.dns_name.specs.declared.limits.TheConstants.{NAME_LIMIT, LABEL_LIMIT}
 
 -- a label has 1 to 63 bytes (RFC 1035, section 2.3.4)
 pub record IsLabel (label : List ℕ) : Type 0 where
   pub not_empty : 1 ≤ length label
-  pub short : length label ≤ 63
+  pub short : length label ≤ LABEL_LIMIT
 
 -- a label as it is written: its length and its bytes
 abbrev pub label_octets : List ℕ → List ℕ
@@ -19,7 +20,7 @@ name_octets labels = flat_map label_octets labels ++ 0 ∷ []
 -- a name is written in at most 255 bytes, its zero counted
 pub record IsName (name : List (List ℕ)) : Type 0 where
   pub labels : AllByRecursion IsLabel name
-  pub short : length (name_octets name) ≤ 255
+  pub short : length (name_octets name) ≤ NAME_LIMIT
 
 -- the name in lower case: the capitals of ASCII alone are changed (RFC 4343, section 3)
 abbrev pub lowered : List (List ℕ) → List (List ℕ)

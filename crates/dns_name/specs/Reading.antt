@@ -2,6 +2,7 @@
 use Rattle.std.specs.Prelude.{◌≡◌, ℕ, zero, suc, nat_lt, ◌==◌, if◌then◌else◌, ◌+◌, ◌-◌, ◌*◌, List, [], ◌∷◌, ◌++◌, length, take, drop, Result, Ok, Err}
 use Rattle.dns_name.specs.declared.fault.NameFault.{NameFault}
 use Rattle.dns_name.specs.declared.fault.NameFault.TheVariants.{Short, LabelType, Pointer, TooLong}
+use Rattle.dns_name.specs.declared.limits.TheConstants.{NAME_LIMIT}
 use Rattle.dns_name.specs.declared.fault.NameError.{NameError}
 use Rattle.dns_name.specs.declared.fault.NameError.TheVariants as errors
 
@@ -22,7 +23,7 @@ abbrev pub piece_at : ℕ → ℕ → List ℕ → Result Piece NameFault
 piece_at run used [] = Err Short
 piece_at run used (n ∷ rest) =
     if n == 0 then Ok end
-    else (if nat_lt n 64 then (if nat_lt (length rest) n then Err Short else (if nat_lt 255 (used + n + 2) then Err TooLong else Ok (label (take n rest))))
+    else (if nat_lt n 64 then (if nat_lt (length rest) n then Err Short else (if nat_lt NAME_LIMIT (used + n + 2) then Err TooLong else Ok (label (take n rest))))
     else (if nat_lt n 192 then Err LabelType else pointer_at run n rest))
 
 -- what follows a result, which ends at the first fault

@@ -4,6 +4,7 @@ use Rattle.std.specs.Prelude.{◌≡◌, ℕ, nat_lt, nat_le, nat_eq, ◌==◌, 
 use Rattle.std.specs.Char.{is_ascii_alphanumeric}
 use Rattle.std.specs.List.{list_all, slice_split, ends_with, join_with_byte}
 use Rattle.dns_name.specs.Labels.{name_octets}
+use Rattle.dns_name.specs.declared.limits.TheConstants.{NAME_LIMIT, LABEL_LIMIT}
 use Rattle.dns_name.specs.declared.fault.TextFault.{TextFault}
 use Rattle.dns_name.specs.declared.fault.TextFault.TheVariants.{Empty, Label, Char, TooLong}
 use Rattle.dns_name.specs.declared.fault.TextError.{TextError}
@@ -29,7 +30,7 @@ split_at_dots text = slice_split is_dot text
 
 -- each label has 1 to 63 bytes
 abbrev pub has_label_lengths : List (List ℕ) → Bool
-has_label_lengths labels = list_all (λ label. nat_le 1 (length label) && nat_le (length label) 63) labels
+has_label_lengths labels = list_all (λ label. nat_le 1 (length label) && nat_le (length label) LABEL_LIMIT) labels
 
 abbrev pub text_labels : List ℕ → List (List ℕ)
 text_labels text = split_at_dots (without_last_dot text)
@@ -40,7 +41,7 @@ text_name text =
     if length (without_last_dot text) == 0 then Err Empty
     else (if not (has_text_bytes text) then Err Char
     else (if not (has_label_lengths (text_labels text)) then Err Label
-    else (if nat_lt 255 (length (name_octets (text_labels text))) then Err TooLong
+    else (if nat_lt NAME_LIMIT (length (name_octets (text_labels text))) then Err TooLong
     else Ok (text_labels text))))
 
 -- What a function returned is the name of the text or its fault, unless memory ran out.

@@ -5,6 +5,7 @@ ghost use Rattle.dns_name.specs.Reading.{piece_at};
 ghost use Rattle.dns_name.specs.Item.{piece_of, IsWithin};
 
 use crate::fault::NameFault;
+use crate::limits::NAME_LIMIT;
 
 /// What a name goes on with.
 #[derive(Clone, Copy, Debug)]
@@ -46,7 +47,7 @@ pub fn item_at(message: &[u8], run: usize, place: usize, used: usize) -> Result<
             if rest.len() < len {
                 return Err(NameFault::Short);
             }
-            if used + len + 2 > 255 {
+            if used + len + 2 > NAME_LIMIT {
                 return Err(NameFault::TooLong);
             }
             Ok(Item::Label(&rest[..len]))

@@ -7,6 +7,7 @@ mod cursor;
 mod fault;
 mod item;
 pub mod laws;
+mod limits;
 mod name;
 mod names;
 mod octets;
@@ -17,6 +18,7 @@ mod text;
 
 pub use cursor::Labels;
 pub use fault::{JoinError, NameError, NameFault, TextError, TextFault, TooLong};
+pub use limits::{LABEL_LIMIT, NAME_LIMIT};
 pub use name::Name;
 pub use names::Names;
 pub use octets::Octets;

@@ -7,6 +7,7 @@ ghost use Rattle.dns_name.specs.Tails.{IsNameAt, IsTailAt, IsTail, AreTails, nam
 
 use crate::fault::{NameError, NameFault};
 use crate::item::{Item, item_at};
+use crate::limits::NAME_LIMIT;
 use crate::name::Name;
 use std::alloc::{AllocError, Global};
 use std::marker::Model;
@@ -16,6 +17,9 @@ const FREE_POINTERS: usize = 256;
 
 /// How many places a pointer of 14 bits can lead to (RFC 1035, section 4.1.4).
 const POINTED_PLACES: usize = 16_384;
+
+/// How many labels and pointers a name passes at most, and its zero: each label takes two bytes at least.
+const NAME_STEPS: usize = NAME_LIMIT / 2 + POINTED_PLACES + 1;
 
 // Where in the octets the name that stands at a place has its own.
 #[derive(Clone, Copy, Debug)]
@@ -124,7 +128,7 @@ impl<'m> Names<'m> {
                     wire.extend_from_slice(&message[run..place])?;
                     let end = after.unwrap_or(place + 2);
                     if let Some(tail) = self.tail_at(target) {
-                        if used + tail.len() > 255 {
+                        if used + tail.len() > NAME_LIMIT {
                             return Err(NameError::Fault(NameFault::TooLong));
                         }
                         wire.extend_from_slice(tail)?;
@@ -237,8 +241,7 @@ fn mark(
     let to = octets.len();
     let mut place = at;
     let mut from = first;
-    // a name has at most 127 labels, and follows at most 16,384 pointers
-    for _step in 0..16_512 {
+    for _step in 0..NAME_STEPS {
         if !add(index, spans, Span { place, from, to })? {
             return Ok(());
         }

@@ -5,6 +5,7 @@ ghost use Rattle.dns_name.specs.Labels.{IsName};
 ghost use Rattle.dns_name.specs.Joined.{parent_of, joined, JoinGives};
 
 use crate::fault::{JoinError, TooLong};
+use crate::limits::NAME_LIMIT;
 use crate::name::Name;
 use std::alloc::{AllocError, Global};
 
@@ -36,7 +37,7 @@ impl Name {
         // all but the zero at the end
         let labels = &front[..front.len() - 1];
         let len = labels.len() + back.len();
-        if len > 255 {
+        if len > NAME_LIMIT {
             return Err(JoinError::Fault(TooLong));
         }
         let mut wire = Vec::with_capacity(alloc, len)?;

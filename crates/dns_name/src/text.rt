@@ -6,6 +6,7 @@ ghost use Rattle.dns_name.specs.Text as text_form;
 ghost use Rattle.dns_name.specs.Text.{split_at_dots, text_name, TextGives};
 
 use crate::fault::{TextError, TextFault};
+use crate::limits::{LABEL_LIMIT, NAME_LIMIT};
 use crate::name::Name;
 use std::alloc::{AllocError, Global};
 
@@ -37,7 +38,7 @@ fn has_label_lengths(labels: &[u8]) -> bool
 {
     labels
         .split(|byte| *byte == b'.')
-        .all(|label| matches!(label.len(), 1..=63))
+        .all(|label| matches!(label.len(), 1..=LABEL_LIMIT))
 }
 
 /// The labels of a text with the dots between them, or the first fault.
@@ -56,7 +57,7 @@ fn labels_of(text: &[u8]) -> Result<&[u8], TextFault>
         return Err(TextFault::Label);
     }
     // A length byte before each label takes the place of a dot, but for the first, and a zero ends the name.
-    if labels.len() + 2 > 255 {
+    if labels.len() + 2 > NAME_LIMIT {
         return Err(TextFault::TooLong);
     }
     Ok(labels)

@@ -13,13 +13,13 @@ pub returns-then-not-has_label_lengths-clause-exact : goal.returns-then-not-has_
 returns-then-not-has_label_lengths-clause-exact c =
     text_label _ _ c.without_last_dot-labels.ensures (sym c.is_empty.ensures ∙ c.if-is_empty.false) (sym c.has_text_bytes.ensures ∙ c.if-not-has_text_bytes.false) (sym c.has_label_lengths.ensures ∙ c.if-not-has_label_lengths.true)
 
-pub returns-then-labels-gt255-clause-exact : goal.returns-then-labels-gt255-clause-exact
-returns-then-labels-gt255-clause-exact c =
-    text_long _ _ c.without_last_dot-labels.ensures (sym c.is_empty.ensures ∙ c.if-is_empty.false) (sym c.has_text_bytes.ensures ∙ c.if-not-has_text_bytes.false) (sym c.has_label_lengths.ensures ∙ c.if-not-has_label_lengths.false) c.if-labels-gt255.true
+pub returns-then-labels-gt-NAME_LIMIT-clause-exact : goal.returns-then-labels-gt-NAME_LIMIT-clause-exact
+returns-then-labels-gt-NAME_LIMIT-clause-exact c =
+    text_long _ _ c.without_last_dot-labels.ensures (sym c.is_empty.ensures ∙ c.if-is_empty.false) (sym c.has_text_bytes.ensures ∙ c.if-not-has_text_bytes.false) (sym c.has_label_lengths.ensures ∙ c.if-not-has_label_lengths.false) c.if-labels-gt-NAME_LIMIT.true
 
 pub returns-clause-exact : goal.returns-clause-exact
 returns-clause-exact c =
-    text_ok _ _ c.without_last_dot-labels.ensures (sym c.is_empty.ensures ∙ c.if-is_empty.false) (sym c.has_text_bytes.ensures ∙ c.if-not-has_text_bytes.false) (sym c.has_label_lengths.ensures ∙ c.if-not-has_label_lengths.false) c.if-labels-gt255.false
+    text_ok _ _ c.without_last_dot-labels.ensures (sym c.is_empty.ensures ∙ c.if-is_empty.false) (sym c.has_text_bytes.ensures ∙ c.if-not-has_text_bytes.false) (sym c.has_label_lengths.ensures ∙ c.if-not-has_label_lengths.false) c.if-labels-gt-NAME_LIMIT.false
 
 pub returns-clause-name : goal.returns-clause-name
-returns-clause-name c = IsName-split c.without_last_dot-labels.result.now (sym c.has_label_lengths.ensures ∙ c.if-not-has_label_lengths.false) c.if-labels-gt255.false
+returns-clause-name c = IsName-split c.without_last_dot-labels.result.now (sym c.has_label_lengths.ensures ∙ c.if-not-has_label_lengths.false) c.if-labels-gt-NAME_LIMIT.false

@@ -39,12 +39,12 @@ loop-wire-preserved-in-Label c =
       HasWalked-label c.self.inside.message.now c.args.at _ _ _ _ _ label _ _ _ (run_label c.self.inside.message.now c.loop-wire.wire.items c.loop-wire.run c.loop-wire.used c.loop-wire.place label _ c.loop-wire.invariant.0 (omega arith) item) (omega arith) (omega arith) c.loop-wire.invariant.1 item within.0 within.1,
     )
 
-pub returns-then-used-tail-gt255 : goal.returns-then-used-tail-gt255
-returns-then-used-tail-gt255 c =
+pub returns-then-used-tail-gt-NAME_LIMIT : goal.returns-then-used-tail-gt-NAME_LIMIT
+returns-then-used-tail-gt-NAME_LIMIT c =
     let item = rw c.in-Pointer.is at c.in_ok-item_at.ensures.item in
     let within = rw c.in-Pointer.is at c.in_ok-item_at.ensures.within in
     let known = rw (← c.self.view_is) at c.in-Some.ensures in
-    record { exact = rw (← c.self.view_is) (too_long_by c.self.inside.message.now c.args.at _ _ _ _ _ c.in-Pointer.target c.in-Some.tail.now (omega (arith, c.if-used-tail-gt255.true)) c.loop-wire.invariant.1 within item known) }
+    record { exact = rw (← c.self.view_is) (too_long_by c.self.inside.message.now c.args.at _ _ _ _ _ c.in-Pointer.target c.in-Some.tail.now (omega (arith, c.if-used-tail-gt-NAME_LIMIT.true)) c.loop-wire.invariant.1 within item known) }
 
 pub from_wire-requires-in-Some : goal.from_wire-requires-in-Some
 from_wire-requires-in-Some c =
@@ -52,7 +52,7 @@ from_wire-requires-in-Some c =
     let within = rw c.in-Pointer.is at c.in_ok-item_at.ensures.within in
     let known = rw (← c.self.view_is) at c.in-Some.ensures in
     let extended = c.in_ok-extend_from_slice-in-Pointer-2.ensures.items ∙ ap (λ bytes. bytes ++ c.in-Some.tail.now) c.in_ok-extend_from_slice-in-Pointer.ensures.items in
-    IsWhole-wire _ _ _ _ (whole_by c.self.inside.message.now c.args.at _ _ _ _ _ c.in-Pointer.target c.in-Some.tail.now _ c.unwrap_or-end.result extended c.unwrap_or-end.ensures (omega (arith, c.if-used-tail-gt255.false)) c.loop-wire.invariant.1 within item known)
+    IsWhole-wire _ _ _ _ (whole_by c.self.inside.message.now c.args.at _ _ _ _ _ c.in-Pointer.target c.in-Some.tail.now _ c.unwrap_or-end.result extended c.unwrap_or-end.ensures (omega (arith, c.if-used-tail-gt-NAME_LIMIT.false)) c.loop-wire.invariant.1 within item known)
 
 pub returns-in-Some : goal.returns-in-Some
 returns-in-Some c =
@@ -60,7 +60,7 @@ returns-in-Some c =
     let within = rw c.in-Pointer.is at c.in_ok-item_at.ensures.within in
     let known = rw (← c.self.view_is) at c.in-Some.ensures in
     let extended = c.in_ok-extend_from_slice-in-Pointer-2.ensures.items ∙ ap (λ bytes. bytes ++ c.in-Some.tail.now) c.in_ok-extend_from_slice-in-Pointer.ensures.items in
-    let whole = whole_by c.self.inside.message.now c.args.at _ _ _ _ _ c.in-Pointer.target c.in-Some.tail.now _ c.unwrap_or-end.result extended c.unwrap_or-end.ensures (omega (arith, c.if-used-tail-gt255.false)) c.loop-wire.invariant.1 within item known in
+    let whole = whole_by c.self.inside.message.now c.args.at _ _ _ _ _ c.in-Pointer.target c.in-Some.tail.now _ c.unwrap_or-end.result extended c.unwrap_or-end.ensures (omega (arith, c.if-used-tail-gt-NAME_LIMIT.false)) c.loop-wire.invariant.1 within item known in
     record { exact = rw (← c.self.view_is, c.from_wire-in-Some.ensures) (IsWhole-read _ _ _ _ whole) }
 
 pub loop-wire-preserved : goal.loop-wire-preserved
