@@ -3,7 +3,7 @@ use Rattle.std.proofs.Common.{ℕ, ◌+◌, Bool, true, false, not, ◌&&◌, co
 use Rattle.std.specs.Prelude.{IfSome, IfErr, nat_le, ◌==◌}
 use Rattle.dns_name.specs.Reading.{◌>>=◌}
 use Rattle.dns_record.specs.declared.soa.Soa.{Soa}
-use Rattle.dns_name.specs.Alike.{same_name, is_within}
+use Rattle.dns_name.specs.Alike.{same_name, ends_with}
 use Rattle.dns_record.specs.Record.{PlainRecord}
 use Rattle.dns_record.specs.Serial.{is_newer}
 use Rattle.dns_message.specs.declared.fault.MessageFault.{MessageFault}
@@ -57,7 +57,7 @@ own_head asked is_first m =
     five_own (not (m.header.id == asked.id)) (not (m.header.qr && m.header.opcode == 0)) m.header.tc (not (m.header.rcode == 0)) (not (question_fits asked is_first m.question)) m.header.rcode
 
 own_place : (origin : List (List ℕ)) (holds : Bool) (r : PlainRecord) → IsOwn (place_fault origin holds r)
-own_place origin holds r = three_own (not (r.class == 1)) holds (same_name r.owner origin) (is_within r.owner origin)
+own_place origin holds r = three_own (not (r.class == 1)) holds (same_name r.owner origin) (ends_with r.owner origin)
 
 own_unless : {X : Type 0} (fault : Option TransferFault) (x : X) → IsOwn fault → FailsOwn (unless fault x)
 own_unless None x p = tt

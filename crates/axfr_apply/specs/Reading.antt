@@ -4,7 +4,7 @@ use Rattle.std.specs.Prelude.{ℕ, ◌+◌, ◌==◌, nat_lt, nat_le, Bool, not,
 use Rattle.std.specs.Result.{result_ok}
 use Rattle.std.specs.List.{list_any, filter_map}
 use Rattle.std.specs.Option.{option_or}
-use Rattle.dns_name.specs.Alike.{same_name, is_within}
+use Rattle.dns_name.specs.Alike.{same_name, ends_with}
 use Rattle.dns_record.specs.declared.soa.Soa.{Soa}
 use Rattle.dns_record.specs.Record.{PlainRecord}
 use Rattle.dns_record.specs.Serial.{is_newer}
@@ -66,7 +66,7 @@ abbrev pub place_fault : List (List ℕ) → Bool → PlainRecord → Option Tra
 place_fault origin holds_soa r =
     if not (r.class == 1) then Some WrongClass
     else (if holds_soa then (if same_name r.owner origin then None else Some WrongSoaOwner)
-    else (if is_within r.owner origin then None else Some OutOfZone))
+    else (if ends_with r.owner origin then None else Some OutOfZone))
 
 -- The first SOA has the serial that we have, or a newer one (RFC 1982, section 3.2).
 abbrev pub first_soa_end : Option ℕ → ℕ → Option Outcome

@@ -23,7 +23,7 @@ pub fn check_place(origin: &Name, holds_soa: bool, rr: &Record) -> Result<(), Tr
         } else {
             Err(TransferFault::WrongSoaOwner)
         }
-    } else if rr.owner().is_under(origin) {
+    } else if rr.owner().ends_with(origin) {
         Ok(())
     } else {
         Err(TransferFault::OutOfZone)

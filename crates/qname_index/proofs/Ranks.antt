@@ -7,8 +7,8 @@ use Rattle.std.specs.declared.cmp.Ordering.{Ordering}
 use Rattle.std.specs.declared.cmp.Ordering.TheVariants.{Less, Equal, Greater}
 use Rattle.std.proofs.lemmas.Bool.{cases_Bool, and_parts, and_from}
 use Rattle.std.proofs.lemmas.Map.Text.{is_eq-slice_cmp}
-use Rattle.dns_name.specs.Alike.{PlainPattern, matches, same_name, is_within}
-use Rattle.dns_name.specs.Labels.{IsName, IsUnder, name_octets, lowered}
+use Rattle.dns_name.specs.Alike.{PlainPattern, matches, same_name, ends_with}
+use Rattle.dns_name.specs.Labels.{IsName, EndsWith, name_octets, lowered}
 use Rattle.qname_index.specs.Index.{IsKey}
 use Rattle.qname_index.specs.Rank.{Rank, rank_of, rank_order, rank_total, exact_rank, wild_rank, has_rank}
 
@@ -16,7 +16,7 @@ use Rattle.qname_index.specs.Rank.{Rank, rank_of, rank_order, rank_total, exact_
 pub record Laws : Type 0 where
   pub told : (name other : List (List ℕ)) → IsName name → IsName other → name_octets name ≡ name_octets other → name ≡ other
   pub same : (name other : List (List ℕ)) → IsTrue (same_name name other) ↔ (lowered name ≡ lowered other)
-  pub within : (name zone : List (List ℕ)) → IsTrue (is_within name zone) ↔ IsUnder name zone
+  pub within : (name zone : List (List ℕ)) → IsTrue (ends_with name zone) ↔ EndsWith name zone
 
 then_equal : (a b : Ordering) → ordering_then a b ≡ Equal → (a ≡ Equal) × (b ≡ Equal)
 then_equal Less b h = absurd (true≢false (ap is_lt h))
@@ -44,7 +44,7 @@ IsLeft name count p = matches p name ≡ true → (p.wild ≡ true) × (length p
 
 module _ (laws : Laws) (name : List (List ℕ)) (small : lowered name ≡ name) (p : PlainPattern) (key : IsKey p) where
   abbrev about : Bool → Bool
-  about wild = if wild then is_within name p.base && not (same_name name p.base) else same_name name p.base
+  about wild = if wild then ends_with name p.base && not (same_name name p.base) else same_name name p.base
 
   about_is : (b : Bool) → p.wild ≡ b → matches p name ≡ about b
   about_is b w = ap about w
@@ -67,7 +67,7 @@ module _ (laws : Laws) (name : List (List ℕ)) (small : lowered name ≡ name) 
 
   wild_base : p.wild ≡ true → matches p name ≡ true → IsAbove
   wild_base w m =
-      let both = and_parts (is_within name p.base) (not (same_name name p.base)) (sym (about_is true w) ∙ m) in
+      let both = and_parts (ends_with name p.base) (not (same_name name p.base)) (sym (about_is true w) ∙ m) in
       let under = (laws.within name p.base).0 both.0 in
       above under.0 (sym small ∙ under.1 ∙ ap (λ (b : List (List ℕ)). under.0 ++ b) key.small) (λ e. true≢false (sym both.1 ∙ ap not ((laws.same name p.base).1 (ap lowered e))))
 
@@ -76,7 +76,7 @@ module _ (laws : Laws) (name : List (List ℕ)) (small : lowered name ≡ name) 
       let under : lowered name ≡ take m name ++ lowered p.base = small ∙ sym (take-append-drop m name) ∙ ap (λ (b : List (List ℕ)). take m name ++ b) (sym e ∙ sym key.small) in
       let whole : (lowered name ≡ lowered p.base) → name ≡ drop m name = λ s. sym small ∙ s ∙ key.small ∙ e in
       let differs : same_name name p.base ≡ false = ⊎_elim (λ t. absurd (omega (arith, ap length (whole ((laws.same name p.base).0 t)), length-drop m name))) (λ f. f) (cases_Bool (same_name name p.base)) in
-      about_is true w ∙ and_from (is_within name p.base) (not (same_name name p.base)) ((laws.within name p.base).1 (take m name, under)) (ap not differs)
+      about_is true w ∙ and_from (ends_with name p.base) (not (same_name name p.base)) ((laws.within name p.base).1 (take m name, under)) (ap not differs)
 
   exact_is : p.wild ≡ false → p.base ≡ name → rank_of p ≡ exact_rank name
   exact_is w e = λ i. record { wild = w i; labels = length (e i); octets = name_octets (e i) }

@@ -4,8 +4,8 @@ use Rattle.std.specs.Prelude.{codes, if◌then◌else◌, ◌==◌, nat_lt}
 use Rattle.std.specs.Char.{is_ascii_digit}
 use Rattle.std.specs.Fmt.{decimal}
 use Rattle.std.proofs.lemmas.List.{map-append, length-map, take_at}
-use Rattle.dns_name.specs.Alike.{PlainPattern, is_within}
-use Rattle.dns_name.specs.Labels.{lowered, IsUnder}
+use Rattle.dns_name.specs.Alike.{PlainPattern, ends_with}
+use Rattle.dns_name.specs.Labels.{lowered, EndsWith}
 use Rattle.ip_prefix.specs.declared.Addr.{Addr}
 use Rattle.ip_prefix.specs.declared.Addr.TheVariants.{V4, V6}
 use Rattle.ip_prefix.specs.declared.prefix.PrefixFault.{PrefixFault}
@@ -147,17 +147,17 @@ in_zone : (b : Bool) (r : Result Trigger Inert) (t : Trigger) → (if b then r e
 in_zone true r t h = h
 in_zone false r t h = absurd cc
 
-names_before : (front origin : List (List ℕ)) → is_within (front ++ origin) origin ≡ true → trigger (front ++ origin) origin ≡ labels_trigger front
+names_before : (front origin : List (List ℕ)) → ends_with (front ++ origin) origin ≡ true → trigger (front ++ origin) origin ≡ labels_trigger front
 unfolding trigger
 names_before front origin within =
     let count : length front ≡ length (front ++ origin) - length origin = omega (arith, length-append front origin) in
     rw within (ap labels_trigger (take_at front origin (length (front ++ origin) - length origin) count))
 
-pub trigger_back : ((name zone : List (List ℕ)) → IsTrue (is_within name zone) ↔ IsUnder name zone) → (owner origin : List (List ℕ)) (t : Trigger) (name : List (List ℕ)) → trigger owner origin ≡ Ok t → canonical_owner t origin ≡ Ok name → trigger name origin ≡ Ok t
+pub trigger_back : ((name zone : List (List ℕ)) → IsTrue (ends_with name zone) ↔ EndsWith name zone) → (owner origin : List (List ℕ)) (t : Trigger) (name : List (List ℕ)) → trigger owner origin ≡ Ok t → canonical_owner t origin ≡ Ok name → trigger name origin ≡ Ok t
 unfolding trigger
 trigger_back within owner origin t name h k =
     let front : List (List ℕ) = trigger_labels t in
     let whole : front ++ origin ≡ name = joined_is front origin name k in
-    let under : is_within (front ++ origin) origin ≡ true = (within (front ++ origin) origin).1 (lowered front, map-append lower_case front origin) in
-    let back : IsBack t = labels_back (labels_before owner origin) t (in_zone (is_within owner origin) (labels_trigger (labels_before owner origin)) t h) in
+    let under : ends_with (front ++ origin) origin ≡ true = (within (front ++ origin) origin).1 (lowered front, map-append lower_case front origin) in
+    let back : IsBack t = labels_back (labels_before owner origin) t (in_zone (ends_with owner origin) (labels_trigger (labels_before owner origin)) t h) in
     ap (λ (n : List (List ℕ)). trigger n origin) (sym whole) ∙ names_before front origin under ∙ back

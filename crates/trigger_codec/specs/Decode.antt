@@ -1,6 +1,6 @@
 -- The trigger that an owner names (draft-vixie-dnsop-dns-rpz, section 4).
 use Rattle.std.specs.Prelude.{◌≡◌, ℕ, ◌-◌, ◌==◌, true, false, if◌then◌else◌, List, [], ◌∷◌, length, take, Option, Some, None, Result, Ok, Err, slice_get}
-use Rattle.dns_name.specs.Alike.{PlainPattern, is_within}
+use Rattle.dns_name.specs.Alike.{PlainPattern, ends_with}
 use Rattle.dns_name.specs.Labels.{lowered}
 use Rattle.ip_prefix.specs.Prefix.{PlainPrefix}
 use Rattle.trigger_codec.specs.Address.{prefix_read}
@@ -44,7 +44,7 @@ labels_trigger labels = by_last (slice_get labels (length labels - 1)) labels
 
 -- The trigger that an owner names in the zone of this origin, or why it names none.
 unfoldable pub trigger : List (List ℕ) → List (List ℕ) → Result Trigger Inert
-trigger owner origin = if is_within owner origin then labels_trigger (labels_before owner origin) else Err OutOfZone
+trigger owner origin = if ends_with owner origin then labels_trigger (labels_before owner origin) else Err OutOfZone
 
 -- What a function returned is this, unless memory ran out.
 abbrev pub Fails : {X : Type 0} → TriggerError → Result X Inert → Type 0

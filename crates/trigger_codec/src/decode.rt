@@ -17,7 +17,7 @@ use std::alloc::{AllocError, Global};
 pub fn trigger_of(alloc: Global, owner: &Name, origin: &Name) -> Result<Trigger, TriggerError>
     ensures { Gives result (trigger owner.now origin.now) }
 {
-    if !owner.is_under(origin) {
+    if !owner.ends_with(origin) {
         return Err(TriggerError::Inert(Inert::OutOfZone));
     }
     let count = owner.label_count() - origin.label_count();

@@ -3,7 +3,7 @@
 use Rattle.std.proofs.Common.{◌≡◌, ℕ, ◌-◌, ◌==◌, Bool, true, false, IsTrue, ◌↔◌, List, [], ◌∷◌, length, take, Option, Some, None, Result, Ok, Err, sym, ap, ◌∙◌, true≢false}
 use Rattle.std.specs.Prelude.{if◌then◌else◌, slice_get}
 use Rattle.std.specs.BTreeMap.{is_at}
-use Rattle.dns_name.specs.Alike.{PlainPattern, is_within}
+use Rattle.dns_name.specs.Alike.{PlainPattern, ends_with}
 use Rattle.dns_name.specs.Labels.{IsName, name_octets, lowered}
 use Rattle.dns_name.proofs.PartLemmas.{IsName-take}
 use Rattle.dns_name.proofs.WireLemmas.{IsName-rest, IsName-lowered}
@@ -103,7 +103,7 @@ named_within false outcome inert h = tt
 
 named_trigger : (owner origin : List (List ℕ)) → IsName owner → GivesNamed (trigger owner origin)
 unfolding trigger
-named_trigger owner origin h = named_within (is_within owner origin) (labels_trigger (labels_before owner origin)) _ (named_labels (labels_before owner origin) (IsName-take owner (length owner - length origin) h))
+named_trigger owner origin h = named_within (ends_with owner origin) (labels_trigger (labels_before owner origin)) _ (named_labels (labels_before owner origin) (IsName-take owner (length owner - length origin) h))
 
 named_some : (outcome : Result Trigger Inert) → GivesNamed outcome → AllNamed (named outcome)
 named_some (Ok t) h = h
