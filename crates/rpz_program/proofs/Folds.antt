@@ -74,6 +74,7 @@ module _ {M W : Type 0} (too_many too_long : W) (step : M → List ℕ → Resul
   -- a line that is taken is one line
   one-counts : (many long : Bool) (number : ℕ) (stepped : Result (M × List ℕ) W) (next : (ℕ × M) × List ℕ)
       → (if many then Err too_many else (if long then Err too_long else numbered number stepped)) ≡ Ok next → next.0.0 ≡ number + 1
+  unfolding next_number
   one-counts true long number stepped next is = absurd (cc)
   one-counts false true number stepped next is = absurd (cc)
   one-counts false false number (Ok x) next is = sym (ap next_number is)
@@ -94,6 +95,7 @@ module _ {M W : Type 0} (too_many too_long : W) (step : M → List ℕ → Resul
 
   -- after a run of lines the number is higher by as many
   pub ran-counts : (lines : List (List ℕ)) (old new : ℕ × M) (written : List ℕ) → ran too_many too_long step old lines ≡ (written, Ok new) → new.0 ≡ old.0 + length lines
+  unfolding number_in
   ran-counts [] old new written is = omega (arith, ap number_in (ap (λ (r : Ran M W). r.1) is))
   ran-counts (line ∷ lines) old new written is =
       on-counts old.0 (judged too_many too_long step old line) lines new written

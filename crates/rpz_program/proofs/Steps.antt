@@ -32,7 +32,12 @@ bad_number (Err WriteFault) = 0
 bad_number (Err OutOfMemory) = 0
 bad_number (Ok u) = 0
 
-bad_is : {W : Type 0} (number : ℕ) (other : W) (bad : ℕ) (why : W) → Err {A = Unit {0}} (BadLine number other) ≡ Err (BadLine bad why) → bad ≡ number
+-- a replay that stops
+abbrev pub stop_of : {W : Type 0} → Stop W → Result (Unit {0}) (Stop W)
+stop_of stop = Err stop
+
+bad_is : {W : Type 0} (number : ℕ) (other : W) (bad : ℕ) (why : W) → stop_of (BadLine number other) ≡ stop_of (BadLine bad why) → bad ≡ number
+unfolding bad_number
 bad_is {W} number other bad why is = sym (ap (λ (r : Result (Unit {0}) (Stop W)). bad_number r) is)
 
 if_some : {X : Type 0} (o : Option X) (P : X → Type 0) → ((x : X) → o ≡ Some x → P x) → IfSome o P
@@ -243,7 +248,7 @@ module _ {M W : Type 0} {too_many too_long : W} {step : M → List ℕ → Resul
 
   -- the line that an answer refuses
   pub refused_no_further : (result : Result (Unit {0}) (Stop W)) (bad : ℕ) (why : W) (answered line chunk : List ℕ) (new : M) (left before after : Option (List ℕ)) → NoFeed line → length chunk ≤ 8192 → prepended held left_now ≡ prepended (line ++ chunk) left
-      → Answers too_many too_long step result here.0 here.1 answered new before after → result ≡ Err (BadLine bad why) → ReadsNoFurther bad left_before left
+      → Answers too_many too_long step result here.0 here.1 answered new before after → result ≡ stop_of (BadLine bad why) → ReadsNoFurther bad left_before left
   refused_no_further (Ok u) bad why answered line chunk new left before after no_feed fits came told is = absurd cc
   refused_no_further (Err (BadLine number other)) bad why answered line chunk new left before after no_feed fits came told is =
       let same : bad ≡ here.0 = bad_is number other bad why is ∙ told.0 in
@@ -254,12 +259,12 @@ module _ {M W : Type 0} {too_many too_long : W} {step : M → List ℕ → Resul
 
   -- a line that is too long, or one too many
   pub unread_no_further : (other : W) (bad : ℕ) (why : W) (line chunk : List ℕ) (left : Option (List ℕ)) → NoFeed line → length chunk ≤ 8192 → prepended held left_now ≡ prepended (line ++ chunk) left
-      → Err {A = Unit {0}} (BadLine here.0 other) ≡ Err (BadLine bad why) → ReadsNoFurther bad left_before left
+      → stop_of (BadLine here.0 other) ≡ stop_of (BadLine bad why) → ReadsNoFurther bad left_before left
   unread_no_further other bad why line chunk left no_feed fits came is =
       subst (λ (n : ℕ). ReadsNoFurther n left_before left) (sym (bad_is here.0 other bad why is)) (read_no_further line chunk left no_feed fits came)
 
   -- no line is refused where none could be read
-  pub stopped_no_further : (error : ReadError) (stop : Stop W) (bad : ℕ) (why : W) (left : Option (List ℕ)) → StopsAt error stop → Err {A = Unit {0}} stop ≡ Err (BadLine bad why) → ReadsNoFurther bad left_before left
+  pub stopped_no_further : (error : ReadError) (stop : Stop W) (bad : ℕ) (why : W) (left : Option (List ℕ)) → StopsAt error stop → stop_of stop ≡ stop_of (BadLine bad why) → ReadsNoFurther bad left_before left
   stopped_no_further Fault stop bad why left is told = absurd cc
   stopped_no_further Memory stop bad why left is told = absurd cc
 

@@ -1,6 +1,7 @@
 // Lines out of a source, whatever pieces it gives.
-ghost use Rattle.std.specs.Prelude.{◌≡◌, ◌+◌, ◌-◌, ◌≤◌, ◌<◌, ℕ, List, [], ◌∷◌, ◌++◌, length, take, drop, Ok, Err, OnErr, IfOk, IfErr, MatchOption, MatchBool, IsTrue, ◌↔◌};
+ghost use Rattle.std.specs.Prelude.{◌≡◌, ◌+◌, ◌-◌, ◌≤◌, ◌<◌, ℕ, List, [], ◌∷◌, ◌++◌, length, take, drop, Ok, Err, OnErr, IfOk, IfErr, MatchOption, MatchBool, true, IsTrue, ◌↔◌};
 ghost use Rattle.edge_io.specs.Edge.{prepended, IsAtEnd, Rose};
+ghost use Rattle.rpz_program.specs.declared.reader.TheConstants.{CHUNK};
 ghost use Rattle.rpz_program.specs.declared.reader.ReadError.TheVariants.{ReadFault, OutOfMemory};
 ghost use Rattle.rpz_program.specs.Lines.{NoFeed};
 ghost use Rattle.rpz_program.specs.Reader.{TakesLine, TakesAll, Reads, BlamesSource};
@@ -114,6 +115,8 @@ impl LineReader {
         ensures ok { IfOk result (λ ended. MatchBool ended
             (TakesLine self.old line.old.items self.new line.new.items)
             (TakesAll self.old line.old.items self.new line.new.items)) }
+        ensures chunk { length self.new ≤ CHUNK }
+        ensures feed { result ≡ Ok true → length self.new < CHUNK }
         ensures err { OnErr result ((self.new ≡ self.old) × (line.new.items ≡ line.old.items)) }
     {
         let bytes = &self.chunk[self.start..self.end];

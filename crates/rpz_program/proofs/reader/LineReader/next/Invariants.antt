@@ -1,4 +1,4 @@
-use Rattle.std.proofs.Common.{◌≡◌, ◌-◌, ◌≤◌, ◌++◌, length}
+use Rattle.std.proofs.Common.{◌≡◌, ◌-◌, ◌≤◌, ◌⊎◌, [], ◌++◌, length}
 use Rattle.edge_io.specs.Edge.{prepended}
 use Rattle.rpz_program.specs.Lines.{NoFeed}
 use Rattle.rpz_program.proofs.reader.LineReader.next.Given as goal
@@ -8,6 +8,7 @@ invariant-loop-self g l = record {
   reads : prepended l.fn.self (g.S.Source.left l.fn.source) ≡ prepended (l.line.items ++ l.self) (g.S.Source.left l.source);
   no_feed : NoFeed l.line.items;
   count : g.S.Source.faults l.fn.source ≤ g.S.Source.faults l.source;
+  chunk : (l.line.items ≡ []) ⊎ (length l.self ≤ 8192);
 }
 
 abbrev pub decreases-loop-self : goal.decreases-loop-self
