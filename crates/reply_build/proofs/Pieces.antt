@@ -3,8 +3,6 @@ use Rattle.std.proofs.Common.{◌≡◌, ℕ, ◌+◌, Bool, true, false, cond, 
 use Rattle.std.specs.Prelude.{◌<◌, ◌≤◌, option_map}
 use Rattle.std.proofs.lemmas.List.{append-nil, length-map, at_drop_more, drop_all}
 use Rattle.dns_record.specs.Record.{PlainRecord, record_octets}
-use Rattle.dns_message.specs.declared.header.Header.{Header}
-use Rattle.dns_message.specs.declared.question.Question.{Question}
 use Rattle.dns_message.specs.declared.request.Query.{Query}
 use Rattle.dns_message.specs.Limit.{octets_within, spelled_within}
 use Rattle.dns_message.specs.Request.{reply_edns}

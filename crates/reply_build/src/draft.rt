@@ -7,7 +7,7 @@ ghost use Rattle.dns_message.specs.Spelling.{opt_count as count_of_opt};
 ghost use Rattle.reply_build.specs.Draft.{draft_of};
 ghost use Rattle.reply_build.specs.Reply.{Sections, reply_of};
 
-use dns_message::{Header, GREATEST_LIMIT, LEAST_LIMIT, Query, finish_message, reply_edns};
+use dns_message::{GREATEST_LIMIT, Header, LEAST_LIMIT, Query, finish_message, reply_edns};
 use dns_name::Octets;
 use std::alloc::AllocError;
 
@@ -39,6 +39,12 @@ pub fn finish(draft: Draft, query: &Query, limit: usize) -> Result<Octets, Alloc
     let Draft { header, octets } = draft;
     let mut reply = octets;
     let edns = reply_edns(0, query.edns.as_ref());
-    finish_message(&mut reply, limit, &header, Some(&query.question), edns.as_ref())?;
+    finish_message(
+        &mut reply,
+        limit,
+        &header,
+        Some(&query.question),
+        edns.as_ref(),
+    )?;
     Ok(reply)
 }

@@ -86,7 +86,14 @@ fn local_answer(
     let count = count_asked(qtype, rows);
     let mut out = Octets::with_capacity(alloc, 512)?;
     let additional = 1 + opt_count(query);
-    write_start(&mut out, &header, Some(&query.question), count, 0, additional)?;
+    write_start(
+        &mut out,
+        &header,
+        Some(&query.question),
+        count,
+        0,
+        additional,
+    )?;
     write_asked(&mut out, &query.question.name, qtype, rows)?;
     write_records(&mut out, slice::from_ref(soa))?;
     Ok(Draft {

@@ -54,7 +54,8 @@ impl Sink for CountingSink<'_> {
     ghost steady = { λ _. Unit {0} };
 
     fn write(&mut self, piece: &[u8]) -> Result<usize, SinkError> {
-        self.written.set(self.written.get().saturating_add(piece.len()));
+        self.written
+            .set(self.written.get().saturating_add(piece.len()));
         Ok(piece.len())
     }
 }

@@ -1,5 +1,5 @@
 -- Runs of lines, one after another.
-use Rattle.std.proofs.Common.{◌≡◌, ℕ, ◌+◌, ◌<◌, ◌≤◌, List, [], ◌∷◌, ◌++◌, Ok, Err, Result, refl, sym, ◌∙◌, ap, append_assoc, length, nat_lt, true, false, arith, ◌-◌, ◌^◌}
+use Rattle.std.proofs.Common.{◌≡◌, ℕ, ◌+◌, ◌<◌, ◌≤◌, List, [], ◌∷◌, ◌++◌, Ok, Err, Result, refl, sym, ◌∙◌, ap, append_assoc, length, nat_lt, true, false, arith}
 use Rattle.std.specs.Prelude.{Bool, if◌then◌else◌}
 use Rattle.std.proofs.lemmas.Bool.Decides.{nat_tests}
 use Rattle.script_codec.specs.declared.line_reading.TheConstants.{LINE_BYTES, LINES}
@@ -96,9 +96,11 @@ module _ {M W : Type 0} (too_many too_long : W) (step : M → List ℕ → Resul
   -- after a run of lines the number is higher by as many
   pub ran-counts : (lines : List (List ℕ)) (old new : ℕ × M) (written : List ℕ) → ran too_many too_long step old lines ≡ (written, Ok new) → new.0 ≡ old.0 + length lines
   unfolding number_in
-  ran-counts [] old new written is = omega (arith, ap number_in (ap (λ (r : Ran M W). r.1) is))
+  ran-counts [] old new written is = let same : old.0 ≡ new.0 = ap number_in (ap (λ (r : Ran M W). r.1) is) in omega (arith, same)
   ran-counts (line ∷ lines) old new written is =
+      let counts : new.0 ≡ old.0 + (length lines + 1) =
       on-counts old.0 (judged too_many too_long step old line) lines new written
-        (λ next taken. one-counts (nat_lt LINES old.0) (nat_lt LINE_BYTES (length line)) old.0 (step old.1 line) next taken)
-        (λ from w ends. ran-counts lines from new w ends)
-        is
+      (λ next taken. one-counts (nat_lt LINES old.0) (nat_lt LINE_BYTES (length line)) old.0 (step old.1 line) next taken)
+      (λ from w ends. ran-counts lines from new w ends)
+      is in
+      omega (arith, counts)

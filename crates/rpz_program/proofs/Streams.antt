@@ -1,5 +1,5 @@
 -- Streams in memory.
-use Rattle.std.proofs.Common.{◌≡◌, ℕ, ◌+◌, ◌-◌, ◌^◌, ◌≤◌, List, Option, Some, None, Result, Ok, Err, refl, sym, ap, ◌∙◌, arith}
+use Rattle.std.proofs.Common.{ℕ, List, Option, Some, Result, Ok, Err, arith}
 use Rattle.std.specs.Prelude.{IfErr}
 use Rattle.edge_io.specs.Edge.{Rose}
 use Rattle.axfr_apply.specs.declared.asked.Asked.{Asked}

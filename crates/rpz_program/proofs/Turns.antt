@@ -1,5 +1,5 @@
 -- The turns of workers.
-use Rattle.std.proofs.Common.{◌≡◌, ℕ, Some, refl, sym, ap, ◌∙◌}
+use Rattle.std.proofs.Common.{◌≡◌, ℕ, Some, sym, ap, ◌∙◌}
 use Rattle.script_codec.specs.declared.output.Output.{Output}
 use Rattle.reply_build.specs.declared.said.Said.{Said as Saying}
 use Rattle.query_session.specs.declared.session.Turn.TheVariants.{Said}

@@ -1,5 +1,5 @@
 -- What the lines of a script do to a machine, one after another.
-use Rattle.std.specs.Prelude.{ℕ, ◌+◌, ◌-◌, ◌^◌, List, [], ◌∷◌, ◌++◌, if◌then◌else◌, nat_lt, Result, Ok, Err, length}
+use Rattle.std.specs.Prelude.{ℕ, ◌+◌, List, [], ◌∷◌, ◌++◌, if◌then◌else◌, nat_lt, Result, Ok, Err, length}
 use Rattle.script_codec.specs.declared.line_reading.TheConstants.{LINE_BYTES, LINES}
 use Rattle.rpz_program.specs.Lines.{lines_of}
 

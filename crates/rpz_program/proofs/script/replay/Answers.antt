@@ -1,4 +1,4 @@
-use Rattle.std.proofs.Common.{◌≡◌, ◌≢◌, ◌∙◌, ℕ, List, Option, [], ◌∷◌, ap, sym, refl, rules, arith}
+use Rattle.std.proofs.Common.{◌≡◌, ◌≢◌, ◌∙◌, ℕ, List, [], ◌∷◌, Err, ap, sym, refl, rules, arith}
 use Rattle.std.proofs.lemmas.List.{append-nil}
 use Rattle.edge_io.specs.Edge.{prepended}
 use Rattle.std.proofs.lemmas.Grind.{common_steps}
@@ -100,11 +100,12 @@ returns-in-Cut-clause-no_further g c = λ line why told.
 pub returns-in-Last-2-clause-no_further : goal.returns-in-Last-2-clause-no_further
 returns-in-Last-2-clause-no_further g c = λ line why told.
     let reads = rw c.in-Last-2.is at c.in_ok-next.ensures.reads in
-    let came = reads.0 ∙ ap (λ (l : List ℕ). prepended l (g.S.Source.left c.next.new.script)) (sym (append-nil c.next.new.line.items)) in
+    let came = reads.0 ∙ ap (λ (l : List ℕ). prepended l (g.S.Source.left c.next.new.source)) (sym (append-nil c.next.new.line.items)) in
     refused_no_further c.loop-reply.invariant.so_far c.answer.result line why _ c.next.new.line.items [] c.answer.new.machine _ _ _ c.in_ok-next.ensures.no_feed (omega arith) came c.answer.ensures.answers told
 
 pub returns-in_err-answer-in-Whole-clause-no_further : goal.returns-in_err-answer-in-Whole-clause-no_further
 returns-in_err-answer-in-Whole-clause-no_further g c = λ line why told.
     let p = err_from_is_err_and c.from_residual-in_err-answer-in-Whole.result c.from_residual-in_err-answer-in-Whole.ensures.1 in
     let reads = rw c.in-Whole.is at c.in_ok-next.ensures.reads in
-    refused_no_further c.loop-reply.invariant.so_far c.answer-in-Whole.result line why _ c.next.new.line.items (10 ∷ c.next.new.self) c.answer-in-Whole.new.machine _ _ _ c.in_ok-next.ensures.no_feed (omega arith) reads c.answer-in-Whole.ensures.answers ?
+    let few = (rw c.in-Whole.is at c.in_ok-next.ensures.feed) refl in
+    refused_no_further c.loop-reply.invariant.so_far (Err c.in_err-answer-in-Whole.field-0.0) line why _ c.next.new.line.items (10 ∷ c.next.new.self) c.answer-in-Whole.new.machine _ _ _ c.in_ok-next.ensures.no_feed (omega (arith, few)) reads c.in_err-answer-in-Whole.ensures.answers (rw (p.1, p.2) at told)
