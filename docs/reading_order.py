@@ -14,7 +14,7 @@ import re
 
 ROOTS = {
     ("edge_io", "Edge"): ("appended", "Rose"),
-    ("rpz_program", "Replay"): ("Moved",),
+    ("rpz_program", "Replay"): ("Moved", "ReadsNoFurther"),
     ("rpz_program", "Run"): ("AnswersEnded", "BeginsTranscript", "IsFirstBadLine", "IsReplay", "IsVerdict", "IsWholeScript"),
     ("rpz_program", "World"): ("transcript", "verdict"),
 }
