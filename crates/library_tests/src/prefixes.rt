@@ -24,6 +24,14 @@ fn nested(alloc: Global) -> Result<PrefixMap<u32>, AllocError> {
     Ok(map)
 }
 
+// The number at the longest prefix that contains the address.
+fn longest_number(map: &PrefixMap<u32>, addr: Addr) -> Option<u32> {
+    match map.longest(addr) {
+        Some((_prefix, number)) => Some(*number),
+        None => None,
+    }
+}
+
 #[test]
 fn the_longest_prefix_is_found(rt: HostRuntime) -> Result<(), Fail> {
     let map = nested(rt.alloc())?;
@@ -35,8 +43,7 @@ fn the_longest_prefix_is_found(rt: HostRuntime) -> Result<(), Fail> {
         // 192.0.2.0, mapped into version 6
         (Addr::V6(0xffff_c000_0200), None),
     ] {
-        let found = map.longest(addr).map(|(_, number)| *number);
-        assert_eq!(rt; found, number);
+        assert_eq!(rt; longest_number(&map, addr), number);
     }
     Ok(())
 }

@@ -7,16 +7,16 @@ use std::alloc::Global;
 use std::test::Fail;
 use trigger_codec::{owner_of, trigger_of};
 
-// The canonical owner of the trigger that this owner has.
-fn spelled(alloc: Global, owner: &[u8]) -> Result<Name, Fail> {
+// The canonical owner of the trigger that this owner has in the zone.
+fn spelled(alloc: Global, owner: &[u8], origin: &Name) -> Result<Name, Fail> {
     let owner = Name::from_text(alloc, owner)?;
-    let origin = zone_name(alloc)?;
-    let trigger = trigger_of(alloc, &owner, &origin)?;
-    Ok(owner_of(alloc, &trigger, &origin)?)
+    let trigger = trigger_of(alloc, &owner, origin)?;
+    Ok(owner_of(alloc, &trigger, origin)?)
 }
 
 #[test]
 fn a_trigger_has_one_canonical_owner(rt: HostRuntime) -> Result<(), Fail> {
+    let origin = zone_name(rt.alloc())?;
     for (owner, canonical) in [
         (
             b"048.0.ZZ.101.DB8.2001.RPZ-ip.RPZ.example".as_slice(),
@@ -43,7 +43,7 @@ fn a_trigger_has_one_canonical_owner(rt: HostRuntime) -> Result<(), Fail> {
         (b"*.Rpz-Nsdname.rpz.example", b"*.rpz-nsdname.rpz.example"),
     ] {
         let expected = Name::from_text(rt.alloc(), canonical)?;
-        let got = spelled(rt.alloc(), owner)?;
+        let got = spelled(rt.alloc(), owner, &origin)?;
         assert_eq!(rt; got.octets(), expected.octets());
     }
     Ok(())
