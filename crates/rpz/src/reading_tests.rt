@@ -15,6 +15,7 @@ const QUERY: &[u8] = b"query 0 udp 192.0.2.7 -\n";
 const OUTPUT: usize = 9;
 
 // Gives the query three times, one a read, and notes a read at which the output of a query before wasn't written.
+#[derive(Drop)]
 struct QuerySource<'a> {
     given: usize,
     written: &'a Cell<usize>,
@@ -42,6 +43,7 @@ impl Source for QuerySource<'_> {
 }
 
 // Counts what is written.
+#[derive(Drop)]
 struct CountingSink<'a> {
     written: &'a Cell<usize>,
 }
