@@ -7,8 +7,8 @@ use Rattle.std.specs.List.Sorted.{IsStrictlySortedBy}
 use Rattle.std.specs.Ordering.{is_lt, is_gt, match_ordering, ordering_reverse}
 use Rattle.std.specs.declared.cmp.Ordering.{Ordering}
 use Rattle.std.specs.declared.cmp.Ordering.TheVariants.{Less, Equal, Greater}
-use Rattle.zone_rows.specs.Row.{PlainRow}
-use Rattle.action_codec.specs.Local.{first_owned, placed, rule_rows}
+use Rattle.dns_record.specs.Row.{PlainRow}
+use Rattle.action_codec.specs.Local.{first_owned, insert_row, rule_rows}
 use Rattle.action_codec.proofs.RowOrders.{by_data, by_owner, by_data_total, by_owner_total, no_later-less, no_later-back}
 
 -- the row is one of the rows
@@ -44,7 +44,7 @@ in_first true row x q e = inl e
 in_first false row x q e = inr e
 
 -- what is there after is the row or was there before
-pub in_placed : (row q : PlainRow) (rows : List PlainRow) → IsIn q (placed row rows) → (row ≡ q) ⊎ IsIn q rows
+pub in_placed : (row q : PlainRow) (rows : List PlainRow) → IsIn q (insert_row row rows) → (row ≡ q) ⊎ IsIn q rows
 in_placed row q [] h = h
 in_placed row q (x ∷ xs) h = at (by_data row x) (in_placed row q xs) h where
   shifted : (row ≡ q) ⊎ IsIn q xs → (row ≡ q) ⊎ IsIn q (x ∷ xs)
@@ -55,7 +55,7 @@ in_placed row q (x ∷ xs) h = at (by_data row x) (in_placed row q xs) h where
   first (inl e) = inl e
   first (inr e) = inr (inl e)
 
-  at : (o : Ordering) → (IsIn q (placed row xs) → (row ≡ q) ⊎ IsIn q xs) → IsIn q (match_ordering o (row ∷ x ∷ xs) (first_owned row x ∷ xs) (x ∷ placed row xs)) → (row ≡ q) ⊎ IsIn q (x ∷ xs)
+  at : (o : Ordering) → (IsIn q (insert_row row xs) → (row ≡ q) ⊎ IsIn q xs) → IsIn q (match_ordering o (row ∷ x ∷ xs) (first_owned row x ∷ xs) (x ∷ insert_row row xs)) → (row ≡ q) ⊎ IsIn q (x ∷ xs)
   at Less others h = h
   at Equal others (inl e) = first (in_first (is_lt (by_owner row x)) row x q e)
   at Equal others (inr k) = inr (inr k)
@@ -74,21 +74,21 @@ further : (x row : PlainRow) (xs : List PlainRow) → HasFor xs row → HasFor (
 further x row xs h = record { kept = h.kept; is_in = inr h.is_in; stands = h.stands }
 
 Placing : Ordering → PlainRow → PlainRow → List PlainRow → PlainRow → Type 0
-Placing o row x xs q = HasFor (match_ordering o (row ∷ x ∷ xs) (first_owned row x ∷ xs) (x ∷ placed row xs)) q
+Placing o row x xs q = HasFor (match_ordering o (row ∷ x ∷ xs) (first_owned row x ∷ xs) (x ∷ insert_row row xs)) q
 
 -- one stands for the row
-pub placed_has_row : (row : PlainRow) (rows : List PlainRow) → HasFor (placed row rows) row
+pub placed_has_row : (row : PlainRow) (rows : List PlainRow) → HasFor (insert_row row rows) row
 unfolding Placing
 placed_has_row row [] = record { kept = row; is_in = inl refl; stands = for_itself row }
 placed_has_row row (x ∷ xs) =
     elim (by_data row x) as (λ o. by_data row x ≡ o → Placing o row x xs row) [
       | Less ↦ λ h. record { kept = row; is_in = inl refl; stands = for_itself row }
       | Equal ↦ λ h. record { kept = first_owned row x; is_in = inl refl; stands = first_for_row (is_lt (by_owner row x)) row x refl h }
-      | Greater ↦ λ h. further x row (placed row xs) (placed_has_row row xs)
+      | Greater ↦ λ h. further x row (insert_row row xs) (placed_has_row row xs)
     ] refl
 
 -- and one for each that was there
-pub placed_has : (row q : PlainRow) (rows : List PlainRow) → IsIn q rows → HasFor (placed row rows) q
+pub placed_has : (row q : PlainRow) (rows : List PlainRow) → IsIn q rows → HasFor (insert_row row rows) q
 unfolding Placing
 placed_has row q [] is_in = absurd is_in
 placed_has row q (x ∷ xs) (inl e) =
@@ -101,7 +101,7 @@ placed_has row q (x ∷ xs) (inr k) =
     elim (by_data row x) as (λ o. Placing o row x xs q) [
       | Less ↦ record { kept = q; is_in = inr (inr k); stands = for_itself q }
       | Equal ↦ record { kept = q; is_in = inr k; stands = for_itself q }
-      | Greater ↦ further x q (placed row xs) (placed_has row q xs k)
+      | Greater ↦ further x q (insert_row row xs) (placed_has row q xs k)
     ]
 
 -- ---- order
@@ -113,10 +113,10 @@ first_behind : (b : Bool) (y row x : PlainRow) → by_data y row ≡ Less → by
 first_behind true y row x h k = h
 first_behind false y row x h k = k
 
-behind-placed : (y row : PlainRow) (rows : List PlainRow) → by_data y row ≡ Less → Behind y rows → Behind y (placed row rows)
+behind-placed : (y row : PlainRow) (rows : List PlainRow) → by_data y row ≡ Less → Behind y rows → Behind y (insert_row row rows)
 behind-placed y row [] less h = (less, tt)
 behind-placed y row (x ∷ xs) less h =
-    elim (by_data row x) as (λ o. Behind y (match_ordering o (row ∷ x ∷ xs) (first_owned row x ∷ xs) (x ∷ placed row xs))) [
+    elim (by_data row x) as (λ o. Behind y (match_ordering o (row ∷ x ∷ xs) (first_owned row x ∷ xs) (x ∷ insert_row row xs))) [
       | Less ↦ (less, h)
       | Equal ↦ (first_behind (is_lt (by_owner row x)) y row x less h.0, h.1)
       | Greater ↦ (h.0, behind-placed y row xs less h.1)
@@ -134,11 +134,11 @@ behind-first : (b : Bool) (row x : PlainRow) (rows : List PlainRow) → by_data 
 behind-first true row x rows same h = behind-same row x rows same h
 behind-first false row x rows same h = h
 
-sorted-placed : (row : PlainRow) (rows : List PlainRow) → IsStrictlySortedBy by_data rows → IsStrictlySortedBy by_data (placed row rows)
+sorted-placed : (row : PlainRow) (rows : List PlainRow) → IsStrictlySortedBy by_data rows → IsStrictlySortedBy by_data (insert_row row rows)
 unfolding IsStrictlySortedBy
 sorted-placed row [] s = (tt, tt)
 sorted-placed row (x ∷ xs) s =
-    elim (by_data row x) as (λ o. by_data row x ≡ o → IsStrictlySortedBy by_data (match_ordering o (row ∷ x ∷ xs) (first_owned row x ∷ xs) (x ∷ placed row xs))) [
+    elim (by_data row x) as (λ o. by_data row x ≡ o → IsStrictlySortedBy by_data (match_ordering o (row ∷ x ∷ xs) (first_owned row x ∷ xs) (x ∷ insert_row row xs))) [
       | Less ↦ λ h. ((h, behind-less row x xs h s.0), s)
       | Equal ↦ λ h. (behind-first (is_lt (by_owner row x)) row x xs h s.0, s.1)
       | Greater ↦ λ h. (behind-placed x row xs (by_data_total.antisymm x row ∙ ap ordering_reverse h) s.0, sorted-placed row xs s.1)
@@ -147,21 +147,21 @@ sorted-placed row (x ∷ xs) s =
 -- ---- all rows of a rule
 
 abbrev after : List PlainRow → List PlainRow → List PlainRow
-after start rows = fold (λ kept row. placed row kept) start rows
+after start rows = fold (λ kept row. insert_row row kept) start rows
 
 sorted-after : (start rows : List PlainRow) → IsStrictlySortedBy by_data start → IsStrictlySortedBy by_data (after start rows)
 sorted-after start [] s = s
-sorted-after start (row ∷ rows) s = sorted-after (placed row start) rows (sorted-placed row start s)
+sorted-after start (row ∷ rows) s = sorted-after (insert_row row start) rows (sorted-placed row start s)
 
-moved : (row q : PlainRow) (start rows : List PlainRow) → IsIn q (placed row start) ⊎ IsIn q rows → IsIn q start ⊎ IsIn q (row ∷ rows)
+moved : (row q : PlainRow) (start rows : List PlainRow) → IsIn q (insert_row row start) ⊎ IsIn q rows → IsIn q start ⊎ IsIn q (row ∷ rows)
 moved row q start rows (inl h) = elim (in_placed row q start h) [ inl e ↦ inr (inl e) | inr k ↦ inl k ]
 moved row q start rows (inr h) = inr (inr h)
 
 in_after : (q : PlainRow) (start rows : List PlainRow) → IsIn q (after start rows) → IsIn q start ⊎ IsIn q rows
 in_after q start [] h = inl h
-in_after q start (row ∷ rows) h = moved row q start rows (in_after q (placed row start) rows h)
+in_after q start (row ∷ rows) h = moved row q start rows (in_after q (insert_row row start) rows h)
 
-still : (row q : PlainRow) (start : List PlainRow) → HasFor start q → HasFor (placed row start) q
+still : (row q : PlainRow) (start : List PlainRow) → HasFor start q → HasFor (insert_row row start) q
 still row q start h =
     let next = placed_has row h.kept start h.is_in in
     record { kept = next.kept; is_in = next.is_in; stands = for-trans next.kept h.kept q next.stands h.stands }
@@ -169,9 +169,9 @@ still row q start h =
 after_has : (q : PlainRow) (start rows : List PlainRow) → HasFor start q ⊎ IsIn q rows → HasFor (after start rows) q
 after_has q start [] (inl h) = h
 after_has q start [] (inr h) = absurd h
-after_has q start (row ∷ rows) (inl h) = after_has q (placed row start) rows (inl (still row q start h))
-after_has q start (row ∷ rows) (inr (inl e)) = after_has q (placed row start) rows (inl (subst (HasFor (placed row start)) e (placed_has_row row start)))
-after_has q start (row ∷ rows) (inr (inr h)) = after_has q (placed row start) rows (inr h)
+after_has q start (row ∷ rows) (inl h) = after_has q (insert_row row start) rows (inl (still row q start h))
+after_has q start (row ∷ rows) (inr (inl e)) = after_has q (insert_row row start) rows (inl (subst (HasFor (insert_row row start)) e (placed_has_row row start)))
+after_has q start (row ∷ rows) (inr (inr h)) = after_has q (insert_row row start) rows (inr h)
 
 pub rule_rows-sorted : (rows : List PlainRow) → IsStrictlySortedBy by_data (rule_rows rows)
 unfolding IsStrictlySortedBy

@@ -10,7 +10,7 @@ use Rattle.std.proofs.lemmas.List.{map-append, reverse-reverse, reverse-append}
 use Rattle.std.proofs.lemmas.Map.Text.{is_eq-slice_cmp}
 use Rattle.dns_name.specs.Labels.{lowered}
 use Rattle.dns_name.specs.Order.{label_order, canonical_order}
-use Rattle.zone_rows.specs.Row.{PlainRow}
+use Rattle.dns_record.specs.Row.{PlainRow}
 use Rattle.action_codec.specs.Local.{data_key}
 
 -- by type, then data
@@ -67,7 +67,7 @@ lowered-reverse (x ∷ xs) =
     ∙ ap (λ (front : List (List ℕ)). front ++ map to_ascii_lowercase x ∷ []) (lowered-reverse xs)
     ∙ sym (reverse-append (map to_ascii_lowercase x ∷ []) (lowered xs))
 
--- names in the same place of the canonical order are one name in small letters
+-- names in the same place of the canonical order are one name in lower case
 pub same_name : (a b : List (List ℕ)) → canonical_order a b ≡ Equal → lowered a ≡ lowered b
 same_name a b h =
     sym (reverse-reverse (lowered a))

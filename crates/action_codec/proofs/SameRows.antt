@@ -9,7 +9,7 @@ use Rattle.std.specs.declared.cmp.Ordering.TheVariants.{Less, Equal, Greater}
 use Rattle.std.proofs.lemmas.List.Elements.{All-contains}
 use Rattle.dns_name.specs.Labels.{name_octets}
 use Rattle.dns_record.specs.Number.{number_octets}
-use Rattle.zone_rows.specs.Row.{PlainRow, IsRow, AreAlike, identity}
+use Rattle.dns_record.specs.Row.{PlainRow, IsRow, AreAlike, identity}
 use Rattle.action_codec.specs.Laws.{HasOneFor, HaveOneTtl, HaveSameRows}
 use Rattle.action_codec.specs.Local.{data_key, rule_rows}
 use Rattle.action_codec.proofs.RowOrders.{by_data, by_owner, by_data_total, same_data, same_name, both_no_later}
@@ -97,9 +97,9 @@ rule_rows_has_one rows row h =
 
 -- ---- rows of a zone
 
--- rows are told apart by their identity
-abbrev pub AreTold : Type 0
-AreTold = (row other : PlainRow) → IsRow row → IsRow other → (identity row ≡ identity other) ↔ AreAlike row other
+-- rows of one identity differ in the TTL alone
+abbrev pub ByIdentity : Type 0
+ByIdentity = (row other : PlainRow) → IsRow row → IsRow other → (identity row ≡ identity other) ↔ AreAlike row other
 
 same_owner : (a b : PlainRow) → IsRow a → IsRow b → by_owner a b ≡ Equal → a.owner ≡ b.owner
 same_owner a b is_a is_b h = sym is_a.owner_is_lower_case ∙ same_name a.owner b.owner h ∙ is_b.owner_is_lower_case
@@ -108,17 +108,17 @@ identity_is : (row : PlainRow) → identity row ≡ name_octets row.owner ++ dat
 unfolding identity data_key
 identity_is row = append_assoc (name_octets row.owner) (number_octets 2 row.rtype) row.rdata
 
-one_row : AreTold → (a b : PlainRow) → IsRow a → IsRow b → (AreAlike a b → a.ttl ≡ b.ttl) → StandsFor a b → StandsFor b a → a ≡ b
-one_row told a b is_a is_b ttl s t =
+one_row : ByIdentity → (a b : PlainRow) → IsRow a → IsRow b → (AreAlike a b → a.ttl ≡ b.ttl) → StandsFor a b → StandsFor b a → a ≡ b
+one_row by_identity a b is_a is_b ttl s t =
     let owner : a.owner ≡ b.owner = same_owner a b is_a is_b (both_no_later a b s.owner_is t.owner_is) in
     let key : data_key a ≡ data_key b = same_data a b s.data_is in
     let same : identity a ≡ identity b = identity_is a ∙ (λ i. name_octets (owner i) ++ key i) ∙ sym (identity_is b) in
-    let alike : AreAlike a b = (told a b is_a is_b).0 same in
+    let alike : AreAlike a b = (by_identity a b is_a is_b).0 same in
     let live : a.ttl ≡ b.ttl = ttl alike in
     λ i. record { owner = owner i; rtype = alike.rtype i; ttl = live i; rdata = alike.rdata i }
 
-pub rows_in_any_order : AreTold → (rows other : List PlainRow) → All IsRow rows → HaveOneTtl rows → HaveSameRows rows other → rule_rows rows ≡ rule_rows other
-rows_in_any_order told rows other are_rows one_ttl same =
+pub rows_in_any_order : ByIdentity → (rows other : List PlainRow) → All IsRow rows → HaveOneTtl rows → HaveSameRows rows other → rule_rows rows ≡ rule_rows other
+rows_in_any_order by_identity rows other are_rows one_ttl same =
     let there : (q : PlainRow) → IsIn q rows → IsIn q other = λ (q : PlainRow) (h : IsIn q rows). in_contained q other ((same q).0 (contained_in q rows h)) in
     let back : (q : PlainRow) → IsIn q other → IsIn q rows = λ (q : PlainRow) (h : IsIn q other). in_contained q rows ((same q).1 (contained_in q other h)) in
     same_lists (rule_rows rows) (rule_rows other) (rule_rows-sorted rows) (rule_rows-sorted other)
@@ -127,4 +127,4 @@ rows_in_any_order told rows other are_rows one_ttl same =
     (λ a b in_a in_b s t.
     let has_a : Contains rows a = contained_in a rows (in_rule_rows a rows in_a) in
     let has_b : Contains rows b = contained_in b rows (back b (in_rule_rows b other in_b)) in
-    one_row told a b (All-contains IsRow rows a are_rows has_a) (All-contains IsRow rows b are_rows has_b) (one_ttl a b has_a has_b) s t)
+    one_row by_identity a b (All-contains IsRow rows a are_rows has_a) (All-contains IsRow rows b are_rows has_b) (one_ttl a b has_a has_b) s t)

@@ -1,9 +1,9 @@
 -- What is done to the rows that references lead to.
 use Rattle.std.proofs.Common.{◌≡◌, ◌||◌, List, [], ◌∷◌, map, refl, ap}
 use Rattle.std.specs.List.{list_any}
-use Rattle.zone_rows.specs.Row.{PlainRow}
+use Rattle.dns_record.specs.Row.{PlainRow}
 use Rattle.action_codec.specs.Action.{is_cname}
-use Rattle.action_codec.specs.Local.{PlainLocal, local_row}
+use Rattle.action_codec.specs.Local.{local_row}
 
 module _ {V : Type 0} (row : V → PlainRow) where
   pub any_row : (vs : List V) → list_any (λ v. is_cname (row v)) vs ≡ list_any is_cname (map row vs)

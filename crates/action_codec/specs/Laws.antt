@@ -4,7 +4,7 @@ use Rattle.std.specs.Cmp.Lexicographic.{slice_cmp}
 use Rattle.std.specs.Ordering.{nat_cmp, is_gt}
 use Rattle.std.specs.declared.cmp.Ordering.{Ordering}
 use Rattle.dns_name.specs.Order.{canonical_order}
-use Rattle.zone_rows.specs.Row.{PlainRow, AreAlike}
+use Rattle.dns_record.specs.Row.{PlainRow, AreAlike}
 use Rattle.action_codec.specs.Local.{data_key}
 
 -- by type, then data

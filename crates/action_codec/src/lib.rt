@@ -12,4 +12,4 @@ mod words;
 pub use action::Action;
 pub use live::is_live_type;
 pub use local::{LocalRow, LocalRows};
-pub use table::action_of;
+pub use table::{action_for, action_of};

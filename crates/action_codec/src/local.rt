@@ -5,9 +5,9 @@ ghost use Rattle.dns_record.specs.Record.{IsData};
 ghost use Rattle.action_codec.specs.Local.{local_row};
 
 use dns_name::Octets;
+use dns_record::Row;
 use std::alloc::{AllocError, Global};
 use std::marker::Model;
-use zone_rows::Row;
 
 /// A record of class IN whose owner is the name that is answered for.
 #[derive(Debug, Drop)]
@@ -54,7 +54,7 @@ impl LocalRow {
         self.ttl
     }
 
-    /// The data, its names in full and in small letters; at most 65,535 bytes.
+    /// The data, its names in full and in lower case; at most 65,535 bytes.
     pub fn rdata(&self) -> &[u8]
         ensures rdata { result.now ≡ self.now.rdata }
         ensures is_data { IsData self.now.rtype 1 self.now.rdata }

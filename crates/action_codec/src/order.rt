@@ -1,15 +1,15 @@
 //! The rows of one rule in their order, each type and data once.
 
 ghost use Rattle.std.specs.Prelude.{◌≡◌, List, [], ◌∷◌, ◌++◌, map, take, IfOk, OnOk, OnErr};
-ghost use Rattle.action_codec.specs.Local.{data_key as key_of, first_owned, placed, rule_rows};
+ghost use Rattle.action_codec.specs.Local.{data_key as key_of, first_owned, insert_row, rule_rows};
 
 use dns_name::Octets;
+use dns_record::Row;
 use dns_record::number::push_u16;
 use std::alloc::{AllocError, Global};
 use std::cmp::Ordering;
 use std::collections::BTreeMap;
 use std::marker::Model;
-use zone_rows::Row;
 
 // Rows in order of type, then data, each of these once.
 #[derive(Drop)]
@@ -24,7 +24,7 @@ impl<'a> Model for ByData<'a> {
     ghost use Rattle.std.specs.List.Sorted.{IsStrictlySortedBy};
     ghost use Rattle.std.specs.Map.{keys_of};
     ghost use Rattle.std.specs.Ordering.{nat_cmp};
-    ghost use Rattle.zone_rows.specs.Row.{PlainRow};
+    ghost use Rattle.dns_record.specs.Row.{PlainRow};
     ghost use Rattle.action_codec.specs.Local.{IsKeyed};
 
     ghost Value = { List PlainRow };
@@ -45,7 +45,7 @@ impl<'a> ByData<'a> {
 
     // Puts the row to its place; of two of the same type and data the one whose owner comes first is kept.
     fn place(&mut self, alloc: Global, row: &'a Row) -> Result<(), AllocError>
-        ensures { OnOk result (self.new ≡ placed row.now self.old) }
+        ensures { OnOk result (self.new ≡ insert_row row.now self.old) }
     {
         let key = data_key(alloc, row)?;
         let kept = match self.rows.get(key.as_slice()) {
@@ -92,7 +92,8 @@ fn first_of<'a>(row: &'a Row, other: &'a Row) -> &'a Row
 /// The rows in order of type, then data. Rows that are equal in both count once, with the TTL of the one
 /// whose owner comes first in the canonical order of names.
 pub(crate) fn in_order<'a>(alloc: Global, rows: &[&'a Row]) -> Result<Vec<&'a Row>, AllocError>
-    ensures { IfOk result (λ kept. map (λ row. row.now) kept.items ≡ rule_rows (map (λ row. row.now) rows.now)) }
+    ensures { IfOk result (λ kept. map (λ row. row.now) kept.items ≡ rule_rows (map
+        (λ row. row.now) rows.now)) }
 {
     let mut by_data = ByData::new(alloc);
     for row in rows {

@@ -1,18 +1,18 @@
 //! From the rows of a rule to what it does.
 
-ghost use Rattle.std.specs.Prelude.{◌≡◌, List, [], ◌∷◌, map, length, IfOk};
+ghost use Rattle.std.specs.Prelude.{◌≡◌, List, [], ◌∷◌, map, length, option_copied, IfOk};
 ghost use Rattle.std.specs.List.{list_any};
 ghost use Rattle.action_codec.specs.Local.{local_row};
-ghost use Rattle.action_codec.specs.Action.{is_cname as cname, cname_action as cname_act, one_action as one_act, local_alone as alone, several_action as several_act, rows_action, action_by};
+ghost use Rattle.action_codec.specs.Action.{is_cname as cname, cname_action as cname_act, one_action as one_act, local_alone as alone, several_action as several_act, rows_action, action_by, action_for as rule_action, own_pattern as pattern_of};
 
 use crate::action::Action;
 use crate::local::LocalRows;
 use crate::order::in_order;
 use crate::words::{ASTERISK, DROP, PASSTHRU, ROOT, TCP_ONLY, is_own_name, is_reserved_name};
-use dns_record::rtype;
+use dns_name::Pattern;
+use dns_record::{Row, rtype};
 use std::alloc::{AllocError, Global};
 use trigger_codec::Trigger;
-use zone_rows::Row;
 
 /// What a rule does that has the trigger and these live rows (see [`is_live_type`](crate::is_live_type)),
 /// in any order. It is `None` exactly if the rule does nothing: where a CNAME row stands beside another, or
@@ -28,24 +28,49 @@ pub fn action_of(
 ) -> Result<Option<Action>, AllocError>
     ensures { IfOk result (λ action. action ≡ action_by trigger.now (map (λ row. row.now) rows.now)) }
 {
+    action_for(alloc, own_pattern(trigger), rows)
+}
+
+/// What a rule of these live rows does, in any order, as [`action_of`] has it. All that matters of the trigger
+/// is its own pattern: that of a rule about a name that is asked for, and `None` for rules of other kinds.
+pub fn action_for(
+    alloc: Global,
+    own: Option<&Pattern>,
+    rows: &[&Row],
+) -> Result<Option<Action>, AllocError>
+    ensures { IfOk result (λ action. action
+        ≡ rule_action (option_copied own.entry) (map (λ row. row.now) rows.now)) }
+{
     if rows.len() < 2 {
-        return kept_action(alloc, trigger, rows);
+        return kept_action(alloc, own, rows);
     }
     let kept = in_order(alloc, rows)?;
-    kept_action(alloc, trigger, kept.as_slice())
+    kept_action(alloc, own, kept.as_slice())
+}
+
+// The pattern of a trigger that is about a name that is asked for.
+fn own_pattern(trigger: &Trigger) -> Option<&Pattern>
+    ensures { option_copied result ≡ pattern_of trigger.now }
+{
+    match trigger {
+        Trigger::Qname(pattern) => Some(pattern),
+        Trigger::ClientIp(_) | Trigger::ResponseIp(_) | Trigger::NsDname(_) | Trigger::NsIp(_) =>
+            None,
+    }
 }
 
 // What a rule of these rows does, which are in their order.
 fn kept_action(
     alloc: Global,
-    trigger: &Trigger,
+    own: Option<&Pattern>,
     rows: &[&Row],
 ) -> Result<Option<Action>, AllocError>
-    ensures { IfOk result (λ action. action ≡ rows_action trigger.now (map (λ row. row.now) rows.now)) }
+    ensures { IfOk result (λ action. action
+        ≡ rows_action (option_copied own.entry) (map (λ row. row.now) rows.now)) }
 {
     match rows {
         [] => Ok(None),
-        [row] => one_action(alloc, trigger, row),
+        [row] => one_action(alloc, own, row),
         [_, _, ..] => several_action(alloc, rows),
     }
 }
@@ -68,11 +93,11 @@ fn has_cname(rows: &[&Row]) -> bool
 }
 
 // What a rule of one row does.
-fn one_action(alloc: Global, trigger: &Trigger, row: &Row) -> Result<Option<Action>, AllocError>
-    ensures { IfOk result (λ action. action ≡ one_act trigger.now row.now) }
+fn one_action(alloc: Global, own: Option<&Pattern>, row: &Row) -> Result<Option<Action>, AllocError>
+    ensures { IfOk result (λ action. action ≡ one_act (option_copied own.entry) row.now) }
 {
     if is_cname(row) {
-        cname_action(alloc, trigger, row)
+        cname_action(alloc, own, row)
     } else {
         local_alone(alloc, row)
     }
@@ -86,8 +111,12 @@ fn is_cname(row: &Row) -> bool
 
 // What a rule of one CNAME row does.
 #[tactic(auto, unfolding(crate::specs::Action::cname_action))]
-fn cname_action(alloc: Global, trigger: &Trigger, row: &Row) -> Result<Option<Action>, AllocError>
-    ensures { IfOk result (λ action. action ≡ cname_act trigger.now row.now) }
+fn cname_action(
+    alloc: Global,
+    own: Option<&Pattern>,
+    row: &Row,
+) -> Result<Option<Action>, AllocError>
+    ensures { IfOk result (λ action. action ≡ cname_act (option_copied own.entry) row.now) }
 {
     let target = row.rdata();
     if target == ROOT {
@@ -102,7 +131,7 @@ fn cname_action(alloc: Global, trigger: &Trigger, row: &Row) -> Result<Option<Ac
         Ok(Some(Action::TcpOnly))
     } else if is_reserved_name(target) {
         Ok(None)
-    } else if is_own_name(trigger, target) {
+    } else if is_own_name(own, target) {
         Ok(Some(Action::PassThru))
     } else {
         local_alone(alloc, row)

@@ -1,11 +1,10 @@
 //! The names that a CNAME row can point to in place of data.
 
-ghost use Rattle.std.specs.Prelude.{◌≡◌, length};
+ghost use Rattle.std.specs.Prelude.{◌≡◌, length, option_copied};
 ghost use Rattle.dns_name.specs.Labels.{name_octets};
-ghost use Rattle.action_codec.specs.Action.{own_name, is_reserved_name as reserved_name, is_own_name as own, points_to};
+ghost use Rattle.action_codec.specs.Action.{own_name, is_reserved_name as reserved_name, is_own_name as own_is, points_to};
 
 use dns_name::Pattern;
-use trigger_codec::Trigger;
 
 pub(crate) const ROOT: &[u8] = b"\x00";
 
@@ -26,13 +25,13 @@ pub(crate) fn is_reserved_name(rdata: &[u8]) -> bool
         && &rdata[1..5] == b"rpz-".as_slice()
 }
 
-/// Whether the trigger is about a name that is asked for, and the data is that name as the owner writes it.
-pub(crate) fn is_own_name(trigger: &Trigger, rdata: &[u8]) -> bool
-    ensures { result ≡ own trigger.now rdata.now }
+/// Whether the data is the name of the rule's own pattern, as the owner writes it.
+pub(crate) fn is_own_name(own: Option<&Pattern>, rdata: &[u8]) -> bool
+    ensures { result ≡ own_is (option_copied own.entry) rdata.now }
 {
-    match trigger {
-        Trigger::Qname(pattern) => is_written(pattern, rdata),
-        Trigger::Client(_) | Trigger::RespIp(_) | Trigger::NsName(_) | Trigger::NsIp(_) => false,
+    match own {
+        Some(pattern) => is_written(pattern, rdata),
+        None => false,
     }
 }
 

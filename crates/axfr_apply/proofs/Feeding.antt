@@ -6,7 +6,7 @@ use Rattle.std.proofs.lemmas.List.Folds.{list_any-append}
 use Rattle.dns_name.specs.Reading.{◌>>=◌}
 use Rattle.dns_record.specs.Record.{PlainRecord}
 use Rattle.zone_rows.specs.declared.transfer.Transfer.TheVariants.{Whole}
-use Rattle.zone_rows.specs.Row.{PlainRow}
+use Rattle.dns_record.specs.Row.{PlainRow}
 use Rattle.axfr_apply.specs.declared.asked.Asked.{Asked}
 use Rattle.axfr_apply.specs.declared.fault.TransferError.{TransferError}
 use Rattle.axfr_apply.specs.declared.fault.TransferError.TheVariants as errors
@@ -16,7 +16,7 @@ use Rattle.axfr_apply.specs.declared.step.Begun.{Begun}
 use Rattle.axfr_apply.specs.declared.taken.Fed.{Fed}
 use Rattle.axfr_apply.specs.declared.taken.Fed.TheVariants as fed
 use Rattle.axfr_apply.specs.declared.taken.Taken.TheVariants as taken
-use Rattle.axfr_apply.specs.Feeding.{Reader, HasZone, HasRead, Stands, IsOpen, WaitsBehind, Waits, Feeds, Fate, more, current_at, done, begun_fate, next_fate, fate, Meets, Falls, progress_left, left_of}
+use Rattle.axfr_apply.specs.Feeding.{Reader, HasZone, HasRead, Stands, IsOpen, WaitsBehind, Waits, Feeds, FeedOutcome, more, current_at, done, begun_outcome, next_outcome, feed_outcome, Meets, Falls, progress_left, left_of}
 use Rattle.axfr_apply.specs.Item.{Item, items, items_of, records}
 use Rattle.axfr_apply.specs.Progress.{Next, on, current, message_run, new_progress}
 use Rattle.axfr_apply.specs.Reading.{Outcome, is_soa, first_end, until_soa, whole_zone, outcome_of}
@@ -26,7 +26,7 @@ use Rattle.axfr_apply.proofs.Standing.{Agrees, message_agrees}
 use Rattle.axfr_apply.proofs.Zones.{closing_open, closing_closed}
 
 -- how a message ends a transfer, by what it does to the reader
-abbrev pub fate_end : Result Fate TransferFault → Option Outcome
+abbrev pub fate_end : Result FeedOutcome TransferFault → Option Outcome
 fate_end (Ok (more p)) = None
 fate_end (Ok (current_at theirs)) = Some (Ok (taken.Current theirs))
 fate_end (Ok (done transfer)) = Some (Ok (taken.New transfer))
@@ -63,8 +63,8 @@ not_closed-zone begun rows rs zone still =
 
 -- what the reader does where the items don't end the transfer
 record Goes (asked : Asked) (p : Progress) (messages : List (List ℕ)) : Type 0 where
-  ends : whole_zone (records (items messages)) ≡ fate_end (Ok (begun_fate p.begun p))
-  waits : (q : Progress) → begun_fate p.begun p ≡ more q → WaitsBehind asked (Some q) messages
+  ends : whole_zone (records (items messages)) ≡ fate_end (Ok (begun_outcome p.begun p))
+  waits : (q : Progress) → begun_outcome p.begun p ≡ more q → WaitsBehind asked (Some q) messages
 
 same_more : (p q : Progress) → more p ≡ more q → p ≡ q
 same_more p q e = cc
@@ -72,17 +72,17 @@ same_more p q e = cc
 goes_by : (asked : Asked) (p : Progress) (messages : List (List ℕ)) (b : Bool) (begun : Begun) → Stands asked p (items messages) → p.begun ≡ Some begun → begun.is_closed ≡ b → Goes asked p messages
 goes_by asked p messages true begun stands some shut =
     let zone : HasZone begun p.rows (records (items messages)) = rw some at stands.has_read in
-    let is_done : begun_fate p.begun p ≡ done (Whole begun.soa p.rows) = ap (λ (b : Option Begun). begun_fate b p) some ∙ rw shut refl in
+    let is_done : begun_outcome p.begun p ≡ done (Whole begun.soa p.rows) = ap (λ (b : Option Begun). begun_outcome b p) some ∙ rw shut refl in
     record {
-      ends = closed-zone begun p.rows (records (items messages)) zone shut ∙ sym (ap (λ (x : Fate). fate_end (Ok x)) is_done);
+      ends = closed-zone begun p.rows (records (items messages)) zone shut ∙ sym (ap (λ (x : FeedOutcome). fate_end (Ok x)) is_done);
       waits = λ q e. let never : done (Whole begun.soa p.rows) ≡ more q = sym is_done ∙ e in absurd cc;
     }
 goes_by asked p messages false begun stands some still =
     let zone : HasZone begun p.rows (records (items messages)) = rw some at stands.has_read in
     let is_open : IsOpen p.begun = rw some still in
-    let goes_on : begun_fate p.begun p ≡ more p = ap (λ (b : Option Begun). begun_fate b p) some ∙ rw still refl in
+    let goes_on : begun_outcome p.begun p ≡ more p = ap (λ (b : Option Begun). begun_outcome b p) some ∙ rw still refl in
     record {
-      ends = not_closed-zone begun p.rows (records (items messages)) zone still ∙ sym (ap (λ (x : Fate). fate_end (Ok x)) goes_on);
+      ends = not_closed-zone begun p.rows (records (items messages)) zone still ∙ sym (ap (λ (x : FeedOutcome). fate_end (Ok x)) goes_on);
       waits = λ q e. let same : more p ≡ more q = sym goes_on ∙ e in subst (λ (x : Progress). WaitsBehind asked (Some x) messages) (same_more p q same) (stands, is_open);
     }
 
@@ -91,20 +91,20 @@ unfolding whole_zone
 goes asked p messages None stands none =
     let read : HasRead None p.rows (records (items messages)) = rw none at stands.has_read in
     let is_open : IsOpen p.begun = rw none tt in
-    let goes_on : begun_fate p.begun p ≡ more p = ap (λ (b : Option Begun). begun_fate b p) none in
+    let goes_on : begun_outcome p.begun p ≡ more p = ap (λ (b : Option Begun). begun_outcome b p) none in
     record {
-      ends = ap whole_zone read.0 ∙ sym (ap (λ (x : Fate). fate_end (Ok x)) goes_on);
+      ends = ap whole_zone read.0 ∙ sym (ap (λ (x : FeedOutcome). fate_end (Ok x)) goes_on);
       waits = λ q e. let same : more p ≡ more q = sym goes_on ∙ e in subst (λ (x : Progress). WaitsBehind asked (Some x) messages) (same_more p q same) (stands, is_open);
     }
 goes asked p messages (Some begun) stands some = goes_by asked p messages begun.is_closed begun stands some refl
 
 -- what a message does to a reader that waits
-pub record Fated (asked : Asked) (p : Progress) (messages : List (List ℕ)) (gives : Result Fate TransferFault) : Type 0 where
+pub record Fated (asked : Asked) (p : Progress) (messages : List (List ℕ)) (gives : Result FeedOutcome TransferFault) : Type 0 where
   pub ends : outcome_of asked messages ≡ fate_end gives
   pub waits : (q : Progress) → gives ≡ Ok (more q) → WaitsBehind asked (Some q) messages
 
 fated_by : (asked : Asked) (p : Progress) (messages : List (List ℕ)) (octets : List ℕ) (run : Result Next TransferFault) → Stands asked p (items messages) → Agrees asked (items messages) (items_of octets) run
-    → Fated asked p (messages ++ octets ∷ []) (run >>= next_fate)
+    → Fated asked p (messages ++ octets ∷ []) (run >>= next_outcome)
 unfolding outcome_of
 fated_by asked p messages octets (Err fault) stands agrees =
     let first : first_end asked [] (items (messages ++ octets ∷ [])) ≡ Some (Err fault) = ap (first_end asked []) (items-more messages octets) ∙ first_end-behind asked (items messages) (items_of octets) stands.no_end ∙ agrees in
@@ -117,11 +117,11 @@ fated_by asked p messages octets (Ok (on q)) stands agrees =
     let g = goes asked q (messages ++ octets ∷ []) q.begun behind refl in
     record { ends = rw (behind.no_end) g.ends; waits = λ x e. g.waits x cc }
 
-pub fated : (asked : Asked) (p : Progress) (messages : List (List ℕ)) (octets : List ℕ) → Stands asked p (items messages) → Fated asked p (messages ++ octets ∷ []) (fate asked (Some p) octets)
+pub fated : (asked : Asked) (p : Progress) (messages : List (List ℕ)) (octets : List ℕ) → Stands asked p (items messages) → Fated asked p (messages ++ octets ∷ []) (feed_outcome asked (Some p) octets)
 fated asked p messages octets stands = fated_by asked p messages octets (message_run asked p octets) stands (message_agrees asked p (items messages) octets stands)
 
 -- a reader meets what a message does to it
-meets_feeds : (asked : Asked) (p : Progress) (new : Reader) (messages : List (List ℕ)) (gives : Result Fate TransferFault) (result : Result Fed TransferError) (np : Option Progress) → new.asked ≡ asked → new.progress ≡ np → Fated asked p messages gives → Meets result np gives
+meets_feeds : (asked : Asked) (p : Progress) (new : Reader) (messages : List (List ℕ)) (gives : Result FeedOutcome TransferFault) (result : Result Fed TransferError) (np : Option Progress) → new.asked ≡ asked → new.progress ≡ np → Fated asked p messages gives → Meets result np gives
     → Feeds result new messages (outcome_of asked messages)
 meets_feeds asked p new messages gives (Ok fed.More) None same is f meets = absurd meets
 meets_feeds asked p new messages gives (Ok fed.More) (Some q) same is f meets =
@@ -131,36 +131,36 @@ meets_feeds asked p new messages gives (Ok (fed.Done transfer)) np same is f mee
 meets_feeds asked p new messages gives (Err errors.OutOfMemory) np same is f meets = is ∙ meets
 meets_feeds asked p new messages gives (Err (errors.Fault fault)) np same is f meets = (f.ends ∙ ap fate_end meets.0, is ∙ meets.1)
 
-feeds_by : (asked : Asked) (old : Option Progress) (new : Reader) (messages : List (List ℕ)) (octets : List ℕ) (result : Result Fed TransferError) → new.asked ≡ asked → WaitsBehind asked old messages → Meets result new.progress (fate asked old octets)
+feeds_by : (asked : Asked) (old : Option Progress) (new : Reader) (messages : List (List ℕ)) (octets : List ℕ) (result : Result Fed TransferError) → new.asked ≡ asked → WaitsBehind asked old messages → Meets result new.progress (feed_outcome asked old octets)
     → Feeds result new (messages ++ octets ∷ []) (outcome_of asked (messages ++ octets ∷ []))
 feeds_by asked None new messages octets result same waits meets = absurd waits
-feeds_by asked (Some p) new messages octets result same waits meets = meets_feeds asked p new (messages ++ octets ∷ []) (fate asked (Some p) octets) result new.progress same refl (fated asked p messages octets waits.0) meets
+feeds_by asked (Some p) new messages octets result same waits meets = meets_feeds asked p new (messages ++ octets ∷ []) (feed_outcome asked (Some p) octets) result new.progress same refl (fated asked p messages octets waits.0) meets
 
-meets_old : (old : Reader) (new : Option Progress) (p : Progress) (asked : Asked) (octets : List ℕ) (result : Result Fed TransferError) → old.asked ≡ asked → old.progress ≡ Some p → Meets result new (fate asked (Some p) octets)
-    → Meets result new (fate old.asked old.progress octets)
+meets_old : (old : Reader) (new : Option Progress) (p : Progress) (asked : Asked) (octets : List ℕ) (result : Result Fed TransferError) → old.asked ≡ asked → old.progress ≡ Some p → Meets result new (feed_outcome asked (Some p) octets)
+    → Meets result new (feed_outcome old.asked old.progress octets)
 meets_old old new p asked octets result same is meets =
-    subst (λ (o : Option Progress). Meets result new (fate old.asked o octets)) (sym is) (subst (λ (a : Asked). Meets result new (fate a (Some p) octets)) (sym same) meets)
+    subst (λ (o : Option Progress). Meets result new (feed_outcome old.asked o octets)) (sym is) (subst (λ (a : Asked). Meets result new (feed_outcome a (Some p) octets)) (sym same) meets)
 
 -- what a message does to a reader that has come so far
-pub feeds : (old new : Reader) (p : Progress) (asked : Asked) (octets : List ℕ) (result : Result Fed TransferError) → old.asked ≡ asked → old.progress ≡ Some p → new.asked ≡ asked → Meets result new.progress (fate asked (Some p) octets)
+pub feeds : (old new : Reader) (p : Progress) (asked : Asked) (octets : List ℕ) (result : Result Fed TransferError) → old.asked ≡ asked → old.progress ≡ Some p → new.asked ≡ asked → Meets result new.progress (feed_outcome asked (Some p) octets)
     → (messages : List (List ℕ)) → Waits old messages → Feeds result new (messages ++ octets ∷ []) (outcome_of old.asked (messages ++ octets ∷ []))
 feeds old new p asked octets result same is after meets messages waits =
     feeds_by old.asked old.progress new messages octets result (after ∙ sym same) waits (meets_old old new.progress p asked octets result same is meets)
 
-more_by : (b : Bool) (begun : Begun) (p q : Progress) → begun.is_closed ≡ b → begun_fate (Some begun) p ≡ more q → p ≡ q
+more_by : (b : Bool) (begun : Begun) (p q : Progress) → begun.is_closed ≡ b → begun_outcome (Some begun) p ≡ more q → p ≡ q
 more_by true begun p q shut e = let never : done (Whole begun.soa p.rows) ≡ more q = rw shut at e in absurd cc
 more_by false begun p q still e = let same : more p ≡ more q = rw still at e in same_more p q same
 
-more_is : (begun : Option Begun) (p q : Progress) → begun_fate begun p ≡ more q → p ≡ q
+more_is : (begun : Option Begun) (p q : Progress) → begun_outcome begun p ≡ more q → p ≡ q
 more_is None p q e = same_more p q e
 more_is (Some begun) p q e = more_by begun.is_closed begun p q refl e
 
-run_more : (run : Result Next TransferFault) (q : Progress) → (let gives : Result Fate TransferFault = run >>= next_fate in gives ≡ Ok (more q)) → run ≡ Ok (on q)
+run_more : (run : Result Next TransferFault) (q : Progress) → (let gives : Result FeedOutcome TransferFault = run >>= next_outcome in gives ≡ Ok (more q)) → run ≡ Ok (on q)
 run_more (Err fault) q e = absurd cc
 run_more (Ok (current theirs)) q e = absurd cc
-run_more (Ok (on p)) q e = let fated : begun_fate p.begun p ≡ more q = cc in ap (λ (x : Progress). Ok (on x)) (more_is p.begun p q fated)
+run_more (Ok (on p)) q e = let fated : begun_outcome p.begun p ≡ more q = cc in ap (λ (x : Progress). Ok (on x)) (more_is p.begun p q fated)
 
-falls_by : (asked : Asked) (p : Progress) (np : Option Progress) (octets : List ℕ) (result : Result Fed TransferError) → Meets result np (fate asked (Some p) octets) → Falls result (asked.most - p.count) (progress_left asked np)
+falls_by : (asked : Asked) (p : Progress) (np : Option Progress) (octets : List ℕ) (result : Result Fed TransferError) → Meets result np (feed_outcome asked (Some p) octets) → Falls result (asked.most - p.count) (progress_left asked np)
 falls_by asked p None octets (Ok fed.More) meets = absurd meets
 falls_by asked p (Some q) octets (Ok fed.More) meets = let rises = message_rises asked p q octets (run_more (message_run asked p octets) q meets) in omega (arith, rises.0, rises.1)
 falls_by asked p np octets (Ok (fed.Current theirs)) meets = tt
@@ -170,7 +170,7 @@ falls_by asked p np octets (Err e) meets = tt
 left_is : (old : Reader) (p : Progress) (asked : Asked) → old.asked ≡ asked → old.progress ≡ Some p → left_of old ≡ asked.most - p.count
 left_is old p asked same is = ap (λ (o : Option Progress). progress_left old.asked o) is ∙ ap (λ (a : Asked). a.most - p.count) same
 
-pub falls : (old new : Reader) (p : Progress) (asked : Asked) (octets : List ℕ) (result : Result Fed TransferError) → old.asked ≡ asked → old.progress ≡ Some p → new.asked ≡ asked → Meets result new.progress (fate asked (Some p) octets)
+pub falls : (old new : Reader) (p : Progress) (asked : Asked) (octets : List ℕ) (result : Result Fed TransferError) → old.asked ≡ asked → old.progress ≡ Some p → new.asked ≡ asked → Meets result new.progress (feed_outcome asked (Some p) octets)
     → Falls result (left_of old) (left_of new)
 falls old new p asked octets result same is after meets =
     let left : left_of new ≡ progress_left asked new.progress = ap (λ (a : Asked). progress_left a new.progress) after in

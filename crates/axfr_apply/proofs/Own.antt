@@ -19,7 +19,7 @@ use Rattle.axfr_apply.specs.declared.step.Begun.{Begun}
 use Rattle.axfr_apply.specs.declared.step.Step.{Step}
 use Rattle.axfr_apply.specs.declared.step.Step.TheVariants.{Lead, Close, Current}
 use Rattle.axfr_apply.specs.declared.taken.Fed.{Fed}
-use Rattle.axfr_apply.specs.Feeding.{IsOfMessage, IsOfReader, Fate, fate, next_fate, Meets}
+use Rattle.axfr_apply.specs.Feeding.{IsOfMessage, IsOfReader, FeedOutcome, feed_outcome, next_outcome, Meets}
 use Rattle.axfr_apply.specs.Progress.{Next, on, current, fault_or, unless, checked_head, checked_message, lead_step, later_step, step_by, step_of, one_more, next_of, answer_run, answers_run, message_run, then_more}
 use Rattle.axfr_apply.specs.Reading.{soa_held, is_soa, place_fault, head_fault, question_fits}
 
@@ -110,18 +110,18 @@ unfolding message_run
 own_message asked p octets = fails_then (one_more asked p) (λ now. checked_message asked (p.count == 0) octets >>= λ m. answers_run asked now m.answer) (own_counted asked p)
     (λ now. fails_then (checked_message asked (p.count == 0) octets) (λ m. answers_run asked now m.answer) (own_checked asked (p.count == 0) (message_of octets)) (λ m. own_answers asked now m.answer))
 
-own_next : (next : Next) → FailsOwn (next_fate next)
+own_next : (next : Next) → FailsOwn (next_outcome next)
 own_next (on p) = tt
 own_next (current theirs) = tt
 
-own_fate : (asked : Asked) (p : Progress) (octets : List ℕ) → FailsOwn (fate asked (Some p) octets)
-own_fate asked p octets = fails_then (message_run asked p octets) next_fate (own_message asked p octets) own_next
+own_fate : (asked : Asked) (p : Progress) (octets : List ℕ) → FailsOwn (feed_outcome asked (Some p) octets)
+own_fate asked p octets = fails_then (message_run asked p octets) next_outcome (own_message asked p octets) own_next
 
-own_error : (gives : Result Fate TransferFault) (e : TransferError) (new : Option Progress) → FailsOwn gives → Meets (Err e) new gives → IsOfReader e
+own_error : (gives : Result FeedOutcome TransferFault) (e : TransferError) (new : Option Progress) → FailsOwn gives → Meets (Err e) new gives → IsOfReader e
 own_error gives errors.OutOfMemory new own meets = tt
-own_error gives (errors.Fault fault) new own meets = subst (λ (x : Result Fate TransferFault). FailsOwn x) meets.0 own
+own_error gives (errors.Fault fault) new own meets = subst (λ (x : Result FeedOutcome TransferFault). FailsOwn x) meets.0 own
 
 -- a fault that a reader shows is one of its message
-pub own_result : (asked : Asked) (p : Progress) (octets : List ℕ) (result : Result Fed TransferError) (new : Option Progress) → Meets result new (fate asked (Some p) octets) → IfErr result IsOfReader
+pub own_result : (asked : Asked) (p : Progress) (octets : List ℕ) (result : Result Fed TransferError) (new : Option Progress) → Meets result new (feed_outcome asked (Some p) octets) → IfErr result IsOfReader
 own_result asked p octets (Ok x) new meets = tt
-own_result asked p octets (Err e) new meets = own_error (fate asked (Some p) octets) e new (own_fate asked p octets) meets
+own_result asked p octets (Err e) new meets = own_error (feed_outcome asked (Some p) octets) e new (own_fate asked p octets) meets

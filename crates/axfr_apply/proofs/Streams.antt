@@ -3,7 +3,7 @@ use Rattle.std.proofs.Common.{◌≡◌, ℕ, zero, suc, ◌+◌, ◌*◌, ◌/�
 use Rattle.std.specs.Prelude.{nat_lt, IfSome}
 use Rattle.std.proofs.lemmas.Bool.{lt-ltb, le-ltb}
 use Rattle.edge_io.specs.Edge.{prepended, IsAtEnd}
-use Rattle.edge_io.specs.Frame.{frame_octets, TakesSome, TakesFrame, TakesNone, TakesCut, IsCut}
+use Rattle.edge_io.specs.Frame.{Frame, none, cut, whole, frame_at, frame_octets, TakesSome, TakesFrame, TakesNone, TakesCut, IsCut}
 use Rattle.axfr_apply.specs.declared.asked.Asked.{Asked}
 use Rattle.axfr_apply.specs.declared.fault.TransferError.{TransferError}
 use Rattle.axfr_apply.specs.declared.fault.TransferError.TheVariants as errors
@@ -15,7 +15,7 @@ use Rattle.axfr_apply.specs.declared.taken.Taken.TheVariants as taken
 use Rattle.zone_rows.specs.declared.transfer.Transfer.{Transfer}
 use Rattle.axfr_apply.specs.Feeding.{Reader, Feeds, IsFinished, IsOfReader, Waits, WaitsBehind}
 use Rattle.axfr_apply.specs.Reading.{Outcome, outcome_of}
-use Rattle.axfr_apply.specs.Stream.{Frame, none, cut, whole, frame_at, Read, ended_by, frame_read, read_from, reading, BlamesSource, Reads, ReadsAs, TakesMessage}
+use Rattle.axfr_apply.specs.Stream.{Read, read_end, read_of_frame, read_from, reading, BlamesSource, Reads, ReadsAs, TakesMessage}
 
 -- a stream of which these messages were read, and the rest is left
 pub record Comes (asked : Asked) (messages : List (List ℕ)) (bytes : List ℕ) (now : Option (List ℕ)) : Type 0 where
@@ -54,10 +54,10 @@ first_come asked reader before same waits = record { same = same; messages = [];
 
 -- the next step of the reading, at what the rest begins with
 read_step : (asked : Asked) (messages : List (List ℕ)) (rest : List ℕ) (frames : ℕ) (frame : Frame) → length rest < frames → frame_at rest ≡ frame
-    → (fewer : ℕ) × (frames ≡ suc fewer) × (read_from frames asked messages rest ≡ frame_read (read_from fewer asked) asked messages frame)
+    → (fewer : ℕ) × (frames ≡ suc fewer) × (read_from frames asked messages rest ≡ read_of_frame (read_from fewer asked) asked messages frame)
 unfolding read_from
 read_step asked messages rest zero frame enough e = absurd (omega (arith, enough))
-read_step asked messages rest (suc fewer) frame enough e = (fewer, refl, ap (frame_read (read_from fewer asked) asked messages) e)
+read_step asked messages rest (suc fewer) frame enough e = (fewer, refl, ap (read_of_frame (read_from fewer asked) asked messages) e)
 
 is_some_end : (after : Option (List ℕ)) (rest octets : List ℕ) → Some rest ≡ prepended octets after → (left : List ℕ) × (after ≡ Some left) × (rest ≡ octets ++ left)
 is_some_end None rest octets e = absurd cc
@@ -102,7 +102,7 @@ pub record Framed (asked : Asked) (messages : List (List ℕ)) (bytes : List ℕ
   pub left : after ≡ Some rest
   pub frames : ℕ
   pub enough : length rest < frames
-  pub goes : reading asked bytes ≡ ended_by (read_from frames asked) messages rest (outcome_of asked messages)
+  pub goes : reading asked bytes ≡ read_end (read_from frames asked) messages rest (outcome_of asked messages)
 
 pub frame_comes : (asked : Asked) (messages : List (List ℕ)) (message bytes : List ℕ) (now after : Option (List ℕ)) → Comes asked messages bytes now → TakesFrame message now after → Framed asked (messages ++ message ∷ []) bytes after
 frame_comes asked messages message bytes now after comes takes =
@@ -121,7 +121,7 @@ frame_comes asked messages message bytes now after comes takes =
 pub framed_ends : (asked : Asked) (messages : List (List ℕ)) (bytes : List ℕ) (after : Option (List ℕ)) (outcome : Outcome) → Framed asked messages bytes after → outcome_of asked messages ≡ Some outcome
     → ((reading asked bytes).0 ≡ outcome) × (after ≡ Some (reading asked bytes).1)
 framed_ends asked messages bytes after outcome framed e =
-    let read : reading asked bytes ≡ (outcome, framed.rest) = framed.goes ∙ ap (ended_by (read_from framed.frames asked) messages framed.rest) e in
+    let read : reading asked bytes ≡ (outcome, framed.rest) = framed.goes ∙ ap (read_end (read_from framed.frames asked) messages framed.rest) e in
     (ap (λ (x : Read). x.0) read, framed.left ∙ ap Some (sym (ap (λ (x : Read). x.1) read)))
 
 -- the message doesn't
@@ -131,7 +131,7 @@ framed_comes asked messages bytes after framed e = record {
   left = framed.left;
   frames = framed.frames;
   enough = framed.enough;
-  goes = framed.goes ∙ ap (ended_by (read_from framed.frames asked) messages framed.rest) e;
+  goes = framed.goes ∙ ap (read_end (read_from framed.frames asked) messages framed.rest) e;
 }
 
 -- the same where the source may tell nothing

@@ -9,7 +9,7 @@ use Rattle.std.proofs.lemmas.List.Folds.{list_any-append}
 use Rattle.dns_record.specs.declared.soa.Soa.{Soa}
 use Rattle.dns_record.specs.Record.{PlainRecord}
 use Rattle.dns_record.specs.Serial.{is_newer}
-use Rattle.zone_rows.specs.Row.{PlainRow, row_of}
+use Rattle.dns_record.specs.Row.{PlainRow, row_of}
 use Rattle.axfr_apply.specs.declared.fault.TransferFault.{TransferFault}
 use Rattle.axfr_apply.specs.declared.fault.TransferFault.TheVariants.{SoaDiffers, SerialNotNewer, TrailingRecord}
 use Rattle.axfr_apply.specs.declared.step.Begun.{Begun}

@@ -5,7 +5,7 @@ use Rattle.dns_name.specs.Reading.{◌>>=◌}
 use Rattle.dns_record.specs.Record.{PlainRecord}
 use Rattle.zone_rows.specs.declared.transfer.Transfer.{Transfer}
 use Rattle.zone_rows.specs.declared.transfer.Transfer.TheVariants.{Whole}
-use Rattle.zone_rows.specs.Row.{PlainRow, row_of}
+use Rattle.dns_record.specs.Row.{PlainRow, row_of}
 use Rattle.axfr_apply.specs.declared.asked.Asked.{Asked}
 use Rattle.axfr_apply.specs.declared.fault.TransferError.{TransferError}
 use Rattle.axfr_apply.specs.declared.fault.TransferError.TheVariants as errors
@@ -104,28 +104,28 @@ Falls (Ok fed.More) before now = now < before
 Falls result before now = ⊤
 
 -- what a message does to a reader, by how far the transfer has come
-pub data Fate : Type 0 where
-  more : Progress → Fate
-  current_at : ℕ → Fate
-  done : Transfer → Fate
+pub data FeedOutcome : Type 0 where
+  more : Progress → FeedOutcome
+  current_at : ℕ → FeedOutcome
+  done : Transfer → FeedOutcome
 
-abbrev pub begun_fate : Option Begun → Progress → Fate
-begun_fate None p = more p
-begun_fate (Some begun) p = if begun.is_closed then done (Whole begun.soa p.rows) else more p
+abbrev pub begun_outcome : Option Begun → Progress → FeedOutcome
+begun_outcome None p = more p
+begun_outcome (Some begun) p = if begun.is_closed then done (Whole begun.soa p.rows) else more p
 
-abbrev pub next_fate : Next → Result Fate TransferFault
-next_fate (on p) = Ok (begun_fate p.begun p)
-next_fate (current theirs) = Ok (current_at theirs)
+abbrev pub next_outcome : Next → Result FeedOutcome TransferFault
+next_outcome (on p) = Ok (begun_outcome p.begun p)
+next_outcome (current theirs) = Ok (current_at theirs)
 
-abbrev pub fate : Asked → Option Progress → List ℕ → Result Fate TransferFault
-fate asked None octets = Err Finished
-fate asked (Some p) octets = message_run asked p octets >>= next_fate
+abbrev pub feed_outcome : Asked → Option Progress → List ℕ → Result FeedOutcome TransferFault
+feed_outcome asked None octets = Err Finished
+feed_outcome asked (Some p) octets = message_run asked p octets >>= next_outcome
 
-abbrev pub GoesOn : Option Progress → Result Fate TransferFault → Type 0
+abbrev pub GoesOn : Option Progress → Result FeedOutcome TransferFault → Type 0
 GoesOn None gives = ⊥
 GoesOn (Some p) gives = gives ≡ Ok (more p)
 
-abbrev pub Meets : Result Fed TransferError → Option Progress → Result Fate TransferFault → Type 0
+abbrev pub Meets : Result Fed TransferError → Option Progress → Result FeedOutcome TransferFault → Type 0
 Meets (Ok fed.More) new gives = GoesOn new gives
 Meets (Ok (fed.Current theirs)) new gives = (gives ≡ Ok (current_at theirs)) × (new ≡ None)
 Meets (Ok (fed.Done transfer)) new gives = (gives ≡ Ok (done transfer)) × (new ≡ None)

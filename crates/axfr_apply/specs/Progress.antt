@@ -7,7 +7,7 @@ use Rattle.dns_record.specs.Serial.{is_newer}
 use Rattle.dns_message.specs.declared.fault.MessageFault.{MessageFault}
 use Rattle.dns_message.specs.declared.message.Message.{Message}
 use Rattle.dns_message.specs.Reading.{message_of}
-use Rattle.zone_rows.specs.Row.{row_of}
+use Rattle.dns_record.specs.Row.{row_of}
 use Rattle.axfr_apply.specs.declared.asked.Asked.{Asked}
 use Rattle.axfr_apply.specs.declared.fault.TransferError.{TransferError}
 use Rattle.axfr_apply.specs.declared.fault.TransferError.TheVariants as errors

@@ -14,7 +14,7 @@ use Rattle.dns_message.specs.declared.message.Message.{Message}
 use Rattle.dns_message.specs.declared.question.Question.{Question}
 use Rattle.dns_message.specs.Reading.{message_of}
 use Rattle.zone_rows.specs.declared.transfer.Transfer.TheVariants.{Whole}
-use Rattle.zone_rows.specs.Row.{row_of}
+use Rattle.dns_record.specs.Row.{row_of}
 use Rattle.axfr_apply.specs.declared.asked.Asked.{Asked}
 use Rattle.axfr_apply.specs.declared.fault.TransferFault.{TransferFault}
 use Rattle.axfr_apply.specs.declared.fault.TransferFault.TheVariants.{BadMessage, WrongId, NotResponse, Truncated, Rcode, WrongQuestion, NoLeadingSoa, WrongClass, OutOfZone, WrongSoaOwner, SoaDiffers, SerialNotNewer, TrailingRecord, TooManyRecords}
@@ -81,10 +81,10 @@ abbrev pub soa_end : Option ℕ → List Soa → Soa → Option Outcome
 soa_end have [] soa = first_soa_end have soa.serial
 soa_end have (first ∷ others) soa = if soa.serial == first.serial then None else Some (Err (SoaDiffers first.serial soa.serial))
 
-abbrev pub placed_end : Option ℕ → List Soa → Option Soa → Option TransferFault → Option Outcome
-placed_end have before soa (Some fault) = Some (Err fault)
-placed_end have before None None = None
-placed_end have before (Some soa) None = soa_end have before soa
+abbrev pub end_at_place : Option ℕ → List Soa → Option Soa → Option TransferFault → Option Outcome
+end_at_place have before soa (Some fault) = Some (Err fault)
+end_at_place have before None None = None
+end_at_place have before (Some soa) None = soa_end have before soa
 
 -- how a record ends the transfer, by the SOAs before it, whether it is the first record, the SOA that it holds, and
 -- what is wrong with its class and owner
@@ -92,7 +92,7 @@ abbrev pub record_end : Option ℕ → List Soa → Bool → Option Soa → Opti
 record_end have before is_first soa fault =
     if nat_lt 1 (length before) then Some (Err TrailingRecord)
     else (if is_first && not (is_some soa) then Some (Err NoLeadingSoa)
-    else placed_end have before soa fault)
+    else end_at_place have before soa fault)
 
 -- how an answer record ends the transfer, behind these records
 abbrev pub answer_end : Asked → List PlainRecord → PlainRecord → Option Outcome

@@ -1,6 +1,6 @@
 -- What a stream of bytes is as the transfer of a whole zone.
-use Rattle.std.specs.Prelude.{◌≡◌, ℕ, zero, suc, ◌+◌, ◌*◌, nat_lt, if◌then◌else◌, List, [], ◌∷◌, ◌++◌, length, take, drop, Option, Some, None, Result, Ok, Err, IfSome, ⊤}
-use Rattle.edge_io.specs.Frame.{TakesSome, TakesFrame, TakesNone, TakesCut}
+use Rattle.std.specs.Prelude.{◌≡◌, ℕ, zero, suc, ◌+◌, List, [], ◌∷◌, ◌++◌, length, Option, Some, None, Result, Ok, Err, IfSome, ⊤}
+use Rattle.edge_io.specs.Frame.{Frame, none, cut, whole, frame_at, TakesSome, TakesFrame, TakesNone, TakesCut}
 use Rattle.axfr_apply.specs.declared.fault.TransferError.{TransferError}
 use Rattle.axfr_apply.specs.declared.fault.TransferError.TheVariants as errors
 use Rattle.axfr_apply.specs.declared.asked.Asked.{Asked}
@@ -9,35 +9,23 @@ use Rattle.axfr_apply.specs.declared.fault.TransferFault.TheVariants.{ReadFault,
 use Rattle.axfr_apply.specs.declared.taken.Taken.{Taken}
 use Rattle.axfr_apply.specs.Reading.{Outcome, outcome_of}
 
--- what a stream begins with: nothing, part of a frame, or a whole frame, of which the message and what follows are told
--- (RFC 1035, section 4.2.2)
-pub data Frame : Type 0 where
-  none : Frame
-  cut : Frame
-  whole : List ℕ → List ℕ → Frame
-
-abbrev pub frame_at : List ℕ → Frame
-frame_at [] = none
-frame_at (high ∷ []) = cut
-frame_at (high ∷ low ∷ rest) = let count = 256 * high + low in if nat_lt (length rest) count then cut else whole (take count rest) (drop count rest)
-
 -- how a stream ends a transfer, and the bytes behind the message that ends it
 abbrev pub Read : Type 0
 Read = Outcome × List ℕ
 
-abbrev pub ended_by : (List (List ℕ) → List ℕ → Read) → List (List ℕ) → List ℕ → Option Outcome → Read
-ended_by go messages rest (Some outcome) = (outcome, rest)
-ended_by go messages rest None = go messages rest
+abbrev pub read_end : (List (List ℕ) → List ℕ → Read) → List (List ℕ) → List ℕ → Option Outcome → Read
+read_end go messages rest (Some outcome) = (outcome, rest)
+read_end go messages rest None = go messages rest
 
-abbrev pub frame_read : (List (List ℕ) → List ℕ → Read) → Asked → List (List ℕ) → Frame → Read
-frame_read go asked before none = (Err EndedEarly, [])
-frame_read go asked before cut = (Err Cut, [])
-frame_read go asked before (whole message rest) = let messages : List (List ℕ) = before ++ message ∷ [] in ended_by go messages rest (outcome_of asked messages)
+abbrev pub read_of_frame : (List (List ℕ) → List ℕ → Read) → Asked → List (List ℕ) → Frame → Read
+read_of_frame go asked before none = (Err EndedEarly, [])
+read_of_frame go asked before cut = (Err Cut, [])
+read_of_frame go asked before (whole message rest) = let messages : List (List ℕ) = before ++ message ∷ [] in read_end go messages rest (outcome_of asked messages)
 
 -- behind these messages, in at most so many frames
 unfoldable pub read_from : ℕ → Asked → List (List ℕ) → List ℕ → Read
 read_from zero asked before bytes = (Err EndedEarly, [])
-read_from (suc frames) asked before bytes = frame_read (read_from frames asked) asked before (frame_at bytes)
+read_from (suc frames) asked before bytes = read_of_frame (read_from frames asked) asked before (frame_at bytes)
 
 -- What a stream is: how the first of its messages, so many that they end the transfer, do so; or that it ends before, in a frame
 -- or between frames. Each frame has two bytes at least, so the number of frames never ends the reading.

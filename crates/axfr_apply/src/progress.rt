@@ -7,9 +7,9 @@ use crate::asked::Asked;
 use crate::fault::{TransferError, TransferFault};
 use crate::heads::read_checked;
 use crate::step::{Begun, Step, judge};
-use dns_record::Record;
+use dns_record::{Record, Row};
 use std::alloc::Global;
-use zone_rows::{Row, Rows};
+use zone_rows::Rows;
 
 /// How far a transfer has come.
 #[derive(Debug, Drop)]
@@ -48,7 +48,7 @@ impl Progress {
         }
     }
 
-    // Takes an answer record. The serial is told where it is the one that we have.
+    // Takes an answer record. The serial is given where it is the one that we have.
     fn take_answer(
         &mut self,
         alloc: Global,
@@ -93,7 +93,7 @@ impl Progress {
         Ok(None)
     }
 
-    /// Takes a message. The serial is told where it is the one that we have.
+    /// Takes a message. The serial is given where it is the one that we have.
     #[tactic(auto, unfolding(crate::specs::Progress::message_run))]
     pub fn take_message(
         &mut self,

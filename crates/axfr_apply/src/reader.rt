@@ -3,7 +3,7 @@
 ghost use Rattle.std.specs.Prelude.{◌≡◌, ℕ, List, [], ◌∷◌, ◌++◌, Some, None, Err, IfOk, IfErr};
 ghost use Rattle.axfr_apply.specs.declared.fault.TransferError.TheVariants as errors;
 ghost use Rattle.axfr_apply.specs.declared.fault.TransferFault.TheVariants as faults;
-ghost use Rattle.axfr_apply.specs.Feeding.{Falls, Feeds, IsFinished, IsOfReader, Meets, Waits, fate, left_of, new_reader};
+ghost use Rattle.axfr_apply.specs.Feeding.{Falls, Feeds, IsFinished, IsOfReader, Meets, Waits, feed_outcome, left_of, new_reader};
 ghost use Rattle.axfr_apply.specs.Reading.{outcome_of};
 
 use crate::asked::{Asked, MOST};
@@ -77,7 +77,7 @@ impl WholeReader {
     // Takes a message, where the transfer has come so far and its progress is taken out.
     fn advance(&mut self, mut progress: Progress, message: &[u8]) -> Result<Fed, TransferError>
         requires { self.old.progress ≡ None }
-        ensures meets { Meets result self.new.progress (fate self.old.asked (Some progress) message.now) }
+        ensures meets { Meets result self.new.progress (feed_outcome self.old.asked (Some progress) message.now) }
         ensures asked { self.new.asked ≡ self.old.asked }
     {
         if let Some(theirs) = progress.take_message(self.alloc, &self.asked, message)? {

@@ -21,7 +21,7 @@ use Rattle.dns_message.specs.declared.message.Message.{Message}
 use Rattle.dns_message.specs.declared.question.Question.{Question}
 use Rattle.dns_message.specs.Faults.{HasNoQuestion, count_before, count_in_all, HasRecords, MessageShows}
 use Rattle.dns_message.specs.Grammar.{RecordsAt, OneQuestionAt, QuestionAt}
-use Rattle.dns_message.specs.Reading.{is_opt, edns_in, end_at, question_at, questions_at, some_question, records_at, ended, sections_of, message_of}
+use Rattle.dns_message.specs.Reading.{is_opt, edns_in, end_at, question_at, questions_at, some_question, records_at, unless_trailing, sections_of, message_of}
 use Rattle.dns_message.proofs.MessageReads.{at_edns, at_additional, at_authority, at_answer, at_question}
 use Rattle.dns_message.proofs.QuestionGrammar.{question_only, question_reads, question_stands, questions_stand, questions_only, question_inside}
 use Rattle.dns_message.proofs.RecordsGrammar.{ReadsRecords, record_from, records_stand, records_inside}
@@ -143,7 +143,7 @@ faulty bytes question question_end records place count fault long asked stand h 
 
 -- what is wrong behind the records
 
-ended_fault : (bytes : List ℕ) (place : ℕ) (rest : Result (Option Edns) MessageFault) (fault : MessageFault) → ended bytes place rest ≡ Err fault → ((place < length bytes) × (Trailing ≡ fault)) ⊎ ((length bytes ≤ place) × (rest ≡ Err fault))
+ended_fault : (bytes : List ℕ) (place : ℕ) (rest : Result (Option Edns) MessageFault) (fault : MessageFault) → unless_trailing bytes place rest ≡ Err fault → ((place < length bytes) × (Trailing ≡ fault)) ⊎ ((length bytes ≤ place) × (rest ≡ Err fault))
 ended_fault bytes place rest fault =
     cond_both (ltb place (length bytes)) (Err Trailing) rest (λ (r : Result (Option Edns) MessageFault). r ≡ Err fault → ((place < length bytes) × (Trailing ≡ fault)) ⊎ ((length bytes ≤ place) × (rest ≡ Err fault)))
     (λ t e. inl (ltb-true place (length bytes) t, err_is {A = Option Edns} Trailing fault e))
@@ -199,7 +199,7 @@ two_opts bytes question answer authority additional h end two =
 behind_additional : (bytes : List ℕ) (question : Option Question × ℕ) (answer authority additional : Records) (fault : MessageFault) → Sections bytes question answer authority additional → at_additional bytes question answer authority additional ≡ Err fault → MessageShows bytes fault
 behind_additional bytes question answer authority additional fault h e =
     let opts = filter is_opt additional.0 in
-    elim (bind_err (ended bytes additional.1 (edns_in opts)) (at_edns bytes question answer authority additional) fault e) [
+    elim (bind_err (unless_trailing bytes additional.1 (edns_in opts)) (at_edns bytes question answer authority additional) fault e) [
       | inl f ↦ elim (ended_fault bytes additional.1 (edns_in opts) fault f) [
         | inl more ↦
             let shows : MessageShows bytes Trailing = record { records = in_all answer authority additional; after = additional.1; stand = all_stand bytes question answer authority additional h; counted = all_counted bytes question answer authority additional h; more = more.0 } in

@@ -11,7 +11,7 @@ use Rattle.dns_message.specs.declared.fault.MessageFault.{MessageFault}
 use Rattle.dns_message.specs.declared.fault.MessageFault.TheVariants.{Short, Trailing}
 use Rattle.dns_message.specs.declared.message.Message.{Message}
 use Rattle.dns_message.specs.declared.question.Question.{Question}
-use Rattle.dns_message.specs.Reading.{header_in, is_opt, edns_in, questions_at, records_at, ended, sections_of, message_of}
+use Rattle.dns_message.specs.Reading.{header_in, is_opt, edns_in, questions_at, records_at, unless_trailing, sections_of, message_of}
 
 pub record ReadsMessage (bytes : List ℕ) (m : Message) : Type 0 where
   pub long : 12 ≤ length bytes
@@ -57,7 +57,7 @@ abbrev pub at_edns : List ℕ → Option Question × ℕ → Records → Records
 at_edns bytes question answer authority additional edns = Ok (read_message bytes question answer authority additional edns)
 
 abbrev pub at_additional : List ℕ → Option Question × ℕ → Records → Records → Records → Result Message MessageFault
-at_additional bytes question answer authority additional = ended bytes additional.1 (edns_in (filter is_opt additional.0)) >>= at_edns bytes question answer authority additional
+at_additional bytes question answer authority additional = unless_trailing bytes additional.1 (edns_in (filter is_opt additional.0)) >>= at_edns bytes question answer authority additional
 
 abbrev pub at_authority : List ℕ → Option Question × ℕ → Records → Records → Result Message MessageFault
 at_authority bytes question answer authority = records_at (number_at 2 bytes 10) bytes authority.1 >>= at_additional bytes question answer authority
@@ -68,7 +68,7 @@ at_answer bytes question answer = records_at (number_at 2 bytes 8) bytes answer.
 abbrev pub at_question : List ℕ → Option Question × ℕ → Result Message MessageFault
 at_question bytes question = records_at (number_at 2 bytes 6) bytes question.1 >>= at_answer bytes question
 
-pub ended_is : (bytes : List ℕ) (place : ℕ) (rest : Result (Option Edns) MessageFault) (edns : Option Edns) → ended bytes place rest ≡ Ok edns → (length bytes ≤ place) × (rest ≡ Ok edns)
+pub ended_is : (bytes : List ℕ) (place : ℕ) (rest : Result (Option Edns) MessageFault) (edns : Option Edns) → unless_trailing bytes place rest ≡ Ok edns → (length bytes ≤ place) × (rest ≡ Ok edns)
 ended_is bytes place rest edns =
     cond_both (ltb place (length bytes)) (Err Trailing) rest (λ (r : Result (Option Edns) MessageFault). r ≡ Ok edns → (length bytes ≤ place) × (rest ≡ Ok edns))
     (λ t e. absurd cc)
@@ -84,7 +84,7 @@ sections_read bytes m long e =
     let b = bind_ok (records_at (number_at 2 bytes 6) bytes a.0.1) (at_answer bytes a.0) m a.2 in
     let c = bind_ok (records_at (number_at 2 bytes 8) bytes b.0.1) (at_authority bytes a.0 b.0) m b.2 in
     let d = bind_ok (records_at (number_at 2 bytes 10) bytes c.0.1) (at_additional bytes a.0 b.0 c.0) m c.2 in
-    let f = bind_ok (ended bytes d.0.1 (edns_in (filter is_opt d.0.0))) (at_edns bytes a.0 b.0 c.0 d.0) m d.2 in
+    let f = bind_ok (unless_trailing bytes d.0.1 (edns_in (filter is_opt d.0.0))) (at_edns bytes a.0 b.0 c.0 d.0) m d.2 in
     let end = ended_is bytes d.0.1 (edns_in (filter is_opt d.0.0)) f.0 f.1 in
     read_same bytes (read_message bytes a.0 b.0 c.0 d.0 f.0) m (ok_is {E = MessageFault} (read_message bytes a.0 b.0 c.0 d.0 f.0) m f.2) (record {
       long = long;

@@ -9,7 +9,7 @@ use Rattle.dns_message.specs.declared.limit.TheConstants.{LEAST_LIMIT, GREATEST_
 use Rattle.dns_message.specs.declared.message.Message.{Message}
 use Rattle.dns_message.specs.declared.question.Question.{Question}
 use Rattle.dns_message.specs.declared.request.Query.{Query}
-use Rattle.dns_message.specs.Spelling.{parts_octets, spelled}
+use Rattle.dns_message.specs.Spelling.{parts_octets, spelling}
 
 -- over UDP: the size that the OPT record of the request tells, within bounds; the least without one
 abbrev pub udp_limit : Option Edns → ℕ
@@ -29,8 +29,8 @@ abbrev pub truncated_header : Header → Header
 truncated_header h = record { id = h.id; qr = h.qr; opcode = h.opcode; aa = h.aa; tc = true; rd = h.rd; ra = h.ra; rcode = h.rcode }
 
 -- the truncated form of a message: its header with TC 1, the question, and the OPT record
-abbrev pub truncated : Message → Message
-truncated m = record { header = truncated_header m.header; question = m.question; answer = []; authority = []; additional = []; edns = m.edns }
+abbrev pub truncated_form : Message → Message
+truncated_form m = record { header = truncated_header m.header; question = m.question; answer = []; authority = []; additional = []; edns = m.edns }
 
 -- the octets of a truncated message of these parts
 abbrev pub truncated_octets : Header → Option Question → Option Edns → List ℕ
@@ -41,8 +41,8 @@ abbrev pub within_limit : ℕ → List ℕ → List ℕ → List ℕ
 within_limit limit whole cut = if nat_lt limit (length whole) then cut else whole
 
 -- a message as it is written within a limit
-abbrev pub spelled_within : ℕ → Message → List ℕ
-spelled_within limit m = within_limit limit (spelled m) (spelled (truncated m))
+abbrev pub spelling_within : ℕ → Message → List ℕ
+spelling_within limit m = within_limit limit (spelling m) (spelling (truncated_form m))
 
 -- the octets of a message of this header, question and OPT record, or of its truncated form, within a limit
 abbrev pub octets_within : ℕ → List ℕ → Header → Option Question → Option Edns → List ℕ

@@ -76,8 +76,8 @@ edns_in (opt ∷ []) = Ok (Some (edns_of opt))
 edns_in (opt ∷ other ∷ opts) = Err TwoOpts
 
 -- what follows the end of a message, which is no later than the end of its octets
-abbrev pub ended : {A : Type 0} → List ℕ → ℕ → Result A MessageFault → Result A MessageFault
-ended bytes place rest = if nat_lt place (length bytes) then Err Trailing else rest
+abbrev pub unless_trailing : {A : Type 0} → List ℕ → ℕ → Result A MessageFault → Result A MessageFault
+unless_trailing bytes place rest = if nat_lt place (length bytes) then Err Trailing else rest
 
 -- The message after its header. The count of questions is looked at before anything behind the header, and the OPT
 -- records only once all records are read to the end of the octets.
@@ -87,7 +87,7 @@ sections_of bytes = do
   answer ← records_at (number_at 2 bytes 6) bytes question.1
   authority ← records_at (number_at 2 bytes 8) bytes answer.1
   additional ← records_at (number_at 2 bytes 10) bytes authority.1
-  edns ← ended bytes additional.1 (edns_in (filter is_opt additional.0))
+  edns ← unless_trailing bytes additional.1 (edns_in (filter is_opt additional.0))
   Ok (record { header = header_in bytes; question = question.0; answer = answer.0; authority = authority.0; additional = filter (λ r. not (is_opt r)) additional.0; edns = edns })
 
 -- The message that the bytes are, or the first fault.

@@ -61,20 +61,20 @@ is_served h question = question.qclass == 1 && (not (question.qtype == 251 || qu
 
 -- A well formed request. The response code 16 (BADVERS; RFC 6891, section 9) says that the version isn't served: its
 -- lower 4 bits, in the header, are 0.
-abbrev pub answered : Header → Question → Option Edns → Addr → Transport → Incoming
-answered h question edns client transport =
+abbrev pub query_or_refusal : Header → Question → Option Edns → Addr → Transport → Incoming
+query_or_refusal h question edns client transport =
     if has_later_version edns then Refuse (with_question NO_ERROR h question (reply_edns BAD_VERSION edns))
     else (if is_served h question then Asks (record { id = h.id; rd = h.rd; question = question; edns = edns; client = client; transport = transport })
     else Refuse (with_question REFUSED h question (reply_edns 0 edns)))
 
 -- a request of the opcode 0
-abbrev pub judged : Header → Option Asked → Addr → Transport → Incoming
-judged h None client transport = Refuse (header_alone FORMAT_ERROR h)
-judged h (Some asked) client transport = answered h asked.0 asked.1 client transport
+abbrev pub request_outcome : Header → Option Asked → Addr → Transport → Incoming
+request_outcome h None client transport = Refuse (header_alone FORMAT_ERROR h)
+request_outcome h (Some asked) client transport = query_or_refusal h asked.0 asked.1 client transport
 
 -- What is done with the bytes.
 unfoldable pub incoming_of : List ℕ → Addr → Transport → Incoming
 incoming_of bytes client transport =
     if not (speaks_in bytes) then Silent
-    else (if (header_in bytes).opcode == 0 then judged (header_in bytes) (asked_in (message_of bytes)) client transport
+    else (if (header_in bytes).opcode == 0 then request_outcome (header_in bytes) (asked_in (message_of bytes)) client transport
     else Refuse (header_alone NOT_IMPLEMENTED (header_in bytes)))

@@ -67,8 +67,8 @@ abbrev pub message_octets : ℕ → Message → List ℕ
 message_octets z m = parts_octets z m.header m.question m.answer m.authority m.additional m.edns
 
 -- the one spelling: the bits Z are 0
-abbrev pub spelled : Message → List ℕ
-spelled m = message_octets 0 m
+abbrev pub spelling : Message → List ℕ
+spelling m = message_octets 0 m
 
 pub record IsQuestion (question : Question) : Type 0 where
   pub is_name : IsName question.name

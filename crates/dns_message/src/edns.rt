@@ -6,7 +6,7 @@ ghost use Rattle.dns_message.specs.Request.{reply_edns as told_edns};
 /// The version of the extension that is served (RFC 6891, section 6.1.3).
 pub const EDNS_VERSION: u8 = 0;
 
-/// The size in bytes that OPT records of replies tell, and the most that a reply over UDP has. Such a packet
+/// The size in bytes in OPT records of replies, and the most that a reply over UDP has. Such a packet
 /// passes networks without being cut into fragments.
 pub const UDP_PAYLOAD: u16 = 1232;
 

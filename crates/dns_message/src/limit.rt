@@ -14,7 +14,7 @@ pub const LEAST_LIMIT: usize = 512;
 /// How many bytes a message over TCP has at most (RFC 1035, section 4.2.2). No limit is higher.
 pub const GREATEST_LIMIT: usize = 65_535;
 
-/// How many bytes the reply to a query has at most: over UDP 512, or the size that its OPT record tells, but
+/// How many bytes the reply to a query has at most: over UDP 512, or the size that its OPT record gives, but
 /// at least 512 and at most 1232 (RFC 6891, section 6.2.3); over TCP 65,535.
 pub fn reply_limit(query: &Query) -> usize
     ensures limit { result ≡ limit_of query.now }

@@ -8,7 +8,7 @@ use crate::header::Header;
 use crate::message::Message;
 use crate::opt_reading::{edns_among, without_opts};
 use crate::question::Question;
-use dns_name::{NameError, Names};
+use dns_name::{NameError, NameReader};
 use dns_record::number::u16_at;
 use dns_record::{Records, read_record_of};
 use std::alloc::Global;
@@ -32,7 +32,7 @@ fn read_sections(alloc: Global, bytes: &[u8]) -> Result<Message, MessageError>
     ensures { Gives (λ x. x) result (sections_of bytes.now) }
 {
     let header = read_header(bytes);
-    let mut names = Names::new(alloc, bytes);
+    let mut names = NameReader::new(alloc, bytes);
     let (question, place) = read_questions(alloc, u16_at(bytes, 4), &mut names)?;
     let (answer, place) = read_records(alloc, u16_at(bytes, 6), &mut names, place)?;
     let (authority, place) = read_records(alloc, u16_at(bytes, 8), &mut names, place)?;
@@ -84,7 +84,7 @@ fn is_set(value: u8, byte: u8) -> bool
 fn read_questions(
     alloc: Global,
     count: u16,
-    names: &mut Names<'_>,
+    names: &mut NameReader<'_>,
 ) -> Result<(Option<Question>, usize), MessageError>
     ensures read { Gives (λ x. x) result (questions_at count names.old) }
     ensures same { names.new ≡ names.old }
@@ -103,7 +103,7 @@ fn read_questions(
 #[tactic(auto, unfolding(crate::specs::Reading::question_at))]
 fn read_question(
     alloc: Global,
-    names: &mut Names<'_>,
+    names: &mut NameReader<'_>,
     at: usize,
 ) -> Result<(Question, usize), MessageError>
     ensures read { Gives (λ x. x) result (question_at names.old at) }
@@ -143,7 +143,7 @@ fn end_of(bytes: &[u8], place: usize, count: usize) -> Result<usize, MessageFaul
 fn read_records(
     alloc: Global,
     count: u16,
-    names: &mut Names<'_>,
+    names: &mut NameReader<'_>,
     at: usize,
 ) -> Result<(Records, usize), MessageError>
     ensures read { Gives (λ x. x) result (records_at count names.old at) }

@@ -2,7 +2,7 @@
 
 ghost use Rattle.std.specs.Prelude.{◌≡◌, IfOk};
 ghost use Rattle.dns_message.specs.Reading.{message_of};
-ghost use Rattle.dns_message.specs.Request.{speaks_in, refusal as refusal_of, asked_of as asked_by, asked_in, has_later_version as later_version, is_served as serves, answered as answered_by, incoming_of};
+ghost use Rattle.dns_message.specs.Request.{speaks_in, refusal as refusal_of, asked_of as asked_by, asked_in, has_later_version as later_version, is_served as serves, query_or_refusal as answered_by, incoming_of};
 
 use crate::edns::{BAD_VERSION, EDNS_VERSION, Edns, reply_edns};
 use crate::fault::MessageError;
@@ -68,7 +68,9 @@ pub fn classify(
     }
     match read_asked(alloc, bytes)? {
         None => Ok(Incoming::Refuse(refusal(alloc, FORMAT_ERROR, &header, None, None))),
-        Some((question, edns)) => Ok(answered(alloc, &header, question, edns, client, transport)),
+        Some((question, edns)) => Ok(query_or_refusal(
+            alloc, &header, question, edns, client, transport,
+        )),
     }
 }
 
@@ -102,7 +104,7 @@ fn asked_of(message: Message) -> Option<(Question, Option<Edns>)>
 }
 
 // What is done with a well formed request.
-fn answered(
+fn query_or_refusal(
     alloc: Global,
     header: &Header,
     question: Question,
@@ -113,12 +115,12 @@ fn answered(
     ensures { result ≡ answered_by header.now question edns client transport }
 {
     if has_later_version(edns) {
-        let told = reply_edns(BAD_VERSION, edns.as_ref());
-        return Incoming::Refuse(refusal(alloc, NO_ERROR, header, Some(question), told));
+        let edns = reply_edns(BAD_VERSION, edns.as_ref());
+        return Incoming::Refuse(refusal(alloc, NO_ERROR, header, Some(question), edns));
     }
     if !is_served(header, &question) {
-        let told = reply_edns(0, edns.as_ref());
-        return Incoming::Refuse(refusal(alloc, REFUSED, header, Some(question), told));
+        let edns = reply_edns(0, edns.as_ref());
+        return Incoming::Refuse(refusal(alloc, REFUSED, header, Some(question), edns));
     }
     Incoming::Query(Query {
         id: header.id,

@@ -2,7 +2,7 @@
 
 ghost use Rattle.std.specs.Prelude.{◌≡◌, ◌≤◌, ◌++◌, length, take, option_copied, IfOk, IfSome, OnOk, OnErr};
 ghost use Rattle.dns_record.specs.Number.{number_octets};
-ghost use Rattle.dns_message.specs.Limit.{octets_within, spelled_within};
+ghost use Rattle.dns_message.specs.Limit.{octets_within, spelling_within};
 ghost use Rattle.dns_message.specs.Spelling.{first_flags as flags_first, second_flags as flags_second, question_octets, records_octets, opt_octets, header_octets, start_octets, parts_octets, IsQuestion};
 
 use crate::edns::Edns;
@@ -20,7 +20,7 @@ use std::alloc::{AllocError, Global};
 pub fn write_message(alloc: Global, message: &Message, limit: usize) -> Result<Octets, AllocError>
     requires low { LEAST_LIMIT ≤ limit }
     requires high { limit ≤ GREATEST_LIMIT }
-    ensures octets { IfOk result (λ octets. octets ≡ spelled_within limit message.now) }
+    ensures octets { IfOk result (λ octets. octets ≡ spelling_within limit message.now) }
     ensures fits { IfOk result (λ octets. length octets ≤ limit) }
 {
     let mut out = Octets::with_capacity(alloc, 512)?;
@@ -98,7 +98,8 @@ pub fn write_parts(
     additional: &[Record],
     edns: Option<&Edns>,
 ) -> Result<(), AllocError>
-    ensures ok { OnOk result (out.new ≡ out.old ++ parts_octets 0 header.now (option_copied question.entry) answer.now authority.now additional.now (option_copied edns.entry)) }
+    ensures ok { OnOk result (out.new
+        ≡ out.old ++ parts_octets 0 header.now (option_copied question.entry) answer.now authority.now additional.now (option_copied edns.entry)) }
     ensures begins { take (length out.old) out.new ≡ out.old }
     ensures question { OnOk result (IfSome (option_copied question.entry) IsQuestion) }
 {
@@ -129,7 +130,8 @@ pub fn write_start(
     authorities: usize,
     additionals: usize,
 ) -> Result<(), AllocError>
-    ensures ok { OnOk result (out.new ≡ out.old ++ start_octets header.now (option_copied question.entry) answers authorities additionals) }
+    ensures ok { OnOk result (out.new
+        ≡ out.old ++ start_octets header.now (option_copied question.entry) answers authorities additionals) }
     ensures begins { take (length out.old) out.new ≡ out.old }
 {
     write_header(
@@ -153,7 +155,8 @@ fn write_header(
     authorities: usize,
     additionals: usize,
 ) -> Result<(), AllocError>
-    ensures ok { OnOk result (out.new ≡ out.old ++ header_octets 0 header.now questions answers authorities additionals) }
+    ensures ok { OnOk result (out.new
+        ≡ out.old ++ header_octets 0 header.now questions answers authorities additionals) }
     ensures begins { take (length out.old) out.new ≡ out.old }
 {
     push_u16(out, header.id)?;

@@ -9,28 +9,28 @@ use Rattle.dns_name.specs.Reading as reading
 use Rattle.dns_name.specs.Reading.{Piece, piece_at, Outcome, with_labels, with_after, follow, name_from, name_at}
 
 -- what is read: labels, what follows, and the place after the first pointer
-abbrev pub joined : List (List ℕ) → Option ℕ → Outcome → Outcome
-joined front after (Ok (labels, end)) = Ok (front ++ labels, unwrap_or after end)
-joined front after (Err fault) = Err fault
+abbrev pub join_outcome : List (List ℕ) → Option ℕ → Outcome → Outcome
+join_outcome front after (Ok (labels, end)) = Ok (front ++ labels, unwrap_or after end)
+join_outcome front after (Err fault) = Err fault
 
 -- what the labels so far say of the name
 pub record HasRead (message : List ℕ) (at run used place : ℕ) (labels : List (List ℕ)) (after : Option ℕ) : Type 0 where
   pub left : ℕ
   pub enough : 256 * run + 256 ≤ left + used
-  pub so_far : joined labels after (name_from left message run used place) ≡ name_at message at
+  pub so_far : join_outcome labels after (name_from left message run used place) ≡ name_at message at
   pub each : AllByRecursion IsLabel labels
   pub used_is : length (flat_map label_octets labels) ≡ used
   pub room : used ≤ 254
 
-joined-nil : (o : Outcome) → joined [] None o ≡ o
+joined-nil : (o : Outcome) → join_outcome [] None o ≡ o
 joined-nil (Ok x) = refl
 joined-nil (Err fault) = refl
 
-joined-push : (front : List (List ℕ)) (after : Option ℕ) (first : List ℕ) (o : Outcome) → joined front after (with_labels (first ∷ []) o) ≡ joined (front ++ first ∷ []) after o
+joined-push : (front : List (List ℕ)) (after : Option ℕ) (first : List ℕ) (o : Outcome) → join_outcome front after (with_labels (first ∷ []) o) ≡ join_outcome (front ++ first ∷ []) after o
 joined-push front after first (Ok x) = ap (λ (ls : List (List ℕ)). Ok (ls, unwrap_or after x.1)) (simp append_assoc)
 joined-push front after first (Err fault) = refl
 
-joined-after : (front : List (List ℕ)) (after : Option ℕ) (end : ℕ) (o : Outcome) → joined front after (with_after end o) ≡ joined front (Some (unwrap_or after end)) o
+joined-after : (front : List (List ℕ)) (after : Option ℕ) (end : ℕ) (o : Outcome) → join_outcome front after (with_after end o) ≡ join_outcome front (Some (unwrap_or after end)) o
 joined-after front after end (Ok x) = refl
 joined-after front after end (Err fault) = refl
 
@@ -60,7 +60,7 @@ pub HasRead-label : (message : List ℕ) (at run used place : ℕ) (labels : Lis
 HasRead-label message at run used place labels after first used' place' u p h piece is_label room = record {
   left = h.left - 1;
   enough = omega (arith, h.enough, h.room);
-  so_far = sym (joined-push labels after first (name_from (h.left - 1) message run used' place')) ∙ ap (λ (o : Outcome). joined labels after (with_labels (first ∷ []) o)) (rw (u, p) refl) ∙ ap (joined labels after) (sym (one_piece h.left message run used place (reading.label first) (omega (arith, h.enough, h.room)) piece)) ∙ h.so_far;
+  so_far = sym (joined-push labels after first (name_from (h.left - 1) message run used' place')) ∙ ap (λ (o : Outcome). join_outcome labels after (with_labels (first ∷ []) o)) (rw (u, p) refl) ∙ ap (join_outcome labels after) (sym (one_piece h.left message run used place (reading.label first) (omega (arith, h.enough, h.room)) piece)) ∙ h.so_far;
   each = AllByRecursion-push labels first h.each is_label;
   used_is = ap length (flat_map-append label_octets labels (first ∷ [])) ∙ omega (arith, length-append (flat_map label_octets labels) (label_octets first ++ []), length-append (label_octets first) [], h.used_is);
   room = omega (arith, room);
@@ -71,7 +71,7 @@ pub HasRead-pointer : (message : List ℕ) (at run used place : ℕ) (labels : L
 HasRead-pointer message at run used place labels after target h earlier piece = record {
   left = h.left - 1;
   enough = omega (arith, h.enough, h.room);
-  so_far = sym (joined-after labels after (place + 2) (name_from (h.left - 1) message target used target)) ∙ ap (joined labels after) (sym (one_piece h.left message run used place (reading.pointer target) (omega (arith, h.enough, h.room)) piece)) ∙ h.so_far;
+  so_far = sym (joined-after labels after (place + 2) (name_from (h.left - 1) message target used target)) ∙ ap (join_outcome labels after) (sym (one_piece h.left message run used place (reading.pointer target) (omega (arith, h.enough, h.room)) piece)) ∙ h.so_far;
   each = h.each;
   used_is = h.used_is;
   room = h.room;
@@ -80,10 +80,10 @@ HasRead-pointer message at run used place labels after target h earlier piece = 
 pub HasRead-ends : (message : List ℕ) (at run used place : ℕ) (labels : List (List ℕ)) (after : Option ℕ) → HasRead message at run used place labels after → piece_at run used (drop place message) ≡ Ok reading.end
     → name_at message at ≡ Ok (labels, unwrap_or after (place + 1))
 HasRead-ends message at run used place labels after h piece =
-    sym h.so_far ∙ ap (joined labels after) (one_piece h.left message run used place reading.end (omega (arith, h.enough, h.room)) piece) ∙ ap (λ (ls : List (List ℕ)). Ok (ls, unwrap_or after (place + 1))) (append-nil labels)
+    sym h.so_far ∙ ap (join_outcome labels after) (one_piece h.left message run used place reading.end (omega (arith, h.enough, h.room)) piece) ∙ ap (λ (ls : List (List ℕ)). Ok (ls, unwrap_or after (place + 1))) (append-nil labels)
 
 pub HasRead-fails : (message : List ℕ) (at run used place : ℕ) (labels : List (List ℕ)) (after : Option ℕ) (fault : NameFault) → HasRead message at run used place labels after → piece_at run used (drop place message) ≡ Err fault → name_at message at ≡ Err fault
-HasRead-fails message at run used place labels after fault h piece = sym h.so_far ∙ ap (joined labels after) (no_piece h.left message run used place fault (omega (arith, h.enough, h.room)) piece)
+HasRead-fails message at run used place labels after fault h piece = sym h.so_far ∙ ap (join_outcome labels after) (no_piece h.left message run used place fault (omega (arith, h.enough, h.room)) piece)
 
 pub HasRead-name : (message : List ℕ) (at run used place : ℕ) (labels : List (List ℕ)) (after : Option ℕ) → HasRead message at run used place labels after → IsName labels
 HasRead-name message at run used place labels after h = record { labels = h.each; short = omega (arith, length-append (flat_map label_octets labels) (0 ∷ []), h.used_is, h.room) }

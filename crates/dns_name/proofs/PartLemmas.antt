@@ -7,7 +7,7 @@ use Rattle.std.proofs.lemmas.Grind.{flat_map-append}
 use Rattle.std.proofs.lemmas.List.{take_at, take-append-drop, length-take}
 use Rattle.std.proofs.lemmas.Str.Ascii.{lowercase-lowercase}
 use Rattle.dns_name.specs.Labels.{IsLabel, IsName, label_octets, name_octets, lowered}
-use Rattle.dns_name.specs.Joined.{joined}
+use Rattle.dns_name.specs.Join.{join_outcome}
 
 -- the bytes of the labels, without the zero at the end
 abbrev pub label_bytes : List (List ℕ) → List ℕ
@@ -61,10 +61,10 @@ taken_octets name count n e =
     let len : length (label_bytes (take count name)) ≡ n = omega (arith, e, ap length (in_two name count), length-append (label_bytes (take count name)) (name_octets (drop count name))) in
     ap (take n) (in_two name count) ∙ take_at (label_bytes (take count name)) (name_octets (drop count name)) n len
 
-pub joined_long : (front back : List (List ℕ)) → 255 < length (name_octets (front ++ back)) → joined front back ≡ Err (record {})
+pub joined_long : (front back : List (List ℕ)) → 255 < length (name_octets (front ++ back)) → join_outcome front back ≡ Err (record {})
 joined_long front back h = grind (arith, nat_tests)
 
-pub joined_short : (front back : List (List ℕ)) → length (name_octets (front ++ back)) ≤ 255 → joined front back ≡ Ok (front ++ back)
+pub joined_short : (front back : List (List ℕ)) → length (name_octets (front ++ back)) ≤ 255 → join_outcome front back ≡ Ok (front ++ back)
 joined_short front back h = grind (arith, nat_tests)
 
 label-lowered : (label : List ℕ) → map to_ascii_lowercase (map to_ascii_lowercase label) ≡ map to_ascii_lowercase label

@@ -6,7 +6,7 @@ use Rattle.std.proofs.Math.Seq.{take-add}
 use Rattle.std.proofs.lemmas.Bool.{ltb-true, ltb-false}
 use Rattle.std.proofs.lemmas.List.{append-nil, length-take, take_at, drop_at, drop-drop}
 use Rattle.dns_name.specs.declared.fault.NameFault.TheVariants.{TooLong}
-use Rattle.dns_name.specs.declared.names.Span.{Span}
+use Rattle.dns_name.specs.declared.name_reader.Span.{Span}
 use Rattle.dns_name.specs.Grammar as grammar
 use Rattle.dns_name.specs.Grammar.{Begins, HasRoom, Shows, GoesOn, target_of}
 use Rattle.dns_name.specs.Labels.{IsLabel, label_octets, name_octets}
@@ -15,7 +15,7 @@ use Rattle.dns_name.specs.Reading.{Outcome, piece_at, with_labels, with_after, n
 use Rattle.dns_name.specs.Tails.{IsNameAt, IsTailAt, IsTail, AreTails}
 use Rattle.dns_name.specs.Wire.{labels_in, IsWire}
 use Rattle.dns_name.proofs.GrammarLemmas.{head, piece_said, stands_from, read_from, name_stands}
-use Rattle.dns_name.proofs.Loop.{joined, HasRead, HasRead-pointer, HasRead-ends, HasWalked, one_piece}
+use Rattle.dns_name.proofs.Loop.{join_outcome, HasRead, HasRead-pointer, HasRead-ends, HasWalked, one_piece}
 use Rattle.dns_name.proofs.PartLemmas.{octets_len, octets-append}
 use Rattle.dns_name.proofs.Standing.{Of, of_read, same_outcome, name_is}
 use Rattle.dns_name.proofs.WireLemmas.{name_octets-cons, labels_in-octets, IsWire-octets}
@@ -113,14 +113,14 @@ known_fits : (message : List ℕ) (at target used : ℕ) (labels : List (List �
     → used + length (name_octets tail) ≤ 255 → name_at message at ≡ Ok (labels ++ tail, end)
 known_fits message at target used labels end tail h known room =
     let goes : GoesOn message target used target (Ok (tail, known.0)) = of_read (Fits message target used target) (name_at message target) (tail, known.0) (fits message target 0 target (name_at message target) (name_stands message target) used) known.1 (omega (arith, room, octets_len tail)) in
-    sym h.so_far ∙ ap (joined labels (Some end)) (read_from message h.left target used target (Ok (tail, known.0)) goes (omega (arith, h.room)) (omega (arith, h.enough)))
+    sym h.so_far ∙ ap (join_outcome labels (Some end)) (read_from message h.left target used target (Ok (tail, known.0)) goes (omega (arith, h.room)) (omega (arith, h.enough)))
 
 -- and the name is too long where there is none
 known_too_long : (message : List ℕ) (at target used : ℕ) (labels : List (List ℕ)) (end : ℕ) (tail : List (List ℕ)) → HasRead message at target used target labels (Some end) → IsNameAt message target tail
     → 255 < used + length (name_octets tail) → name_at message at ≡ Err TooLong
 known_too_long message at target used labels end tail h known room =
     let goes : GoesOn message target used target (Err TooLong) = of_read (Exceeds message target used target) (name_at message target) (tail, known.0) (exceeds message target 0 target (name_at message target) (name_stands message target) used) known.1 (omega (arith, h.room)) (omega (arith, room, octets_len tail)) in
-    sym h.so_far ∙ ap (joined labels (Some end)) (read_from message h.left target used target (Err TooLong) goes (omega (arith, h.room)) (omega (arith, h.enough)))
+    sym h.so_far ∙ ap (join_outcome labels (Some end)) (read_from message h.left target used target (Err TooLong) goes (omega (arith, h.room)) (omega (arith, h.enough)))
 
 -- the bytes are those of the name at a place, in full, and that is the place after it
 pub record IsWhole (message : List ℕ) (at : ℕ) (wire : List ℕ) (end : ℕ) : Type 0 where

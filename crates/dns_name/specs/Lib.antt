@@ -8,4 +8,4 @@ pub mod Grammar
 pub mod Text
 pub mod Alike
 pub mod Order
-pub mod Joined
+pub mod Join

@@ -1,7 +1,7 @@
 -- What is known of the names that stand at places of a message: their octets.
 use Rattle.std.specs.Prelude.{◌≡◌, ℕ, ◌+◌, List, [], ◌∷◌, ◌++◌, length, Ok}
-use Rattle.dns_name.specs.declared.names.Span.{Span}
-use Rattle.dns_name.specs.declared.names.Walked.{Walked}
+use Rattle.dns_name.specs.declared.name_reader.Span.{Span}
+use Rattle.dns_name.specs.declared.name_reader.Walked.{Walked}
 use Rattle.dns_name.specs.Labels.{name_octets}
 use Rattle.dns_name.specs.Reading.{name_at}
 

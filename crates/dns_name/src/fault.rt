@@ -7,8 +7,8 @@ ghost use Rattle.dns_name.specs.declared.fault.JoinError.TheVariants.{OutOfMemor
 
 use std::alloc::{AllocError, AllocFailed};
 
-/// What is wrong with a name in a message, told at the first byte that shows it. Where one byte shows
-/// several faults, the first of this list is told.
+/// What is wrong with a name in a message, by the first byte that shows it. Where one byte shows
+/// several faults, it is the first of this list.
 #[derive(Clone, Copy, Debug, PartialEq, Eq)]
 pub enum NameFault {
     /// A length byte, a label or a pointer reaches past the end of the message.
@@ -53,8 +53,8 @@ impl From<NameFault> for NameError {
     }
 }
 
-/// What is wrong with a name as text. Where there are several faults, the first in the order `Empty`,
-/// `Char`, `Label`, `TooLong` is told.
+/// What is wrong with a name as text. Where there are several faults, it is the first in the order `Empty`,
+/// `Char`, `Label`, `TooLong`.
 #[derive(Clone, Copy, Debug, PartialEq, Eq)]
 pub enum TextFault {
     /// There is no label: the text is empty, or one dot.

@@ -22,7 +22,8 @@ pub enum Item<'a> {
 /// after another from the place `run` on.
 pub fn item_at(message: &[u8], run: usize, place: usize, used: usize) -> Result<Item<'_>, NameFault>
     requires { used ≤ 254 }
-    ensures item { MatchResult result (λ item. piece_at run used (drop place message.now) ≡ Ok (piece_of item)) (λ fault. piece_at run used (drop place message.now) ≡ Err fault) }
+    ensures item { MatchResult result (λ item. piece_at run used (drop place message.now)
+        ≡ Ok (piece_of item)) (λ fault. piece_at run used (drop place message.now) ≡ Err fault) }
     ensures within { IfOk result (IsWithin run used) }
     ensures inside { IfOk result (λ item. place < length message.now) }
 {

@@ -2,7 +2,7 @@
 
 ghost use Rattle.std.specs.Prelude.{◌≡◌, take, drop, IfOk, IfSome};
 ghost use Rattle.dns_name.specs.Labels.{IsName};
-ghost use Rattle.dns_name.specs.Joined.{parent_of, joined, JoinGives};
+ghost use Rattle.dns_name.specs.Join.{parent_of, join_outcome, JoinGives};
 
 use crate::fault::{JoinError, TooLong};
 use crate::limits::NAME_LIMIT;
@@ -29,7 +29,7 @@ impl Name {
     /// before any memory is taken, if they are written in more than 255 bytes, their length bytes and the
     /// zero at the end counted (RFC 1035, section 2.3.4).
     pub fn join(alloc: Global, front: &Name, back: &Name) -> Result<Name, JoinError>
-        ensures exact { JoinGives result (joined front.now back.now) }
+        ensures exact { JoinGives result (join_outcome front.now back.now) }
         ensures name { IfOk result IsName }
     {
         let front = front.octets();

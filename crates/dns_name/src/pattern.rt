@@ -32,7 +32,8 @@ impl Pattern {
     /// The pattern about the base, or, if it is `wild`, about what lies below it. The base is copied, in
     /// lower case.
     pub fn new(alloc: Global, base: &Name, wild: bool) -> Result<Pattern, AllocError>
-        ensures exact { IfOk result (λ pattern. pattern ≡ record { base = lowered base.now; wild = wild }) }
+        ensures exact { IfOk result (λ pattern. pattern
+            ≡ record { base = lowered base.now; wild = wild }) }
         ensures lower { IfOk result (λ pattern. lowered pattern.base ≡ pattern.base) }
     {
         Ok(Pattern {

@@ -43,7 +43,8 @@ fn has_label_lengths(labels: &[u8]) -> bool
 
 /// The labels of a text with the dots between them, or the first fault.
 fn labels_of(text: &[u8]) -> Result<&[u8], TextFault>
-    ensures exact { MatchResult result (λ labels. text_name text.now ≡ Ok (split_at_dots labels.now)) (λ fault. text_name text.now ≡ Err fault) }
+    ensures exact { MatchResult result (λ labels. text_name text.now
+        ≡ Ok (split_at_dots labels.now)) (λ fault. text_name text.now ≡ Err fault) }
     ensures name { IfOk result (λ labels. IsName (split_at_dots labels.now)) }
 {
     let labels = without_last_dot(text);

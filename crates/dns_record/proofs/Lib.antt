@@ -12,3 +12,5 @@ pub mod RecordReads
 pub mod RecordStanding
 pub mod RecordGrammar
 pub mod RecordFaults
+pub mod LowerCase
+pub mod Identities

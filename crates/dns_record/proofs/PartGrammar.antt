@@ -18,11 +18,11 @@ use Rattle.dns_record.proofs.Binding.{bind_ok, ok_is}
 use Rattle.dns_record.proofs.PartStanding.{octets_written}
 
 -- a name and the place after it, as octets
-abbrev spelled : List (List ℕ) × ℕ → List ℕ × ℕ
-spelled name = (name_octets name.0, name.1)
+abbrev spelling : List (List ℕ) × ℕ → List ℕ × ℕ
+spelling name = (name_octets name.0, name.1)
 
 abbrev read_spelled : List (List ℕ) × ℕ → Result (List ℕ × ℕ) RecordFault
-read_spelled name = Ok (spelled name)
+read_spelled name = Ok (spelling name)
 
 data_read : (read : Outcome) (x : List (List ℕ) × ℕ) → as_data read ≡ Ok x → read ≡ Ok x
 data_read (Ok y) x e = ap (λ (z : List (List ℕ) × ℕ). Ok z) (ok_is {E = RecordFault} y x e)
@@ -33,7 +33,7 @@ part_stands : (part : Part) (parts : List Part) (message : List ℕ) (place : �
 part_stands Name parts message place first rest e =
     let p = bind_ok (as_data (name_at message place)) read_spelled first e in
     let name = p.0 in
-    let same : spelled name ≡ first = ok_is {E = RecordFault} (spelled name) first p.2 in
+    let same : spelling name ≡ first = ok_is {E = RecordFault} (spelling name) first p.2 in
     let stands : NameAt message place (Ok name) = subst (λ (o : Outcome). NameAt message place o) (data_read (name_at message place) name p.1) (name_stands message place) in
     subst (λ (x : List ℕ × ℕ). PartsAt parts message x.1 rest.0 rest.1 → PartsAt (Name ∷ parts) message place (x.0 ++ rest.0) rest.1) same (λ h. (name.0, name.1, rest.0, stands, refl, h))
 part_stands (Fixed count) parts message place first rest e = fixed e

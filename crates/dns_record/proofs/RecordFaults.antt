@@ -16,7 +16,7 @@ use Rattle.dns_record.specs.Faults.{FieldsAt, RecordShows}
 use Rattle.dns_record.specs.Grammar.{DataAt}
 use Rattle.dns_record.specs.Number.{number_at, number_octets, AreOctets}
 use Rattle.dns_record.specs.Part.{layout_of}
-use Rattle.dns_record.specs.Reading.{end_at, with_octets, part_at, parts_at, filled, laid_out, data_at, record_at}
+use Rattle.dns_record.specs.Reading.{end_at, with_octets, part_at, parts_at, data_that_fills, data_by_layout, data_at, record_at}
 use Rattle.dns_record.proofs.Binding.{bind_err, err_is}
 use Rattle.dns_record.proofs.DataStanding.{data_stands, data_only}
 use Rattle.dns_record.proofs.Numbers.{number_read, number_fits, u16_stands}
@@ -49,12 +49,12 @@ unfolding parts_at
 parts_data [] message place = tt
 parts_data (part ∷ parts) message place = then_data (part_at part message place) (λ first. with_octets first.0 (parts_at parts message first.1)) (part_data part message place) (λ first. with_data first.0 (parts_at parts message first.1) (parts_data parts message first.1))
 
-filled_data : (after : ℕ) (read : List ℕ × ℕ) → IsData (filled after read)
+filled_data : (after : ℕ) (read : List ℕ × ℕ) → IsData (data_that_fills after read)
 filled_data after read = cond_both (eqb read.1 after) (Ok read.0) (Err Data) IsData (λ t. tt) (λ t. refl)
 
-laid_data : (layout : Option (List Part)) (message : List ℕ) (place after : ℕ) → IsData (laid_out layout message place after)
+laid_data : (layout : Option (List Part)) (message : List ℕ) (place after : ℕ) → IsData (data_by_layout layout message place after)
 laid_data None message place after = tt
-laid_data (Some parts) message place after = then_data (parts_at parts message place) (filled after) (parts_data parts message place) (filled_data after)
+laid_data (Some parts) message place after = then_data (parts_at parts message place) (data_that_fills after) (parts_data parts message place) (filled_data after)
 
 data_fault : (rtype class : ℕ) (message : List ℕ) (place after : ℕ) → IsData (data_at rtype class message place after)
 unfolding data_at

@@ -8,3 +8,4 @@ pub mod Faults
 pub mod Address
 pub mod Soa
 pub mod Serial
+pub mod Row

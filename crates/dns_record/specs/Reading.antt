@@ -37,17 +37,17 @@ parts_at [] message place = Ok ([], place)
 parts_at (part ∷ parts) message place = part_at part message place >>= λ first. with_octets first.0 (parts_at parts message first.1)
 
 -- what is read ends where the data ends
-abbrev pub filled : ℕ → List ℕ × ℕ → Result (List ℕ) RecordFault
-filled after read = if read.1 == after then Ok read.0 else Err Data
+abbrev pub data_that_fills : ℕ → List ℕ × ℕ → Result (List ℕ) RecordFault
+data_that_fills after read = if read.1 == after then Ok read.0 else Err Data
 
 -- the data of this layout between two places, or any octets where there is none
-abbrev pub laid_out : Option (List Part) → List ℕ → ℕ → ℕ → Result (List ℕ) RecordFault
-laid_out None message place after = Ok (take (after - place) (drop place message))
-laid_out (Some layout) message place after = parts_at layout message place >>= filled after
+abbrev pub data_by_layout : Option (List Part) → List ℕ → ℕ → ℕ → Result (List ℕ) RecordFault
+data_by_layout None message place after = Ok (take (after - place) (drop place message))
+data_by_layout (Some layout) message place after = parts_at layout message place >>= data_that_fills after
 
 -- the data of a record of the type and class, between two places, with names in full
 unfoldable pub data_at : ℕ → ℕ → List ℕ → ℕ → ℕ → Result (List ℕ) RecordFault
-data_at rtype class message place after = laid_out (layout_of rtype class) message place after
+data_at rtype class message place after = data_by_layout (layout_of rtype class) message place after
 
 -- The record at a place of a message and the place after it, or the first fault.
 unfoldable pub record_at : List ℕ → ℕ → Result (PlainRecord × ℕ) RecordFault

@@ -8,7 +8,7 @@ use crate::fault::{RecordError, RecordFault};
 use crate::number::{u16_at, u32_at};
 use crate::part::{Part, layout};
 use crate::record::Record;
-use dns_name::{NameError, Names, Octets};
+use dns_name::{NameError, NameReader, Octets};
 use std::alloc::{AllocError, Global};
 
 // The place after so many bytes, which the message must have.
@@ -28,7 +28,7 @@ fn end_of(message: &[u8], place: usize, count: usize) -> Result<usize, RecordFau
 pub fn read_record(alloc: Global, bytes: &[u8], at: usize) -> Result<(Record, usize), RecordError>
     ensures { Gives (λ x. x) result (record_at bytes.now at) }
 {
-    let mut names = Names::new(alloc, bytes);
+    let mut names = NameReader::new(alloc, bytes);
     read_record_of(alloc, &mut names, at)
 }
 
@@ -37,7 +37,7 @@ pub fn read_record(alloc: Global, bytes: &[u8], at: usize) -> Result<(Record, us
 #[tactic(auto, unfolding(crate::specs::Reading::record_at))]
 pub fn read_record_of(
     alloc: Global,
-    names: &mut Names<'_>,
+    names: &mut NameReader<'_>,
     at: usize,
 ) -> Result<(Record, usize), RecordError>
     ensures read { Gives (λ x. x) result (record_at names.old at) }
@@ -61,7 +61,7 @@ fn read_data(
     alloc: Global,
     rtype: u16,
     class: u16,
-    names: &mut Names<'_>,
+    names: &mut NameReader<'_>,
     place: usize,
     after: usize,
 ) -> Result<Octets, RecordError>
@@ -87,7 +87,7 @@ fn read_data(
 fn read_parts(
     alloc: Global,
     parts: &[Part],
-    names: &mut Names<'_>,
+    names: &mut NameReader<'_>,
     at: usize,
 ) -> Result<(Octets, usize), RecordError>
     ensures read { Gives (λ x. x) result (parts_at parts.now names.old at) }
@@ -105,7 +105,7 @@ fn read_parts(
 fn read_part(
     alloc: Global,
     part: Part,
-    names: &mut Names<'_>,
+    names: &mut NameReader<'_>,
     place: usize,
     rdata: &mut Octets,
 ) -> Result<usize, RecordError>

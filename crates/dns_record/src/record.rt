@@ -115,7 +115,8 @@ pub fn write_record(
     rdata: &[u8],
 ) -> Result<(), AllocError>
     requires { length rdata.now < 2 ^ 16 }
-    ensures ok { OnOk result (out.new ≡ out.old ++ record_octets (record { owner = owner.now; rtype = rtype; class = class; ttl = ttl; rdata = rdata.now })) }
+    ensures ok { OnOk result (out.new
+        ≡ out.old ++ record_octets (record { owner = owner.now; rtype = rtype; class = class; ttl = ttl; rdata = rdata.now })) }
     ensures begins { take (length out.old) out.new ≡ out.old }
     ensures name { IsName owner.now }
 {

@@ -42,7 +42,7 @@ at_rank q p e = ap (λ r. rank_order q r) e ∙ tied_itself rank_total q
 abbrev pub IsLeft : List (List ℕ) → ℕ → PlainPattern → Type 0
 IsLeft name count p = matches p name ≡ true → (p.wild ≡ true) × (length p.base < count)
 
-module _ (laws : Laws) (name : List (List ℕ)) (small : lowered name ≡ name) (p : PlainPattern) (key : IsKey p) where
+module _ (laws : Laws) (name : List (List ℕ)) (lower_case : lowered name ≡ name) (p : PlainPattern) (key : IsKey p) where
   abbrev about : Bool → Bool
   about wild = if wild then ends_with name p.base && not (same_name name p.base) else same_name name p.base
 
@@ -50,7 +50,7 @@ module _ (laws : Laws) (name : List (List ℕ)) (small : lowered name ≡ name) 
   about_is b w = ap about w
 
   exact_base : p.wild ≡ false → matches p name ≡ true → p.base ≡ name
-  exact_base w m = sym (sym small ∙ (laws.same name p.base).0 (sym (about_is false w) ∙ m) ∙ key.small)
+  exact_base w m = sym (sym lower_case ∙ (laws.same name p.base).0 (sym (about_is false w) ∙ m) ∙ key.lower_case)
 
   exact_matches : p.wild ≡ false → p.base ≡ name → matches p name ≡ true
   exact_matches w e = about_is false w ∙ (laws.same name p.base).1 (ap lowered (sym e))
@@ -69,12 +69,12 @@ module _ (laws : Laws) (name : List (List ℕ)) (small : lowered name ≡ name) 
   wild_base w m =
       let both = and_parts (ends_with name p.base) (not (same_name name p.base)) (sym (about_is true w) ∙ m) in
       let under = (laws.within name p.base).0 both.0 in
-      above under.0 (sym small ∙ under.1 ∙ ap (λ (b : List (List ℕ)). under.0 ++ b) key.small) (λ e. true≢false (sym both.1 ∙ ap not ((laws.same name p.base).1 (ap lowered e))))
+      above under.0 (sym lower_case ∙ under.1 ∙ ap (λ (b : List (List ℕ)). under.0 ++ b) key.lower_case) (λ e. true≢false (sym both.1 ∙ ap not ((laws.same name p.base).1 (ap lowered e))))
 
   wild_matches : (m : ℕ) → p.wild ≡ true → p.base ≡ drop m name → 1 ≤ m → m ≤ length name → matches p name ≡ true
   wild_matches m w e low fits =
-      let under : lowered name ≡ take m name ++ lowered p.base = small ∙ sym (take-append-drop m name) ∙ ap (λ (b : List (List ℕ)). take m name ++ b) (sym e ∙ sym key.small) in
-      let whole : (lowered name ≡ lowered p.base) → name ≡ drop m name = λ s. sym small ∙ s ∙ key.small ∙ e in
+      let under : lowered name ≡ take m name ++ lowered p.base = lower_case ∙ sym (take-append-drop m name) ∙ ap (λ (b : List (List ℕ)). take m name ++ b) (sym e ∙ sym key.lower_case) in
+      let whole : (lowered name ≡ lowered p.base) → name ≡ drop m name = λ s. sym lower_case ∙ s ∙ key.lower_case ∙ e in
       let differs : same_name name p.base ≡ false = ⊎_elim (λ t. absurd (omega (arith, ap length (whole ((laws.same name p.base).0 t)), length-drop m name))) (λ f. f) (cases_Bool (same_name name p.base)) in
       about_is true w ∙ and_from (ends_with name p.base) (not (same_name name p.base)) ((laws.within name p.base).1 (take m name, under)) (ap not differs)
 

@@ -1,7 +1,6 @@
 -- What a look-up by rank finds is what a scan over all entries finds.
-use Rattle.std.proofs.Common.{◌≡◌, ℕ, ◌+◌, ◌-◌, ◌<◌, Bool, true, false, cond, List, [], ◌∷◌, length, drop, Option, Some, None, refl, sym, ap, ◌∙◌, ⊎_elim, not-suc-le-zero, is_eq, find, ◌&&◌, not, if◌then◌else◌, bytes_eq}
-use Rattle.std.specs.Cmp.Lexicographic.{pointwise}
-use Rattle.std.specs.List.{AllByRecursion, ends_with}
+use Rattle.std.proofs.Common.{◌≡◌, ℕ, ◌+◌, ◌-◌, ◌<◌, Bool, true, false, cond, List, [], ◌∷◌, length, drop, Option, Some, None, refl, sym, ap, ◌∙◌, ⊎_elim, not-suc-le-zero, is_eq}
+use Rattle.std.specs.List.{AllByRecursion}
 use Rattle.std.specs.List.Sorted.{IsStrictlySortedBy}
 use Rattle.std.specs.Map.{keys_of, lookup_entry}
 use Rattle.std.specs.declared.cmp.Ordering.{Ordering}
@@ -80,27 +79,27 @@ module _ {V : Type 0} where
   none_about name [] h = refl
   none_about name (e ∷ es) h = none_about name es h.1 ∙ sym (ap (λ b. cond b (Some e) (best name es)) h.0)
 
-  module _ (laws : Laws) (name : List (List ℕ)) (small : lowered name ≡ name) (es : List (PlainPattern × V)) (index : IsIndex es) where
+  module _ (laws : Laws) (name : List (List ℕ)) (lower_case : lowered name ≡ name) (es : List (PlainPattern × V)) (index : IsIndex es) where
     pub exact_found : (q : Rank) (e : PlainPattern × V) → q ≡ exact_rank name → IsName name → Some e ≡ lookup_entry (has_rank q) es → Some e ≡ best name es
     exact_found q e is is_name found =
         first_is name (exact_rank name) es e index.ordered
-        (each IsKey (Before name (exact_rank name)) es (λ p key. before_exact laws name small p key) index.keys)
-        (each IsKey (Here name (exact_rank name)) es (λ p key. at_exact laws name small p key is_name) index.keys)
+        (each IsKey (Before name (exact_rank name)) es (λ p key. before_exact laws name lower_case p key) index.keys)
+        (each IsKey (Here name (exact_rank name)) es (λ p key. at_exact laws name lower_case p key is_name) index.keys)
         (found ∙ ap (λ r. lookup_entry (has_rank r) es) is)
 
     pub exact_missed : (q : Rank) → q ≡ exact_rank name → None ≡ lookup_entry (has_rank q) es → AreLeft name es (length name)
     exact_missed q is none =
         let rank = exact_rank name in
         let missed : Each (Misses rank) es = none_passes (has_rank rank) es (none ∙ ap (λ r. lookup_entry (has_rank r) es) is) in
-        each (λ p. IsKey p × Misses rank p) (IsLeft name (length name)) es (λ p k. after_exact laws name small p k.0 k.1) (both IsKey (Misses rank) es index.keys missed)
+        each (λ p. IsKey p × Misses rank p) (IsLeft name (length name)) es (λ p k. after_exact laws name lower_case p k.0 k.1) (both IsKey (Misses rank) es index.keys missed)
 
     pub wild_found : (q : Rank) (e : PlainPattern × V) (count : ℕ) → q ≡ wild_rank name count → count < length name → IsName (drop (length name - count) name) → AreLeft name es (count + 1)
         → Some e ≡ lookup_entry (has_rank q) es → Some e ≡ best name es
     wild_found q e count is fits is_name left found =
         let rank = wild_rank name count in
         first_is name rank es e index.ordered
-        (each (λ p. IsKey p × IsLeft name (count + 1) p) (Before name rank) es (λ p k. before_wild laws name small p k.0 count k.1) (both IsKey (IsLeft name (count + 1)) es index.keys left))
-        (each IsKey (Here name rank) es (λ p key. at_wild laws name small p key count fits is_name) index.keys)
+        (each (λ p. IsKey p × IsLeft name (count + 1) p) (Before name rank) es (λ p k. before_wild laws name lower_case p k.0 count k.1) (both IsKey (IsLeft name (count + 1)) es index.keys left))
+        (each IsKey (Here name rank) es (λ p key. at_wild laws name lower_case p key count fits is_name) index.keys)
         (found ∙ ap (λ r. lookup_entry (has_rank r) es) is)
 
     pub wild_missed : (q : Rank) (count : ℕ) → q ≡ wild_rank name count → AreLeft name es (count + 1) → None ≡ lookup_entry (has_rank q) es → AreLeft name es count
@@ -108,12 +107,8 @@ module _ {V : Type 0} where
         let rank = wild_rank name count in
         let missed : Each (Misses rank) es = none_passes (has_rank rank) es (none ∙ ap (λ r. lookup_entry (has_rank r) es) is) in
         let known = both IsKey (λ p. Misses rank p × IsLeft name (count + 1) p) es index.keys (both (Misses rank) (IsLeft name (count + 1)) es missed left) in
-        each (λ p. IsKey p × (Misses rank p × IsLeft name (count + 1) p)) (IsLeft name count) es (λ p k. after_wild laws name small p k.0 count k.1.0 k.1.1) known
+        each (λ p. IsKey p × (Misses rank p × IsLeft name (count + 1) p)) (IsLeft name count) es (λ p k. after_wild laws name lower_case p k.0 count k.1.0 k.1.1) known
 
   -- a scan sees the name in small letters
-  pub best_alike : (name other : List (List ℕ)) (es : List (PlainPattern × V)) → lowered name ≡ lowered other → best name es ≡ best other es
-  best_alike name other es alike =
-      ap (λ (ls : List (List ℕ)). find (λ e. if e.0.wild then ends_with bytes_eq ls (lowered e.0.base) && not (pointwise bytes_eq ls (lowered e.0.base)) else pointwise bytes_eq ls (lowered e.0.base)) es) alike
-
   pub all_missed : (name : List (List ℕ)) (es : List (PlainPattern × V)) → AreLeft name es 0 → None ≡ best name es
   all_missed name es left = none_about name es (each (IsLeft name 0) (IsOff name) es (λ p l. ⊎_elim (λ m. absurd (not-suc-le-zero (l m).1)) (λ f. f) (cases_Bool (matches p name))) left)

@@ -34,17 +34,17 @@ none_tried name es labels left tries none =
     let zero_is : left ≡ 0 = omega (arith, none) in
     all_missed name es (subst (AreLeft name es) zero_is tries.missed)
 
-module _ {V : Type 0} (laws : Laws) (name : List (List ℕ)) (small : lowered name ≡ name) (es : List (PlainPattern × V)) (index : IsIndex es) (labels : List (List ℕ)) (count : ℕ) where
+module _ {V : Type 0} (laws : Laws) (name : List (List ℕ)) (lower_case : lowered name ≡ name) (es : List (PlainPattern × V)) (index : IsIndex es) (labels : List (List ℕ)) (count : ℕ) where
   pub exact_hit : (octets : List ℕ) (e : PlainPattern × V) → labels ≡ name → count ≡ length name → octets ≡ name_octets labels → IsName labels
       → Some e ≡ lookup_entry (has_rank (asked_exact count octets)) es → Some e ≡ best name es
-  exact_hit octets e l n o is_name found = exact_found laws name small es index (asked_exact count octets) e (exact_is name labels count octets l n o) (subst IsName l is_name) found
+  exact_hit octets e l n o is_name found = exact_found laws name lower_case es index (asked_exact count octets) e (exact_is name labels count octets l n o) (subst IsName l is_name) found
 
   pub exact_miss : (octets : List ℕ) → labels ≡ name → count ≡ length name → octets ≡ name_octets labels
       → None ≡ lookup_entry (has_rank (asked_exact count octets)) es → Tries name es labels count
   exact_miss octets l n o none = record {
     rest = l ∙ ap (λ k. drop k name) zero_is;
     fits = omega (arith, n);
-    missed = subst (AreLeft name es) (sym n) (exact_missed laws name small es index (asked_exact count octets) (exact_is name labels count octets l n o) none);
+    missed = subst (AreLeft name es) (sym n) (exact_missed laws name lower_case es index (asked_exact count octets) (exact_is name labels count octets l n o) none);
   } where
     zero_is : 0 ≡ length name - count
     zero_is = omega (arith, n)
@@ -65,11 +65,11 @@ module _ {V : Type 0} (laws : Laws) (name : List (List ℕ)) (small : lowered na
     pub wild_hit : (octets : List ℕ) (e : PlainPattern × V) → octets ≡ name_octets labels → IsName labels
         → Some e ≡ lookup_entry (has_rank (asked_wild count octets)) es → Some e ≡ best name es
     wild_hit octets e o is_name found =
-        wild_found laws name small es index (asked_wild count octets) e count (wild_is name labels count octets rest_is o) (omega (arith, some, fewer, tries.fits)) (subst IsName rest_is is_name) left_is found
+        wild_found laws name lower_case es index (asked_wild count octets) e count (wild_is name labels count octets rest_is o) (omega (arith, some, fewer, tries.fits)) (subst IsName rest_is is_name) left_is found
 
     pub wild_miss : (octets : List ℕ) → octets ≡ name_octets labels → None ≡ lookup_entry (has_rank (asked_wild count octets)) es → Tries name es labels count
     wild_miss octets o none = record {
       rest = rest_is;
       fits = omega (arith, some, fewer, tries.fits);
-      missed = wild_missed laws name small es index (asked_wild count octets) count (wild_is name labels count octets rest_is o) left_is none;
+      missed = wild_missed laws name lower_case es index (asked_wild count octets) count (wild_is name labels count octets rest_is o) left_is none;
     }

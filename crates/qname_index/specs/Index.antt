@@ -7,12 +7,12 @@ use Rattle.dns_name.specs.Alike.{PlainPattern}
 use Rattle.dns_name.specs.Labels.{IsName, lowered}
 use Rattle.qname_index.specs.Best.{pattern_order}
 
--- a pattern's base is a name in small letters
+-- a pattern's base is a name in lower case
 pub record IsKey (pattern : PlainPattern) : Type 0 where
   pub name : IsName pattern.base
-  pub small : lowered pattern.base ≡ pattern.base
+  pub lower_case : lowered pattern.base ≡ pattern.base
 
--- Entries in order of precedence, each of a pattern in small letters.
+-- Entries in order of precedence, each of a pattern in lower case.
 pub record IsIndex {V : Type 0} (entries : List (PlainPattern × V)) : Type 0 where
   pub keys : AllByRecursion (λ e. IsKey e.0) entries
   pub ordered : IsStrictlySortedBy pattern_order (keys_of entries)

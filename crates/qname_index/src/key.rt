@@ -64,7 +64,8 @@ pub(crate) struct Asked<'a> {
 
 impl<'a> Asked<'a> {
     pub(crate) fn of(pattern: &'a Pattern) -> Self
-        ensures { record { wild = result.wild; labels = result.labels; octets = result.octets.now } ≡ rank_of pattern.now }
+        ensures { record { wild = result.wild; labels = result.labels; octets = result.octets.now }
+            ≡ rank_of pattern.now }
     {
         let base = pattern.base();
         let octets = base.octets();

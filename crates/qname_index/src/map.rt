@@ -10,7 +10,7 @@ ghost use Rattle.qname_index.specs.Index.{IsIndex};
 ghost use Rattle.qname_index.specs.Rank.{has_rank};
 
 use crate::key::{Asked, Key, head_of};
-use dns_name::laws::{a_name_is_told_by_its_octets, names_that_are_alike};
+use dns_name::laws::{names_of_equal_octets_are_equal, names_that_are_alike};
 use dns_name::{Name, Pattern};
 use std::alloc::{AllocError, Global};
 use std::collections::BTreeMap;
@@ -97,7 +97,8 @@ impl<V> NameMap<V> {
 
     // The entry whose pattern has this rank.
     fn find(&self, asked: Asked<'_>) -> Option<(&Pattern, &V)>
-        ensures found { option_map (λ e. (e.0.now, e.1.now)) result ≡ lookup_entry (has_rank (record { wild = asked.entry.wild; labels = asked.entry.labels; octets = asked.entry.octets.now })) self.now }
+        ensures found { option_map (λ e. (e.0.now, e.1.now)) result
+            ≡ lookup_entry (has_rank (record { wild = asked.entry.wild; labels = asked.entry.labels; octets = asked.entry.octets.now })) self.now }
         ensures index { IsIndex self.now }
     {
         match self.entries.get_key_value(asked) {
@@ -106,12 +107,14 @@ impl<V> NameMap<V> {
         }
     }
 
-    // `best`, of a name in small letters.
-    fn best_of(&self, name: &Name) -> Option<(&Pattern, &V)>
+    /// The first entry in order of precedence whose pattern is about the name: the exact one, and then the wild one of
+    /// the longest base. The name is in lower case ([`Name::lower`]), as bases are. It takes no memory; its time is
+    /// that of as many look-ups as the name has labels, and one.
+    pub fn best(&self, name: &Name) -> Option<(&Pattern, &V)>
         requires { lowered name.now ≡ name.now }
         ensures { option_map (λ e. (e.0.now, e.1.now)) result ≡ best name.now self.now }
     {
-        a_name_is_told_by_its_octets();
+        names_of_equal_octets_are_equal();
         names_that_are_alike();
         let mut labels = name.labels();
         let mut left = name.label_count();
@@ -140,15 +143,5 @@ impl<V> NameMap<V> {
             }
         }
         None
-    }
-
-    /// The entry that comes first of those that are about the name: the exact one, and then the wild one of
-    /// the longest base. Capitals of ASCII count as small letters. It takes the memory of one name, in small
-    /// letters. Its time is that of as many look-ups as the name has labels, and one.
-    pub fn best(&self, alloc: Global, name: &Name) -> Result<Option<(&Pattern, &V)>, AllocError>
-        ensures { IfOk result (λ found. option_map (λ e. (e.0.now, e.1.now)) found ≡ best name.now self.now) }
-    {
-        let exact = Pattern::new(alloc, name, false)?;
-        Ok(self.best_of(exact.base()))
     }
 }

@@ -1,5 +1,5 @@
 //! `transfer_bench`: reads the transfer of the zone rpz.example from standard input, as the answer to a request of
-//! the identifier 0, and puts it into an empty zone. It prints the serial of the zone and the number of its rows.
+//! the ID 0, and puts it into an empty zone. It prints the serial of the zone and the number of its rows.
 #![tactic(auto)]
 
 use axfr_apply::{Taken, TransferError, read_whole};

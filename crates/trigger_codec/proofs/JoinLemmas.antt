@@ -5,7 +5,7 @@ use Rattle.std.specs.List.{flat_map}
 use Rattle.std.proofs.lemmas.Bool.Decides.{nat_tests}
 use Rattle.std.proofs.lemmas.Grind.{flat_map-append}
 use Rattle.dns_name.specs.Labels.{label_octets, name_octets}
-use Rattle.dns_name.specs.Joined.{joined, JoinFails}
+use Rattle.dns_name.specs.Join.{join_outcome, JoinFails}
 use Rattle.dns_name.specs.Text.{text_name}
 use Rattle.dns_name.specs.declared.fault.JoinError.{JoinError}
 use Rattle.dns_name.specs.declared.fault.JoinError.TheVariants.{OutOfMemory, Fault}
@@ -27,7 +27,7 @@ same_octets true name all h = cc
 same_octets false name all h = cc
 
 -- what two names make
-pub joined_is : (front back name : List (List ℕ)) → joined front back ≡ Ok name → front ++ back ≡ name
+pub joined_is : (front back name : List (List ℕ)) → join_outcome front back ≡ Ok name → front ++ back ≡ name
 joined_is front back name h = same_octets (nat_lt 255 (length (name_octets (front ++ back)))) name (front ++ back) h
 
 octets_more : (front back : List (List ℕ)) → length (name_octets back) ≤ length (name_octets (front ++ back))
@@ -40,7 +40,7 @@ too_long true all fault h = refl
 too_long false all fault h = absurd cc
 
 -- what is too long stays so with labels before it
-pub joined_longer : (front back zone : List (List ℕ)) (fault : TooLong) → joined back zone ≡ Err fault → joined (front ++ back) zone ≡ Err fault
+pub joined_longer : (front back zone : List (List ℕ)) (fault : TooLong) → join_outcome back zone ≡ Err fault → join_outcome (front ++ back) zone ≡ Err fault
 joined_longer front back zone fault h =
     let long : nat_lt 255 (length (name_octets (back ++ zone))) ≡ true = too_long (nat_lt 255 (length (name_octets (back ++ zone)))) (back ++ zone) fault h in
     let more = octets_more front (back ++ zone) in
@@ -49,11 +49,11 @@ joined_longer front back zone fault h =
     rw test refl
 
 -- labels before a name that was made
-pub joined_joined : (front back zone name : List (List ℕ)) → joined back zone ≡ Ok name → joined front name ≡ joined (front ++ back) zone
+pub joined_joined : (front back zone name : List (List ℕ)) → join_outcome back zone ≡ Ok name → join_outcome front name ≡ join_outcome (front ++ back) zone
 joined_joined front back zone name h =
     let made : (front ++ back) ++ zone ≡ front ++ name = append_assoc front back zone ∙ ap (λ (ls : List (List ℕ)). front ++ ls) (joined_is back zone name h) in
     ap (λ (all : List (List ℕ)). judged (nat_lt 255 (length (name_octets all))) all) (sym made)
 
-pub fails_longer : (e : JoinError) (front back zone : List (List ℕ)) → JoinFails e (joined back zone) → JoinFails e (joined (front ++ back) zone)
+pub fails_longer : (e : JoinError) (front back zone : List (List ℕ)) → JoinFails e (join_outcome back zone) → JoinFails e (join_outcome (front ++ back) zone)
 fails_longer OutOfMemory front back zone h = tt
 fails_longer (Fault fault) front back zone h = joined_longer front back zone fault h

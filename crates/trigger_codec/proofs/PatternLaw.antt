@@ -12,7 +12,7 @@ use Rattle.dns_name.specs.Labels.{lowered}
 use Rattle.dns_name.specs.Alike.{PlainPattern}
 use Rattle.trigger_codec.specs.Canonical.{pattern_labels}
 use Rattle.trigger_codec.specs.Decode.{pattern_read, labels_trigger, by_last, by_marker}
-use Rattle.trigger_codec.specs.Trigger.{Marker, marker_of, is_asterisk, client_ip, response_ip, ns_ip, ns_name, unknown, plain}
+use Rattle.trigger_codec.specs.Trigger.{Marker, marker_of, is_asterisk, client_ip, response_ip, nsip, nsdname, unknown, plain}
 
 abbrev pub lower_case : List ℕ → List ℕ
 lower_case label = map to_ascii_lowercase label
@@ -42,8 +42,8 @@ judged : List ℕ → List ℕ → Marker
 judged low front =
     if bytes_eq low (codes "rpz-client-ip") then client_ip
     else (if bytes_eq low (codes "rpz-ip") then response_ip
-    else (if bytes_eq low (codes "rpz-nsip") then ns_ip
-    else (if bytes_eq low (codes "rpz-nsdname") then ns_name
+    else (if bytes_eq low (codes "rpz-nsip") then nsip
+    else (if bytes_eq low (codes "rpz-nsdname") then nsdname
     else (if bytes_eq front (codes "rpz-") then unknown
     else plain))))
 

@@ -14,11 +14,11 @@ use Rattle.ip_prefix.specs.Prefix.{PlainPrefix, IsPrefix, prefix_of, width, has_
 use Rattle.trigger_codec.specs.Address.{length_read, address_read, as_inert, prefix_made, prefix_read}
 use Rattle.trigger_codec.specs.Canonical.{address_labels, prefix_labels, trigger_labels, canonical_owner}
 use Rattle.trigger_codec.specs.Decode.{labels_before, pattern_read, by_prefix, by_marker, labels_trigger, trigger}
-use Rattle.trigger_codec.specs.Trigger.{Marker, marker_of, client_ip, response_ip, ns_ip, ns_name, unknown, plain}
+use Rattle.trigger_codec.specs.Trigger.{Marker, marker_of, client_ip, response_ip, nsip, nsdname, unknown, plain}
 use Rattle.trigger_codec.specs.declared.inert.Inert.{Inert}
 use Rattle.trigger_codec.specs.declared.inert.Inert.TheVariants as inerts
 use Rattle.trigger_codec.specs.declared.trigger.Trigger.{Trigger}
-use Rattle.trigger_codec.specs.declared.trigger.Trigger.TheVariants.{Client, Qname, RespIp, NsName, NsIp}
+use Rattle.trigger_codec.specs.declared.trigger.Trigger.TheVariants.{ClientIp, Qname, ResponseIp, NsDname, NsIp}
 use Rattle.trigger_codec.proofs.AddressLaw.{written_read, v4_back, v6_back}
 use Rattle.trigger_codec.proofs.Firsts.{no_labels}
 use Rattle.trigger_codec.proofs.JoinLemmas.{joined_is}
@@ -85,13 +85,13 @@ prefix_holds kind (Err inert) t h = absurd cc
 abbrev IsBack : Trigger → Type 0
 IsBack t = labels_trigger (trigger_labels t) ≡ Ok t
 
-client_back : (front : List (List ℕ)) (p : PlainPrefix) → prefix_read front ≡ Ok p → IsBack (Client p)
+client_back : (front : List (List ℕ)) (p : PlainPrefix) → prefix_read front ≡ Ok p → IsBack (ClientIp p)
 unfolding trigger_labels
-client_back front p h = last_names (prefix_labels p) (codes "rpz-client-ip") ∙ ap (by_prefix (λ q. Client q)) (prefix_back front p h)
+client_back front p h = last_names (prefix_labels p) (codes "rpz-client-ip") ∙ ap (by_prefix (λ q. ClientIp q)) (prefix_back front p h)
 
-response_back : (front : List (List ℕ)) (p : PlainPrefix) → prefix_read front ≡ Ok p → IsBack (RespIp p)
+response_back : (front : List (List ℕ)) (p : PlainPrefix) → prefix_read front ≡ Ok p → IsBack (ResponseIp p)
 unfolding trigger_labels
-response_back front p h = last_names (prefix_labels p) (codes "rpz-ip") ∙ ap (by_prefix (λ q. RespIp q)) (prefix_back front p h)
+response_back front p h = last_names (prefix_labels p) (codes "rpz-ip") ∙ ap (by_prefix (λ q. ResponseIp q)) (prefix_back front p h)
 
 ns_ip_back : (front : List (List ℕ)) (p : PlainPrefix) → prefix_read front ≡ Ok p → IsBack (NsIp p)
 unfolding trigger_labels
@@ -105,15 +105,15 @@ same_trigger : (b : Bool) (u t : Trigger) → (if b then Err inerts.Marker else 
 same_trigger true u t h = absurd cc
 same_trigger false u t h = cc
 
-servers_back : (front : List (List ℕ)) (t : Trigger) → servers (length front) (NsName (pattern_read front)) ≡ Ok t → IsBack (NsName (pattern_read front))
+servers_back : (front : List (List ℕ)) (t : Trigger) → servers (length front) (NsDname (pattern_read front)) ≡ Ok t → IsBack (NsDname (pattern_read front))
 unfolding trigger_labels
 servers_back front t h =
     let marker : List ℕ = codes "rpz-nsdname" in
-    let made : NsName (pattern_read front) ≡ t = same_trigger (length front == 0) (NsName (pattern_read front)) t h in
+    let made : NsDname (pattern_read front) ≡ t = same_trigger (length front == 0) (NsDname (pattern_read front)) t h in
     ap (λ (ls : List (List ℕ)). labels_trigger (ls ++ marker ∷ [])) (pattern_labels-read front)
     ∙ last_names (lowered front) marker
-    ∙ ap (λ (n : ℕ). servers n (NsName (pattern_read (lowered front)))) (length-map front lower_case)
-    ∙ ap (λ (pattern : PlainPattern). servers (length front) (NsName pattern)) (pattern_read-lowered front)
+    ∙ ap (λ (n : ℕ). servers n (NsDname (pattern_read (lowered front)))) (length-map front lower_case)
+    ∙ ap (λ (pattern : PlainPattern). servers (length front) (NsDname pattern)) (pattern_read-lowered front)
     ∙ h ∙ ap (λ (u : Trigger). Ok u) (sym made)
 
 -- names that are asked for
@@ -129,10 +129,10 @@ name_back front last h =
     ∙ ap (λ (pattern : PlainPattern). Ok (Qname pattern)) (pattern_read-lowered labels)
 
 marker_back : (m : Marker) (front : List (List ℕ)) (last : List ℕ) (t : Trigger) → marker_of last ≡ m → by_marker m front (front ++ last ∷ []) ≡ Ok t → IsBack t
-marker_back client_ip front last t e h = let p = prefix_holds (λ q. Client q) (prefix_read front) t h in subst IsBack p.is (client_back front p.prefix p.ok)
-marker_back response_ip front last t e h = let p = prefix_holds (λ q. RespIp q) (prefix_read front) t h in subst IsBack p.is (response_back front p.prefix p.ok)
-marker_back ns_ip front last t e h = let p = prefix_holds (λ q. NsIp q) (prefix_read front) t h in subst IsBack p.is (ns_ip_back front p.prefix p.ok)
-marker_back ns_name front last t e h = subst IsBack (same_trigger (length front == 0) (NsName (pattern_read front)) t h) (servers_back front t h)
+marker_back client_ip front last t e h = let p = prefix_holds (λ q. ClientIp q) (prefix_read front) t h in subst IsBack p.is (client_back front p.prefix p.ok)
+marker_back response_ip front last t e h = let p = prefix_holds (λ q. ResponseIp q) (prefix_read front) t h in subst IsBack p.is (response_back front p.prefix p.ok)
+marker_back nsip front last t e h = let p = prefix_holds (λ q. NsIp q) (prefix_read front) t h in subst IsBack p.is (ns_ip_back front p.prefix p.ok)
+marker_back nsdname front last t e h = subst IsBack (same_trigger (length front == 0) (NsDname (pattern_read front)) t h) (servers_back front t h)
 marker_back unknown front last t e h = absurd cc
 marker_back plain front last t e h = let is : Qname (pattern_read (front ++ last ∷ [])) ≡ t = cc in subst IsBack is (name_back front last e)
 

@@ -3,13 +3,13 @@
 use Rattle.std.specs.Prelude.{ℕ, zero, suc, ◌+◌, ◌/◌, ◌%◌, ◌==◌, nat_lt, false, if◌then◌else◌, List, [], ◌∷◌, ◌++◌, map, reverse, take, drop, codes, decimal, Result}
 use Rattle.std.specs.Fmt.{digits}
 use Rattle.dns_name.specs.Alike.{PlainPattern}
-use Rattle.dns_name.specs.Joined.{joined}
+use Rattle.dns_name.specs.Join.{join_outcome}
 use Rattle.dns_name.specs.declared.fault.TooLong.{TooLong}
 use Rattle.ip_prefix.specs.declared.Addr.{Addr}
 use Rattle.ip_prefix.specs.declared.Addr.TheVariants.{V4, V6}
 use Rattle.ip_prefix.specs.Prefix.{PlainPrefix}
 use Rattle.trigger_codec.specs.declared.trigger.Trigger.{Trigger}
-use Rattle.trigger_codec.specs.declared.trigger.Trigger.TheVariants.{Client, Qname, RespIp, NsName, NsIp}
+use Rattle.trigger_codec.specs.declared.trigger.Trigger.TheVariants.{ClientIp, Qname, ResponseIp, NsDname, NsIp}
 
 -- so many digits of a number in a base, the lowest first
 abbrev pub lowest_digits : ℕ → ℕ → ℕ → List ℕ
@@ -63,12 +63,12 @@ pattern_labels pattern = if pattern.wild then codes "*" ∷ pattern.base else pa
 
 -- a trigger as labels
 unfoldable pub trigger_labels : Trigger → List (List ℕ)
-trigger_labels (Client prefix) = prefix_labels prefix ++ codes "rpz-client-ip" ∷ []
+trigger_labels (ClientIp prefix) = prefix_labels prefix ++ codes "rpz-client-ip" ∷ []
 trigger_labels (Qname pattern) = pattern_labels pattern
-trigger_labels (RespIp prefix) = prefix_labels prefix ++ codes "rpz-ip" ∷ []
-trigger_labels (NsName pattern) = pattern_labels pattern ++ codes "rpz-nsdname" ∷ []
+trigger_labels (ResponseIp prefix) = prefix_labels prefix ++ codes "rpz-ip" ∷ []
+trigger_labels (NsDname pattern) = pattern_labels pattern ++ codes "rpz-nsdname" ∷ []
 trigger_labels (NsIp prefix) = prefix_labels prefix ++ codes "rpz-nsip" ∷ []
 
 -- the canonical owner of a trigger in the zone of this origin
 abbrev pub canonical_owner : Trigger → List (List ℕ) → Result (List (List ℕ)) TooLong
-canonical_owner t origin = joined (trigger_labels t) origin
+canonical_owner t origin = join_outcome (trigger_labels t) origin

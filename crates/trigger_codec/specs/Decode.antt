@@ -9,8 +9,8 @@ use Rattle.trigger_codec.specs.declared.inert.Inert.TheVariants.{OutOfZone, Apex
 use Rattle.trigger_codec.specs.declared.inert.TriggerError.{TriggerError}
 use Rattle.trigger_codec.specs.declared.inert.TriggerError.TheVariants as errors
 use Rattle.trigger_codec.specs.declared.trigger.Trigger.{Trigger}
-use Rattle.trigger_codec.specs.declared.trigger.Trigger.TheVariants.{Client, Qname, RespIp, NsName, NsIp}
-use Rattle.trigger_codec.specs.Trigger.{Marker, client_ip, response_ip, ns_ip, ns_name, unknown, plain, marker_of, is_asterisk}
+use Rattle.trigger_codec.specs.declared.trigger.Trigger.TheVariants.{ClientIp, Qname, ResponseIp, NsDname, NsIp}
+use Rattle.trigger_codec.specs.Trigger.{Marker, client_ip, response_ip, nsip, nsdname, unknown, plain, marker_of, is_asterisk}
 
 -- the labels before those of the zone
 abbrev pub labels_before : List (List ℕ) → List (List ℕ) → List (List ℕ)
@@ -27,10 +27,10 @@ by_prefix kind (Err inert) = Err inert
 
 -- the trigger that labels name, by the kind that the last of them names
 abbrev pub by_marker : Marker → List (List ℕ) → List (List ℕ) → Result Trigger Inert
-by_marker client_ip rest labels = by_prefix Client (prefix_read rest)
-by_marker response_ip rest labels = by_prefix RespIp (prefix_read rest)
-by_marker ns_ip rest labels = by_prefix NsIp (prefix_read rest)
-by_marker ns_name rest labels = if length rest == 0 then Err UnknownMarker else Ok (NsName (pattern_read rest))
+by_marker client_ip rest labels = by_prefix ClientIp (prefix_read rest)
+by_marker response_ip rest labels = by_prefix ResponseIp (prefix_read rest)
+by_marker nsip rest labels = by_prefix NsIp (prefix_read rest)
+by_marker nsdname rest labels = if length rest == 0 then Err UnknownMarker else Ok (NsDname (pattern_read rest))
 by_marker unknown rest labels = Err UnknownMarker
 by_marker plain rest labels = Ok (Qname (pattern_read labels))
 

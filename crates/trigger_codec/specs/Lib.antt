@@ -7,3 +7,4 @@ pub mod Words
 pub mod Runs
 pub mod Seen
 pub mod Dotted
+pub mod Bases

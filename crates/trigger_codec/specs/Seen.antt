@@ -1,17 +1,17 @@
 -- What the code tells apart, in the words of the definitions.
 use Rattle.std.specs.Prelude.{ℕ, Bool, false, List, [], ◌∷◌}
 use Rattle.trigger_codec.specs.declared.marker.Marker.{Marker as Told}
-use Rattle.trigger_codec.specs.declared.marker.Marker.TheVariants.{ClientIp, ResponseIp, NsIp, NsName, Unknown, Plain}
+use Rattle.trigger_codec.specs.declared.marker.Marker.TheVariants.{ClientIp, ResponseIp, NsIp, NsDname, Unknown, Plain}
 use Rattle.trigger_codec.specs.declared.runs.Run.{Run as RunTold}
 use Rattle.trigger_codec.specs.Canonical.{Run}
-use Rattle.trigger_codec.specs.Trigger.{Marker, client_ip, response_ip, ns_ip, ns_name, unknown, plain, is_asterisk}
+use Rattle.trigger_codec.specs.Trigger.{Marker, client_ip, response_ip, nsip, nsdname, unknown, plain, is_asterisk}
 
 -- what a label names
 abbrev pub marker_seen : Told → Marker
 marker_seen ClientIp = client_ip
 marker_seen ResponseIp = response_ip
-marker_seen NsIp = ns_ip
-marker_seen NsName = ns_name
+marker_seen NsIp = nsip
+marker_seen NsDname = nsdname
 marker_seen Unknown = unknown
 marker_seen Plain = plain
 

@@ -7,8 +7,8 @@ use Rattle.std.specs.Str.{bytes_eq}
 pub data Marker : Type 0 where
   client_ip : Marker
   response_ip : Marker
-  ns_ip : Marker
-  ns_name : Marker
+  nsip : Marker
+  nsdname : Marker
   unknown : Marker
   plain : Marker
 
@@ -25,8 +25,8 @@ abbrev pub marker_of : List ℕ → Marker
 marker_of label =
     if is_word (codes "rpz-client-ip") label then client_ip
     else (if is_word (codes "rpz-ip") label then response_ip
-    else (if is_word (codes "rpz-nsip") label then ns_ip
-    else (if is_word (codes "rpz-nsdname") label then ns_name
+    else (if is_word (codes "rpz-nsip") label then nsip
+    else (if is_word (codes "rpz-nsdname") label then nsdname
     else (if is_reserved label then unknown
     else plain))))
 

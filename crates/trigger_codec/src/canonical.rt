@@ -1,7 +1,7 @@
 //! The canonical owner of a trigger.
 
 ghost use Rattle.std.specs.Prelude.{◌≡◌, Ok, [], ◌∷◌, ◌++◌, codes, IfOk};
-ghost use Rattle.dns_name.specs.Joined.{joined, JoinGives};
+ghost use Rattle.dns_name.specs.Join.{join_outcome, JoinGives};
 ghost use Rattle.dns_name.specs.Text.{text_name};
 ghost use Rattle.trigger_codec.specs.Canonical.{prefix_labels, pattern_labels, canonical_owner};
 ghost use Rattle.trigger_codec.specs.Dotted.{IsShort};
@@ -22,10 +22,10 @@ pub fn owner_of(alloc: Global, trigger: &Trigger, origin: &Name) -> Result<Name,
     ensures { JoinGives result (canonical_owner trigger.now origin.now) }
 {
     match trigger {
-        Trigger::Client(prefix) => owner_of_prefix(alloc, prefix, "rpz-client-ip", origin),
+        Trigger::ClientIp(prefix) => owner_of_prefix(alloc, prefix, "rpz-client-ip", origin),
         Trigger::Qname(pattern) => owner_of_pattern(alloc, pattern, origin),
-        Trigger::RespIp(prefix) => owner_of_prefix(alloc, prefix, "rpz-ip", origin),
-        Trigger::NsName(pattern) => owner_of_servers(alloc, pattern, origin),
+        Trigger::ResponseIp(prefix) => owner_of_prefix(alloc, prefix, "rpz-ip", origin),
+        Trigger::NsDname(pattern) => owner_of_servers(alloc, pattern, origin),
         Trigger::NsIp(prefix) => owner_of_prefix(alloc, prefix, "rpz-nsip", origin),
     }
 }
@@ -39,7 +39,7 @@ fn owner_of_prefix(
 ) -> Result<Name, JoinError>
     requires { IsShort 20 marker.now }
     ensures { JoinGives result
-        (joined (prefix_labels prefix.now ++ marker.now ∷ []) origin.now) }
+        (join_outcome (prefix_labels prefix.now ++ marker.now ∷ []) origin.now) }
 {
     let text = text_of_prefix(alloc, prefix, marker)?;
     a_name_is_read_from_its_text();
@@ -49,7 +49,7 @@ fn owner_of_prefix(
 
 // The labels of the pattern before the zone.
 fn owner_of_pattern(alloc: Global, pattern: &Pattern, zone: &Name) -> Result<Name, JoinError>
-    ensures { JoinGives result (joined (pattern_labels pattern.now) zone.now) }
+    ensures { JoinGives result (join_outcome (pattern_labels pattern.now) zone.now) }
 {
     if pattern.is_wild() {
         let wild = name_of(alloc, b"*")?;
@@ -63,7 +63,7 @@ fn owner_of_pattern(alloc: Global, pattern: &Pattern, zone: &Name) -> Result<Nam
 // The labels of the pattern and `rpz-nsdname` before the origin.
 fn owner_of_servers(alloc: Global, pattern: &Pattern, origin: &Name) -> Result<Name, JoinError>
     ensures { JoinGives result
-        (joined (pattern_labels pattern.now ++ codes "rpz-nsdname" ∷ []) origin.now) }
+        (join_outcome (pattern_labels pattern.now ++ codes "rpz-nsdname" ∷ []) origin.now) }
 {
     let marker = name_of(alloc, b"rpz-nsdname")?;
     let zone = Name::join(alloc, &marker, origin)?;

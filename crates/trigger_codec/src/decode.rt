@@ -54,11 +54,11 @@ fn by_marker(
 {
     let rest = count - 1;
     match marker {
-        Marker::ClientIp => Ok(Trigger::Client(prefix_of(owner, rest)?)),
-        Marker::ResponseIp => Ok(Trigger::RespIp(prefix_of(owner, rest)?)),
+        Marker::ClientIp => Ok(Trigger::ClientIp(prefix_of(owner, rest)?)),
+        Marker::ResponseIp => Ok(Trigger::ResponseIp(prefix_of(owner, rest)?)),
         Marker::NsIp => Ok(Trigger::NsIp(prefix_of(owner, rest)?)),
-        Marker::NsName if rest == 0 => Err(TriggerError::Inert(Inert::Marker)),
-        Marker::NsName => Ok(Trigger::NsName(pattern_of(alloc, owner, rest)?)),
+        Marker::NsDname if rest == 0 => Err(TriggerError::Inert(Inert::Marker)),
+        Marker::NsDname => Ok(Trigger::NsDname(pattern_of(alloc, owner, rest)?)),
         Marker::Unknown => Err(TriggerError::Inert(Inert::Marker)),
         Marker::Plain => Ok(Trigger::Qname(pattern_of(alloc, owner, count)?)),
     }

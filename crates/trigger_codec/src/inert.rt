@@ -6,7 +6,7 @@ ghost use Rattle.trigger_codec.specs.declared.inert.TriggerError.TheVariants.{Ou
 use std::alloc::{AllocError, AllocFailed};
 
 /// Why the owner of a rule names no trigger, so that the rule does nothing. Where several reasons hold, the
-/// first of this list is told.
+/// first of this list is the one that is given.
 #[derive(Clone, Copy, Debug, PartialEq, Eq)]
 pub enum Inert {
     /// The owner is not the zone's origin and not below it.

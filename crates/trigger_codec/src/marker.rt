@@ -10,7 +10,7 @@ pub(crate) enum Marker {
     ClientIp,
     ResponseIp,
     NsIp,
-    NsName,
+    NsDname,
     Unknown,
     Plain,
 }
@@ -26,7 +26,7 @@ pub(crate) fn marker_of(label: &[u8]) -> Marker
     } else if label.eq_ignore_ascii_case(b"rpz-nsip") {
         Marker::NsIp
     } else if label.eq_ignore_ascii_case(b"rpz-nsdname") {
-        Marker::NsName
+        Marker::NsDname
     } else if is_reserved(label) {
         Marker::Unknown
     } else {

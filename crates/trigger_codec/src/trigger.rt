@@ -9,13 +9,13 @@ use ip_prefix::Prefix;
 #[derive(Debug, Drop)]
 pub enum Trigger {
     /// The address of the client is in the prefix (section 4.1).
-    Client(Prefix),
+    ClientIp(Prefix),
     /// The name that is asked for is of the pattern (section 4.2).
     Qname(Pattern),
     /// An address of the answer is in the prefix (section 4.3).
-    RespIp(Prefix),
+    ResponseIp(Prefix),
     /// The name of a name server of the answer is of the pattern (section 4.4).
-    NsName(Pattern),
+    NsDname(Pattern),
     /// The address of a name server of the answer is in the prefix (section 4.5).
     NsIp(Prefix),
 }
@@ -24,10 +24,10 @@ pub enum Trigger {
 /// (draft-vixie-dnsop-dns-rpz, section 5).
 #[derive(Clone, Copy, Debug, PartialEq, Eq, PartialOrd, Ord)]
 pub enum Kind {
-    Client,
+    ClientIp,
     Qname,
-    RespIp,
-    NsName,
+    ResponseIp,
+    NsDname,
     NsIp,
 }
 
@@ -39,10 +39,10 @@ impl Trigger {
         ensures { result ≡ kind_of self.now }
     {
         match self {
-            Trigger::Client(_) => Kind::Client,
+            Trigger::ClientIp(_) => Kind::ClientIp,
             Trigger::Qname(_) => Kind::Qname,
-            Trigger::RespIp(_) => Kind::RespIp,
-            Trigger::NsName(_) => Kind::NsName,
+            Trigger::ResponseIp(_) => Kind::ResponseIp,
+            Trigger::NsDname(_) => Kind::NsDname,
             Trigger::NsIp(_) => Kind::NsIp,
         }
     }

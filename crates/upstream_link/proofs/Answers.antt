@@ -5,7 +5,7 @@ use Rattle.std.specs.List.{list_all, find}
 use Rattle.std.proofs.lemmas.Bool.{eqb-true}
 use Rattle.dns_record.specs.Record.{PlainRecord}
 use Rattle.dns_message.specs.declared.message.Message.{Message}
-use Rattle.upstream_link.specs.Fact.{answer_in, is_soa, is_told}
+use Rattle.upstream_link.specs.Fact.{answer_in, is_soa, is_answer_rcode}
 use Rattle.upstream_link.specs.Kept.{IsAnswer}
 
 either : (a b : Bool) → (a || b) ≡ true → (a ≡ true) ⊎ (b ≡ true)
@@ -39,9 +39,9 @@ told_by : (rcode : ℕ) → ((rcode == 0) ≡ true) ⊎ ((rcode == 3) ≡ true) 
 told_by rcode (inl e) = inl (eqb-true rcode 0 e)
 told_by rcode (inr e) = inr (eqb-true rcode 3 e)
 
-pub is_answer : (m : Message) → is_told m.header.rcode ≡ true → IsAnswer (answer_in m)
+pub is_answer : (m : Message) → is_answer_rcode m.header.rcode ≡ true → IsAnswer (answer_in m)
 is_answer m told = record {
-  is_told = told_by m.header.rcode (either (m.header.rcode == 0) (m.header.rcode == 3) told);
+  is_answer_rcode = told_by m.header.rcode (either (m.header.rcode == 0) (m.header.rcode == 3) told);
   in_class = kept_all (λ r. r.class == 1) m.answer;
   is_soa = found m.authority;
 }

@@ -12,7 +12,7 @@ use Rattle.upstream_link.specs.declared.fact.Fact.{Fact}
 use Rattle.upstream_link.specs.declared.fact.Fact.TheVariants.{Answer, Broken}
 use Rattle.upstream_link.specs.declared.fact.Why.TheVariants.{Unusable, Rcode}
 
--- questions are alike; capitals of ASCII count as small letters in their names (RFC 1035, section 2.3.3)
+-- questions are alike; their names compare without case (RFC 1035, section 2.3.3)
 abbrev pub same_question : Question → Question → Bool
 same_question a b = same_name a.name b.name && (a.qtype == b.qtype && a.qclass == b.qclass)
 
@@ -20,7 +20,7 @@ abbrev pub asks : Question → Option Question → Bool
 asks question None = false
 asks question (Some other) = same_question other question
 
--- a whole response to the question in a message of this identifier (RFC 1035, section 4.1.1)
+-- a whole response to the question in a message of this ID (RFC 1035, section 4.1.1)
 abbrev pub answers_to : ℕ → Question → Message → Bool
 answers_to id question m = m.header.id == id && (m.header.qr && (m.header.opcode == 0 && (not m.header.tc && asks question m.question)))
 
@@ -33,16 +33,16 @@ abbrev pub answer_in : Message → PlainAnswer
 answer_in m = record { rcode = m.header.rcode; answers = filter (λ r. r.class == 1) m.answer; soa = find is_soa m.authority }
 
 -- the rcode says that there is an answer, or that the name doesn't exist
-abbrev pub is_told : ℕ → Bool
-is_told rcode = rcode == 0 || rcode == 3
+abbrev pub is_answer_rcode : ℕ → Bool
+is_answer_rcode rcode = rcode == 0 || rcode == 3
 
-abbrev pub told_in : Message → Fact
-told_in m = if is_told m.header.rcode then Answer (answer_in m) else Broken (Rcode m.header.rcode)
+abbrev pub fact_in : Message → Fact
+fact_in m = if is_answer_rcode m.header.rcode then Answer (answer_in m) else Broken (Rcode m.header.rcode)
 
 abbrev pub fact_by : List ℕ → ℕ → Question → Result Message MessageFault → Fact
-fact_by octets id question (Ok m) = if answers_to id question m then told_in m else Broken (Unusable octets)
+fact_by octets id question (Ok m) = if answers_to id question m then fact_in m else Broken (Unusable octets)
 fact_by octets id question (Err fault) = Broken (Unusable octets)
 
--- What the bytes say that came for a question in a message of this identifier.
+-- What the bytes say that came for a question in a message of this ID.
 unfoldable pub fact_from : List ℕ → ℕ → Question → Fact
 fact_from octets id question = fact_by octets id question (message_of octets)

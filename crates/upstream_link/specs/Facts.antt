@@ -9,6 +9,6 @@ use Rattle.upstream_link.specs.Fact.{same_question}
 abbrev pub PlainFacts : Type 0
 PlainFacts = List (Question × Fact)
 
--- what is known of a question; capitals count as small letters in its name
-abbrev pub known : PlainFacts → Question → Option Fact
-known facts question = option_map (λ e. e.1) (find (λ e. same_question e.0 question) facts)
+-- what is known of a question; names compare without case
+abbrev pub fact_about : PlainFacts → Question → Option Fact
+fact_about facts question = option_map (λ e. e.1) (find (λ e. same_question e.0 question) facts)

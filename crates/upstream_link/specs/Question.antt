@@ -13,7 +13,7 @@ question_of name qtype = record { name = name; qtype = qtype; qclass = 1 }
 abbrev pub main_question : Query → Question
 main_question query = question_of query.question.name query.question.qtype
 
--- a message that asks this: RD is 1, and the name in small letters (RFC 1035, section 4.1.1)
+-- a message that asks this: RD is 1, and the name in lower case (RFC 1035, section 4.1.1)
 abbrev pub question_message : ℕ → Question → Message
 question_message id question = record {
   header = record { id = id; qr = false; opcode = 0; aa = false; tc = false; rd = true; ra = false; rcode = 0 };

@@ -2,7 +2,7 @@
 
 ghost use Rattle.std.specs.Prelude.{◌≡◌, option_copied, true};
 ghost use Rattle.std.specs.List.{find};
-ghost use Rattle.upstream_link.specs.Fact.{answer_in, is_soa as soa_in_class, is_told};
+ghost use Rattle.upstream_link.specs.Fact.{answer_in, is_soa as soa_in_class, is_answer_rcode};
 
 use dns_message::Message;
 use dns_record::{Record, Records, class, rtype};
@@ -30,7 +30,7 @@ impl Answer {
     /// What is kept of a message: its rcode, its answers of class IN, and the first SOA record of class IN in its
     /// authority section.
     pub(crate) fn of(message: Message) -> Self
-        requires { is_told message.header.rcode ≡ true }
+        requires { is_answer_rcode message.header.rcode ≡ true }
         ensures { result ≡ answer_in message }
     {
         let mut answers = message.answer;

@@ -1,7 +1,7 @@
 //! Questions to the server.
 
 ghost use Rattle.std.specs.Prelude.{◌≡◌, IfOk};
-ghost use Rattle.dns_message.specs.Spelling.{spelled};
+ghost use Rattle.dns_message.specs.Spelling.{spelling};
 ghost use Rattle.upstream_link.specs.Question.{main_question as question_about, question_message};
 
 use dns_message::{Header, Query, Question, write_parts};
@@ -20,9 +20,9 @@ pub fn main_question(query: &Query) -> Result<Question, AllocError>
     })
 }
 
-/// The bytes of a message of this identifier that asks the question, its name in small letters and RD 1.
+/// The bytes of a message of this ID that asks the question, its name in lower case and RD 1.
 pub fn question_bytes(alloc: Global, id: u16, question: &Question) -> Result<Octets, AllocError>
-    ensures { IfOk result (λ octets. octets ≡ spelled (question_message id question.now)) }
+    ensures { IfOk result (λ octets. octets ≡ spelling (question_message id question.now)) }
 {
     let header = Header {
         id,

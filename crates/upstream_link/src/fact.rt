@@ -2,7 +2,7 @@
 
 ghost use Rattle.std.specs.Prelude.{◌≡◌, option_copied, IfOk};
 ghost use Rattle.upstream_link.specs.Fact as form;
-ghost use Rattle.upstream_link.specs.Fact.{fact_from, told_in};
+ghost use Rattle.upstream_link.specs.Fact.{fact_from, fact_in};
 
 use crate::answer::Answer;
 use dns_message::{Message, MessageError, Question, read_message};
@@ -22,7 +22,7 @@ pub enum Fact {
 pub enum Why {
     /// Nothing came.
     Failed,
-    /// What came is no response to the question: it can't be read, its identifier is another, QR is 0, the opcode
+    /// What came is no response to the question: it can't be read, its ID is another, QR is 0, the opcode
     /// isn't 0, it is truncated, or its question is another.
     Unusable(Octets),
     /// The response has this rcode, which is neither 0 nor 3.
@@ -59,8 +59,8 @@ fn answers_to(id: u16, question: &Question, message: &Message) -> bool
 }
 
 // What a response says.
-fn told(message: Message) -> Fact
-    ensures { result ≡ told_in message }
+fn fact_of_message(message: Message) -> Fact
+    ensures { result ≡ fact_in message }
 {
     let rcode = message.header.rcode;
     if rcode == 0 || rcode == 3 {
@@ -70,7 +70,7 @@ fn told(message: Message) -> Fact
     }
 }
 
-/// What the bytes say that came for a question which was asked in a message of this identifier.
+/// What the bytes say that came for a question which was asked in a message of this ID.
 #[tactic(auto, unfolding(crate::specs::Fact::fact_from))]
 pub fn fact_of(
     alloc: Global,
@@ -83,7 +83,7 @@ pub fn fact_of(
     match read_message(alloc, bytes.as_slice()) {
         Ok(message) => {
             if answers_to(id, question, &message) {
-                Ok(told(message))
+                Ok(fact_of_message(message))
             } else {
                 Ok(Fact::Broken(Why::Unusable(bytes)))
             }

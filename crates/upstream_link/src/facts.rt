@@ -1,9 +1,10 @@
 //! What is known of several questions.
 
-ghost use Rattle.std.specs.Prelude.{◌≡◌, [], ◌∷◌, ◌++◌, option_copied, OnOk, IfErr};
+ghost use Rattle.std.specs.Prelude.{◌≡◌, ◌↔◌, ◌<◌, [], ◌∷◌, ◌++◌, length, option_copied, IsSome, OnOk, IfErr};
 ghost use Rattle.std.specs.List.{find};
+ghost use Rattle.std.specs.Option.{option_to_list};
 ghost use Rattle.upstream_link.specs.Fact as form;
-ghost use Rattle.upstream_link.specs.Facts.{known};
+ghost use Rattle.upstream_link.specs.Facts.{fact_about};
 ghost use Rattle.upstream_link.specs.Question.{question_of};
 
 use crate::fact::Fact;
@@ -52,10 +53,18 @@ impl Facts {
         }
     }
 
-    /// What is known of the question of this name and type in class IN, capitals of ASCII counting as small letters in
-    /// the name. Its time is linear in the number of facts.
+    /// Takes the last fact out, with its question; `None` where nothing is known.
+    pub fn pop(&mut self) -> Option<(Question, Fact)>
+        ensures some { IsSome result ↔ (0 < length self.old) }
+        ensures last { self.old ≡ self.new ++ option_to_list result }
+    {
+        self.facts.pop()
+    }
+
+    /// What is known of the question of this name and type in class IN; names compare without case. Its time
+    /// is linear in the number of facts.
     pub fn get(&self, name: &Name, qtype: u16) -> Option<&Fact>
-        ensures { option_copied result ≡ known self.now (question_of name.now qtype) }
+        ensures { option_copied result ≡ fact_about self.now (question_of name.now qtype) }
     {
         let found = self
             .facts

@@ -1,4 +1,4 @@
-//! What is asked of the server behind the forwarder, and what is learned from it.
+//! What is asked of the upstream, and what is learned from it.
 #![tactic(auto)]
 
 mod answer;

@@ -22,7 +22,7 @@ use Rattle.zone_rows.specs.declared.zone.PlainZone.{PlainZone}
 use Rattle.zone_rows.specs.declared.zone.TheConstants.{ROW_LIMIT}
 use Rattle.zone_rows.specs.Distinct.{AreDistinct, IsFirst, Precedes, HasDistinctRows}
 use Rattle.zone_rows.specs.Repeats.{has_row, with_row, without_repeats}
-use Rattle.zone_rows.specs.Row.{PlainRow, AreAlike, identity}
+use Rattle.dns_record.specs.Row.{PlainRow, AreAlike, identity}
 use Rattle.zone_rows.specs.Zone.{Gives, newer_soa, fewer_rows, apply_outcome_within, apply_outcome}
 
 -- a test of identities that fails, and one that holds

@@ -8,7 +8,7 @@ use Rattle.std.proofs.lemmas.List.Sums.{fold_push}
 use Rattle.std.proofs.lemmas.Slice.Eq.{bytes_eq-Decides}
 use Rattle.zone_rows.specs.KeySet.{has_key}
 use Rattle.zone_rows.specs.Repeats.{has_row, with_row, without_repeats, AreKeysOf}
-use Rattle.zone_rows.specs.Row.{PlainRow, identity}
+use Rattle.dns_record.specs.Row.{PlainRow, identity}
 
 -- the rows that were kept of those that were taken, with the set of their identities
 pub record HasKept (taken kept : List PlainRow) (seen : List (List ℕ)) : Type 0 where

@@ -2,7 +2,7 @@
 use Rattle.std.specs.Prelude.{◌≡◌, ◌≢◌, ◌<◌, ℕ, List, length, AllPairs, IfSome}
 use Rattle.std.specs.List.{slice_index_or}
 use Rattle.zone_rows.specs.declared.zone.PlainZone.{PlainZone}
-use Rattle.zone_rows.specs.Row.{PlainRow, identity}
+use Rattle.dns_record.specs.Row.{PlainRow, identity}
 
 -- no two rows have one identity
 abbrev pub AreDistinct : List PlainRow → Type 0

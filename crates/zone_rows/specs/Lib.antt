@@ -1,5 +1,5 @@
-pub mod Row
 pub mod KeySet
 pub mod Repeats
 pub mod Zone
 pub mod Distinct
+pub mod Content

@@ -3,7 +3,7 @@ use Rattle.std.specs.Prelude.{◌≡◌, ℕ, Bool, if◌then◌else◌, List, [
 use Rattle.std.specs.List.{list_any}
 use Rattle.std.specs.Str.{bytes_eq}
 use Rattle.zone_rows.specs.KeySet.{has_key}
-use Rattle.zone_rows.specs.Row.{PlainRow, identity}
+use Rattle.dns_record.specs.Row.{PlainRow, identity}
 
 -- a row of the same owner, type and data is among the rows
 abbrev pub has_row : List PlainRow → PlainRow → Bool

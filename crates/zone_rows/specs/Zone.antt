@@ -13,7 +13,7 @@ use Rattle.zone_rows.specs.declared.zone.Content.{Content}
 use Rattle.zone_rows.specs.declared.zone.PlainZone.{PlainZone}
 use Rattle.zone_rows.specs.declared.zone.TheConstants.{ROW_LIMIT}
 use Rattle.zone_rows.specs.Repeats.{without_repeats}
-use Rattle.zone_rows.specs.Row.{PlainRow}
+use Rattle.dns_record.specs.Row.{PlainRow}
 
 -- the SOA of a transfer, which is to be newer than that of what is loaded (RFC 1982, section 3.2)
 abbrev pub newer_soa : Option Content → Soa → Result Soa ApplyFault

@@ -1,18 +1,12 @@
 //! Laws of rows. Each function is its clauses, and does nothing.
 
 ghost use Rattle.std.specs.Prelude.{◌≡◌, ◌↔◌, List, Contains, Ok};
+ghost use Rattle.dns_record.specs.Row.{PlainRow, AreAlike};
 ghost use Rattle.zone_rows.specs.declared.transfer.Transfer.{Transfer};
 ghost use Rattle.zone_rows.specs.declared.zone.PlainZone.{PlainZone};
 ghost use Rattle.zone_rows.specs.Distinct.{AreDistinct, HasDistinctRows, IsFirst, Precedes};
 ghost use Rattle.zone_rows.specs.Repeats.{without_repeats};
-ghost use Rattle.zone_rows.specs.Row.{PlainRow, IsRow, AreAlike, identity};
 ghost use Rattle.zone_rows.specs.Zone.{apply_outcome};
-
-/// Two rows have one identity exactly if they differ in the TTL at most.
-pub fn a_row_is_told_by_its_identity()
-    ensures { (row other : PlainRow) → IsRow row → IsRow other →
-        (identity row ≡ identity other) ↔ AreAlike row other }
-{}
 
 /// Rows without repeats are the first row of each identity, in the order of the list.
 pub fn without_repeats_stand_the_first_rows()

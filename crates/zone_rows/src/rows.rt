@@ -1,10 +1,11 @@
 //! A list of rows.
 
-ghost use Rattle.std.specs.Prelude.{◌≡◌, List, [], ◌∷◌, ◌++◌, length, IfOk, OnOk, OnErr};
+ghost use Rattle.std.specs.Prelude.{◌≡◌, All, List, [], ◌∷◌, ◌++◌, length, IfOk, OnOk, OnErr};
+ghost use Rattle.dns_record.specs.Row.{IsRow};
 ghost use Rattle.zone_rows.specs.Repeats.{without_repeats as no_repeats};
 
 use crate::key_set::KeySet;
-use crate::row::Row;
+use dns_record::Row;
 use std::alloc::{AllocError, Global};
 use std::marker::Model;
 
@@ -15,12 +16,14 @@ pub struct Rows {
 }
 
 impl Model for Rows {
-    ghost use Rattle.std.specs.Prelude.{List};
-    ghost use Rattle.zone_rows.specs.Row.{PlainRow};
+    ghost use Rattle.std.specs.Prelude.{All, List};
+    ghost use Rattle.dns_record.specs.Row.{PlainRow, IsRow};
 
     ghost Value = { List PlainRow };
 
     ghost view = { λ r. r.rows.items };
+
+    ghost invariant = { λ r. All IsRow r.rows.items };
 }
 
 impl Rows {
@@ -42,7 +45,8 @@ impl Rows {
 
     /// The rows.
     pub fn as_slice(&self) -> &[Row]
-        ensures { result.now ≡ self.now }
+        ensures rows { result.now ≡ self.now }
+        ensures are_rows { All IsRow self.now }
     {
         self.rows.as_slice()
     }
@@ -52,6 +56,8 @@ impl Rows {
         ensures ok { OnOk result (self.new ≡ self.old ++ row ∷ []) }
         ensures err { OnErr result (self.new ≡ self.old) }
     {
+        // what its clause says is wanted here: that a row is one
+        let _owner = row.owner();
         self.rows.push(row)?;
         Ok(())
     }

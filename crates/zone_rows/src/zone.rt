@@ -13,6 +13,9 @@ use std::alloc::Global;
 /// A zone has fewer rows than this.
 pub const ROW_LIMIT: u32 = 16_777_216;
 
+/// How many zones a policy has at most.
+pub const ZONE_LIMIT: usize = 32;
+
 /// A zone: its origin, and what it holds once a transfer was taken.
 #[derive(Debug, Drop)]
 pub struct PlainZone {

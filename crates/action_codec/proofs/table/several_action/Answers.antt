@@ -1,4 +1,4 @@
-use Rattle.std.proofs.Common.{rules, ◌≡◌, Some, None, List, [], ◌∷◌, map, ap, ◌∙◌}
+use Rattle.std.proofs.Common.{Some, None, map, ap, ◌∙◌}
 use Rattle.std.specs.Prelude.{if◌then◌else◌}
 use Rattle.action_codec.specs.Local.{local_row}
 use Rattle.action_codec.specs.declared.action.Action.TheVariants.{Local}

@@ -1,4 +1,4 @@
-use Rattle.std.proofs.Common.{rules, ◌≡◌, List, [], ◌∷◌, ◌++◌, map, sym, ap, ◌∙◌}
+use Rattle.std.proofs.Common.{◌++◌, map, sym, ap, ◌∙◌}
 use Rattle.std.proofs.lemmas.List.{append-nil}
 use Rattle.action_codec.proofs.Views.{rows_of_values}
 use Rattle.action_codec.proofs.order.ByData.into_vec.Goals as goal

@@ -1,5 +1,5 @@
 use Rattle.std.proofs.Common.{Some, sym, ap, ◌∙◌}
-use Rattle.dns_name.specs.Joined.{parent_of}
+use Rattle.dns_name.specs.Join.{parent_of}
 use Rattle.dns_name.proofs.WireLemmas.{IsWire-octets, labels_in-octets}
 use Rattle.dns_name.proofs.name.Name.parent.Goals as goal
 
