@@ -1,0 +1,5 @@
+pub mod Lines
+pub mod Reader
+pub mod Fold
+pub mod Abstraction
+pub mod Replay
