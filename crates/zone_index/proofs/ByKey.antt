@@ -7,9 +7,9 @@ use Rattle.std.specs.List.{AllByRecursion}
 use Rattle.std.specs.List.Sorted.{IsStrictlySortedBy}
 use Rattle.std.specs.Map.{keys_of, lookup, remove_entry}
 use Rattle.std.specs.declared.cmp.Ordering.{Ordering}
-use Rattle.trigger_codec.specs.declared.trigger.Trigger.{Trigger}
-use Rattle.zone_rows.specs.Row.{PlainRow}
-use Rattle.action_codec.specs.Action.{action_by}
+use Rattle.dns_name.specs.Alike.{PlainPattern}
+use Rattle.dns_record.specs.Row.{PlainRow}
+use Rattle.action_codec.specs.Action.{action_for}
 use Rattle.action_codec.specs.declared.action.Action.{Action}
 use Rattle.zone_index.specs.Rules.{rows_in, with_row, put_rule, with_rule}
 use Rattle.zone_index.proofs.Entries.{lookup-same, lookup-insert_entry, lookup-remove_entry, ordered-insert, ordered-remove, apart_from, ordered-others}
@@ -37,9 +37,9 @@ module _ {K : Type 0} {R : K → K → Ordering} (o : IsTotalOrder R) where
   ordered-put_rule rules k None s = s
   ordered-put_rule rules k (Some action) s = ordered-insert o k action rules s
 
-  pub ordered-rules : (kind : K → Trigger) (rules : List (K × Action)) (groups : List (K × List PlainRow)) → IsStrictlySortedBy R (keys_of rules) → IsStrictlySortedBy R (keys_of (fold (with_rule R kind) rules groups))
-  ordered-rules kind rules [] s = s
-  ordered-rules kind rules (g ∷ gs) s = ordered-rules kind (with_rule R kind rules g) gs (ordered-put_rule rules g.0 (action_by (kind g.0) g.1) s)
+  pub ordered-rules : (own : K → Option PlainPattern) (rules : List (K × Action)) (groups : List (K × List PlainRow)) → IsStrictlySortedBy R (keys_of rules) → IsStrictlySortedBy R (keys_of (fold (with_rule R own) rules groups))
+  ordered-rules own rules [] s = s
+  ordered-rules own rules (g ∷ gs) s = ordered-rules own (with_rule R own rules g) gs (ordered-put_rule rules g.0 (action_for (own g.0) g.1) s)
 
   module _ (q : K) where
     -- a rule at another place
@@ -52,25 +52,25 @@ module _ {K : Type 0} {R : K → K → Ordering} (o : IsTotalOrder R) where
     put_here rules k None here none = none
     put_here rules k (Some action) here none = lookup-insert_entry o q k action rules ∙ ap (λ (b : Bool). cond b (Some action) (lookup (is_at (R q)) rules)) here
 
-    module _ (kind : K → Trigger) where
+    module _ (own : K → Option PlainPattern) where
       rules_apart : (rules : List (K × Action)) (groups : List (K × List PlainRow)) → AllByRecursion (λ y. is_at (R q) y ≡ false) (keys_of groups)
-          → lookup (is_at (R q)) (fold (with_rule R kind) rules groups) ≡ lookup (is_at (R q)) rules
+          → lookup (is_at (R q)) (fold (with_rule R own) rules groups) ≡ lookup (is_at (R q)) rules
       rules_apart rules [] h = refl
-      rules_apart rules (g ∷ gs) h = rules_apart (with_rule R kind rules g) gs h.1 ∙ put_apart rules g.0 (action_by (kind g.0) g.1) h.0
+      rules_apart rules (g ∷ gs) h = rules_apart (with_rule R own rules g) gs h.1 ∙ put_apart rules g.0 (action_for (own g.0) g.1) h.0
 
-      module _ (same : (k : K) (rows : List PlainRow) → is_at (R q) k ≡ true → action_by (kind k) rows ≡ action_by (kind q) rows) where
+      module _ (same : (k : K) (rows : List PlainRow) → is_at (R q) k ≡ true → action_for (own k) rows ≡ action_for (own q) rows) where
         rules_found : (b : Bool) (rules : List (K × Action)) (g : K × List PlainRow) (gs : List (K × List PlainRow)) → is_at (R q) g.0 ≡ b
             → IsStrictlySortedBy R (keys_of (g ∷ gs)) → lookup (is_at (R q)) rules ≡ None
-            → (lookup (is_at (R q)) (with_rule R kind rules g) ≡ None → lookup (is_at (R q)) (fold (with_rule R kind) (with_rule R kind rules g) gs) ≡ action_by (kind q) (rows_at R q gs))
-            → lookup (is_at (R q)) (fold (with_rule R kind) (with_rule R kind rules g) gs) ≡ action_by (kind q) (rows_in (cond b (Some g.1) (lookup (is_at (R q)) gs)))
+            → (lookup (is_at (R q)) (with_rule R own rules g) ≡ None → lookup (is_at (R q)) (fold (with_rule R own) (with_rule R own rules g) gs) ≡ action_for (own q) (rows_at R q gs))
+            → lookup (is_at (R q)) (fold (with_rule R own) (with_rule R own rules g) gs) ≡ action_for (own q) (rows_in (cond b (Some g.1) (lookup (is_at (R q)) gs)))
         rules_found true rules g gs h s none others =
-            rules_apart (with_rule R kind rules g) gs (apart_from o q g gs h s)
-            ∙ put_here rules g.0 (action_by (kind g.0) g.1) h none
+            rules_apart (with_rule R own rules g) gs (apart_from o q g gs h s)
+            ∙ put_here rules g.0 (action_for (own g.0) g.1) h none
             ∙ same g.0 g.1 h
-        rules_found false rules g gs h s none others = others (put_apart rules g.0 (action_by (kind g.0) g.1) h ∙ none)
+        rules_found false rules g gs h s none others = others (put_apart rules g.0 (action_for (own g.0) g.1) h ∙ none)
 
         -- what the rules do at a place is what the rows there do
         pub lookup-rules : (rules : List (K × Action)) (groups : List (K × List PlainRow)) → IsStrictlySortedBy R (keys_of groups) → lookup (is_at (R q)) rules ≡ None
-            → lookup (is_at (R q)) (fold (with_rule R kind) rules groups) ≡ action_by (kind q) (rows_at R q groups)
+            → lookup (is_at (R q)) (fold (with_rule R own) rules groups) ≡ action_for (own q) (rows_at R q groups)
         lookup-rules rules [] s none = none
-        lookup-rules rules (g ∷ gs) s none = rules_found (is_at (R q) g.0) rules g gs refl s none (lookup-rules (with_rule R kind rules g) gs (ordered-others o g gs s))
+        lookup-rules rules (g ∷ gs) s none = rules_found (is_at (R q) g.0) rules g gs refl s none (lookup-rules (with_rule R own rules g) gs (ordered-others o g gs s))

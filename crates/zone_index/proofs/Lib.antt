@@ -1,9 +1,11 @@
 pub mod ByKey
 pub mod Entries
-pub mod Gathered
-pub mod OneList
-pub mod Patterns
 pub mod FirstRule
+pub mod Gathered
+pub mod ListedRules
+pub mod Members
+pub mod OneList
 pub mod OnlyRules
 pub mod SameAction
-pub mod Told
+pub mod Ties
+pub mod Zones

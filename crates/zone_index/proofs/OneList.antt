@@ -1,4 +1,4 @@
--- Entries in order of their keys are told by what is found at each place.
+-- Entries in order of their keys are equal where the same is found at each place.
 use Rattle.std.proofs.Common.{◌≡◌, Bool, true, false, cond, Some, None, List, [], ◌∷◌, refl, sym, ap, ◌∙◌, unwrap_or}
 use Rattle.std.specs.BTreeMap.{insert_entry, is_at}
 use Rattle.std.specs.Cmp.{IsTotalOrder}
@@ -54,7 +54,7 @@ module _ {K X : Type 0} {R : K → K → Ordering} (o : IsTotalOrder R) where
   others_alike false q e f es fs h key s t same =
       sym (ap (λ (b : Bool). cond b (Some e.1) (lookup (is_at (R q)) es)) h) ∙ same ∙ ap (λ (b : Bool). cond b (Some f.1) (lookup (is_at (R q)) fs)) (ap (is_at (R q)) (sym key) ∙ h)
 
-  module _ (P : K → Type 0) (told : (p q : K) → P p → P q → is_at (R p) q ≡ true → p ≡ q) where
+  module _ (P : K → Type 0) (equal : (p q : K) → P p → P q → is_at (R p) q ≡ true → p ≡ q) where
     pub same_entries : (es fs : List (K × X)) → IsStrictlySortedBy R (keys_of es) → IsStrictlySortedBy R (keys_of fs) → AllByRecursion P (keys_of es) → AllByRecursion P (keys_of fs)
         → ((q : K) → P q → lookup (is_at (R q)) es ≡ lookup (is_at (R q)) fs) → es ≡ fs
     same_entries [] [] s t is_e is_f same = refl
@@ -64,7 +64,7 @@ module _ {K X : Type 0} {R : K → K → Ordering} (o : IsTotalOrder R) where
         elim (R e.0 f.0) as (λ c. R e.0 f.0 ≡ c → (e ∷ es) ≡ (f ∷ fs)) [
           | Less ↦ λ h. absurd (not_before e f es fs t (same e.0 is_e.0) h)
           | Equal ↦ λ h.
-              let key : e.0 ≡ f.0 = told e.0 f.0 is_e.0 is_f.0 (ap is_eq h) in
+              let key : e.0 ≡ f.0 = equal e.0 f.0 is_e.0 is_f.0 (ap is_eq h) in
               let value : Some e.1 ≡ Some f.1 = sym (found_first e.0 e es (at_itself o e.0)) ∙ same e.0 is_e.0 ∙ found_first e.0 f fs (ap is_eq h) in
               let others : es ≡ fs =
               same_entries es fs (ordered-others o e es s) (ordered-others o f fs t) is_e.1 is_f.1

@@ -10,61 +10,63 @@ use Rattle.dns_name.specs.Alike.{PlainPattern}
 use Rattle.ip_prefix.specs.Prefix.{PlainPrefix, prefix_order}
 use Rattle.prefix_index.specs.Order.{prefix_order_total}
 use Rattle.qname_index.specs.Best.{pattern_order}
+use Rattle.trigger_codec.specs.Bases.{IsPattern, IsTrigger}
 use Rattle.trigger_codec.specs.declared.trigger.Trigger.{Trigger}
-use Rattle.trigger_codec.specs.declared.trigger.Trigger.TheVariants.{Client, Qname, RespIp, NsName, NsIp}
-use Rattle.zone_rows.specs.Row.{PlainRow, IsRow}
-use Rattle.action_codec.specs.Action.{action_by}
+use Rattle.trigger_codec.specs.declared.trigger.Trigger.TheVariants.{ClientIp, Qname, ResponseIp, NsDname, NsIp}
+use Rattle.dns_record.specs.Row.{PlainRow, IsRow}
+use Rattle.action_codec.specs.Action.{action_by, action_for}
 use Rattle.action_codec.specs.Laws.{HaveOneTtl, HaveSameRows}
 use Rattle.action_codec.specs.declared.action.Action.{Action}
 use Rattle.zone_index.specs.Kinds.{PlainGroups, PlainRules}
-use Rattle.zone_index.specs.Laws.{AreNamed, HasBase, IsInOrder, IsNamed, is_of, rows_of, rule_at}
+use Rattle.zone_index.specs.Laws.{AreNamed, IsInOrder, rule_at}
+use Rattle.zone_index.specs.Listed.{is_of, rows_of}
 use Rattle.zone_index.specs.Rules.{live_trigger, no_groups, put_live, groups_of, rules_of, with_row, with_rule, put_rule, rows_in}
 use Rattle.zone_index.proofs.Gathered.{rule_of_rows, rules_in_order}
 use Rattle.zone_index.proofs.OneList.{keys-insert, keys-remove, same_entries}
 use Rattle.zone_index.proofs.SameAction.{pattern_order_total}
-use Rattle.zone_index.proofs.Told.{AreTold, AllNamed, named_live, prefix_told, pattern_told}
+use Rattle.zone_index.proofs.Ties.{NameLaws, IsTriggerIf, named_live, equal_prefix, equal_pattern}
 
--- ---- the patterns of a zone's rules have names for bases
+-- ---- the patterns of a zone's rules are of names in lower case
 
-named-with_row : (pattern : PlainPattern) (row : PlainRow) (groups : List (PlainPattern × List PlainRow)) → HasBase pattern → AllByRecursion HasBase (keys_of groups)
-    → AllByRecursion HasBase (keys_of (with_row pattern_order groups pattern row))
+named-with_row : (pattern : PlainPattern) (row : PlainRow) (groups : List (PlainPattern × List PlainRow)) → IsPattern pattern → AllByRecursion IsPattern (keys_of groups)
+    → AllByRecursion IsPattern (keys_of (with_row pattern_order groups pattern row))
 named-with_row pattern row groups is h =
-    keys-insert pattern_order HasBase pattern (rows_in (lookup (is_at (pattern_order pattern)) groups) ++ row ∷ []) (remove_entry (is_at (pattern_order pattern)) groups) is (keys-remove HasBase (is_at (pattern_order pattern)) groups h)
+    keys-insert pattern_order IsPattern pattern (rows_in (lookup (is_at (pattern_order pattern)) groups) ++ row ∷ []) (remove_entry (is_at (pattern_order pattern)) groups) is (keys-remove IsPattern (is_at (pattern_order pattern)) groups h)
 
-named-put_rule : (rules : List (PlainPattern × Action)) (pattern : PlainPattern) (action : Option Action) → HasBase pattern → AllByRecursion HasBase (keys_of rules)
-    → AllByRecursion HasBase (keys_of (put_rule pattern_order rules pattern action))
+named-put_rule : (rules : List (PlainPattern × Action)) (pattern : PlainPattern) (action : Option Action) → IsPattern pattern → AllByRecursion IsPattern (keys_of rules)
+    → AllByRecursion IsPattern (keys_of (put_rule pattern_order rules pattern action))
 named-put_rule rules pattern None is h = h
-named-put_rule rules pattern (Some action) is h = keys-insert pattern_order HasBase pattern action rules is h
+named-put_rule rules pattern (Some action) is h = keys-insert pattern_order IsPattern pattern action rules is h
 
-named-rules : (kind : PlainPattern → Trigger) (rules : List (PlainPattern × Action)) (groups : List (PlainPattern × List PlainRow)) → AllByRecursion HasBase (keys_of rules) → AllByRecursion HasBase (keys_of groups)
-    → AllByRecursion HasBase (keys_of (fold (with_rule pattern_order kind) rules groups))
-named-rules kind rules [] h k = h
-named-rules kind rules (g ∷ gs) h k = named-rules kind (with_rule pattern_order kind rules g) gs (named-put_rule rules g.0 (action_by (kind g.0) g.1) k.0 h) k.1
+named-rules : (own : PlainPattern → Option PlainPattern) (rules : List (PlainPattern × Action)) (groups : List (PlainPattern × List PlainRow)) → AllByRecursion IsPattern (keys_of rules) → AllByRecursion IsPattern (keys_of groups)
+    → AllByRecursion IsPattern (keys_of (fold (with_rule pattern_order own) rules groups))
+named-rules own rules [] h k = h
+named-rules own rules (g ∷ gs) h k = named-rules own (with_rule pattern_order own rules g) gs (named-put_rule rules g.0 (action_for (own g.0) g.1) k.0 h) k.1
 
 record AreNamedGroups (groups : PlainGroups) : Type 0 where
-  qname : AllByRecursion HasBase (keys_of groups.qname)
-  ns_name : AllByRecursion HasBase (keys_of groups.ns_name)
+  qname : AllByRecursion IsPattern (keys_of groups.qname)
+  nsdname : AllByRecursion IsPattern (keys_of groups.nsdname)
 
-named-put_live : (live : Option Trigger) (groups : PlainGroups) (row : PlainRow) → AllNamed live → AreNamedGroups groups → AreNamedGroups (put_live groups row live)
+named-put_live : (live : Option Trigger) (groups : PlainGroups) (row : PlainRow) → IsTriggerIf live → AreNamedGroups groups → AreNamedGroups (put_live groups row live)
 named-put_live None groups row is h = h
-named-put_live (Some (Client p)) groups row is h = record { qname = h.qname; ns_name = h.ns_name }
-named-put_live (Some (Qname p)) groups row is h = record { qname = named-with_row p row groups.qname is h.qname; ns_name = h.ns_name }
-named-put_live (Some (RespIp p)) groups row is h = record { qname = h.qname; ns_name = h.ns_name }
-named-put_live (Some (NsName p)) groups row is h = record { qname = h.qname; ns_name = named-with_row p row groups.ns_name is h.ns_name }
-named-put_live (Some (NsIp p)) groups row is h = record { qname = h.qname; ns_name = h.ns_name }
+named-put_live (Some (ClientIp p)) groups row is h = record { qname = h.qname; nsdname = h.nsdname }
+named-put_live (Some (Qname p)) groups row is h = record { qname = named-with_row p row groups.qname is h.qname; nsdname = h.nsdname }
+named-put_live (Some (ResponseIp p)) groups row is h = record { qname = h.qname; nsdname = h.nsdname }
+named-put_live (Some (NsDname p)) groups row is h = record { qname = h.qname; nsdname = named-with_row p row groups.nsdname is h.nsdname }
+named-put_live (Some (NsIp p)) groups row is h = record { qname = h.qname; nsdname = h.nsdname }
 
-named-fold : (origin : List (List ℕ)) (groups : PlainGroups) (rows : List PlainRow) → All IsRow rows → AreNamedGroups groups
+named-fold : NameLaws → (origin : List (List ℕ)) (groups : PlainGroups) (rows : List PlainRow) → All IsRow rows → AreNamedGroups groups
     → AreNamedGroups (fold (λ groups row. put_live groups row (live_trigger origin row)) groups rows)
-named-fold origin groups [] are h = h
-named-fold origin groups (row ∷ rows) are h =
+named-fold laws origin groups [] are h = h
+named-fold laws origin groups (row ∷ rows) are h =
     let first : IsRow row = are 0 row (omega arith) in
     let others : All IsRow rows = λ (k : ℕ) (d : PlainRow) (lt : k < length rows). are (suc k) d (omega arith) in
-    named-fold origin (put_live groups row (live_trigger origin row)) rows others (named-put_live (live_trigger origin row) groups row (named_live origin row first.is_owner) h)
+    named-fold laws origin (put_live groups row (live_trigger origin row)) rows others (named-put_live (live_trigger origin row) groups row (named_live laws origin row first.is_owner) h)
 
-pub rules_named : (origin : List (List ℕ)) (rows : List PlainRow) → All IsRow rows → AreNamed (rules_of origin rows)
-rules_named origin rows are =
-    let groups = named-fold origin no_groups rows are (record { qname = tt; ns_name = tt }) in
-    record { qname = named-rules Qname [] (groups_of origin rows).qname tt groups.qname; ns_name = named-rules NsName [] (groups_of origin rows).ns_name tt groups.ns_name }
+pub rules_named : NameLaws → (origin : List (List ℕ)) (rows : List PlainRow) → All IsRow rows → AreNamed (rules_of origin rows)
+rules_named laws origin rows are =
+    let groups = named-fold laws origin no_groups rows are (record { qname = tt; nsdname = tt }) in
+    record { qname = named-rules (λ pattern. Some pattern) [] (groups_of origin rows).qname tt groups.qname; nsdname = named-rules (λ _. None) [] (groups_of origin rows).nsdname tt groups.nsdname }
 
 -- ---- the only rules
 
@@ -73,25 +75,25 @@ any_prefix [] = tt
 any_prefix (e ∷ es) = (tt, any_prefix es)
 
 same_prefixes : (es fs : List (PlainPrefix × Action)) → IsStrictlySortedBy prefix_order (keys_of es) → IsStrictlySortedBy prefix_order (keys_of fs) → ((q : PlainPrefix) → lookup (is_at (prefix_order q)) es ≡ lookup (is_at (prefix_order q)) fs) → es ≡ fs
-same_prefixes es fs s t same = same_entries prefix_order_total (λ _. Unit {0}) (λ p q _ _ h. prefix_told p q h) es fs s t (any_prefix es) (any_prefix fs) (λ q _. same q)
+same_prefixes es fs s t same = same_entries prefix_order_total (λ _. Unit {0}) (λ p q _ _ h. equal_prefix p q h) es fs s t (any_prefix es) (any_prefix fs) (λ q _. same q)
 
-same_patterns : AreTold → (es fs : List (PlainPattern × Action)) → IsStrictlySortedBy pattern_order (keys_of es) → IsStrictlySortedBy pattern_order (keys_of fs) → AllByRecursion HasBase (keys_of es) → AllByRecursion HasBase (keys_of fs)
-    → ((q : PlainPattern) → HasBase q → lookup (is_at (pattern_order q)) es ≡ lookup (is_at (pattern_order q)) fs) → es ≡ fs
-same_patterns told es fs s t is_e is_f same = same_entries pattern_order_total HasBase (pattern_told told) es fs s t is_e is_f same
+same_patterns : NameLaws → (es fs : List (PlainPattern × Action)) → IsStrictlySortedBy pattern_order (keys_of es) → IsStrictlySortedBy pattern_order (keys_of fs) → AllByRecursion IsPattern (keys_of es) → AllByRecursion IsPattern (keys_of fs)
+    → ((q : PlainPattern) → IsPattern q → lookup (is_at (pattern_order q)) es ≡ lookup (is_at (pattern_order q)) fs) → es ≡ fs
+same_patterns laws es fs s t is_e is_f same = same_entries pattern_order_total IsPattern (equal_pattern laws) es fs s t is_e is_f same
 
-same_rules : AreTold → (rules other : PlainRules) → IsInOrder rules → IsInOrder other → AreNamed rules → AreNamed other → ((t : Trigger) → IsNamed t → rule_at rules t ≡ rule_at other t) → rules ≡ other
-same_rules told rules other s t is_r is_o same =
-    let client = same_prefixes rules.client other.client s.client t.client (λ q. same (Client q) tt) in
-    let qname = same_patterns told rules.qname other.qname s.qname t.qname is_r.qname is_o.qname (λ q is. same (Qname q) is) in
-    let resp_ip = same_prefixes rules.resp_ip other.resp_ip s.resp_ip t.resp_ip (λ q. same (RespIp q) tt) in
-    let ns_name = same_patterns told rules.ns_name other.ns_name s.ns_name t.ns_name is_r.ns_name is_o.ns_name (λ q is. same (NsName q) is) in
-    let ns_ip = same_prefixes rules.ns_ip other.ns_ip s.ns_ip t.ns_ip (λ q. same (NsIp q) tt) in
-    λ i. record { client = client i; qname = qname i; resp_ip = resp_ip i; ns_name = ns_name i; ns_ip = ns_ip i }
+same_rules : NameLaws → (rules other : PlainRules) → IsInOrder rules → IsInOrder other → AreNamed rules → AreNamed other → ((t : Trigger) → IsTrigger t → rule_at rules t ≡ rule_at other t) → rules ≡ other
+same_rules laws rules other s t is_r is_o same =
+    let client_ip = same_prefixes rules.client_ip other.client_ip s.client_ip t.client_ip (λ q. same (ClientIp q) tt) in
+    let qname = same_patterns laws rules.qname other.qname s.qname t.qname is_r.qname is_o.qname (λ q is. same (Qname q) is) in
+    let response_ip = same_prefixes rules.response_ip other.response_ip s.response_ip t.response_ip (λ q. same (ResponseIp q) tt) in
+    let nsdname = same_patterns laws rules.nsdname other.nsdname s.nsdname t.nsdname is_r.nsdname is_o.nsdname (λ q is. same (NsDname q) is) in
+    let nsip = same_prefixes rules.nsip other.nsip s.nsip t.nsip (λ q. same (NsIp q) tt) in
+    λ i. record { client_ip = client_ip i; qname = qname i; response_ip = response_ip i; nsdname = nsdname i; nsip = nsip i }
 
-pub only_rules : AreTold → (origin : List (List ℕ)) (rows : List PlainRow) (rules : PlainRules) → All IsRow rows → AreNamed rules → IsInOrder rules
-    → ((t : Trigger) → IsNamed t → rule_at rules t ≡ action_by t (rows_of origin rows t)) → rules ≡ rules_of origin rows
-only_rules told origin rows rules are named ordered same =
-    same_rules told rules (rules_of origin rows) ordered (rules_in_order origin rows) named (rules_named origin rows are)
+pub only_rules : NameLaws → (origin : List (List ℕ)) (rows : List PlainRow) (rules : PlainRules) → All IsRow rows → AreNamed rules → IsInOrder rules
+    → ((t : Trigger) → IsTrigger t → rule_at rules t ≡ action_by t (rows_of origin rows t)) → rules ≡ rules_of origin rows
+only_rules laws origin rows rules are named ordered same =
+    same_rules laws rules (rules_of origin rows) ordered (rules_in_order origin rows) named (rules_named laws origin rows are)
     (λ t is. same t is ∙ sym (rule_of_rows origin rows t))
 
 -- ---- the order of the rows
@@ -110,10 +112,10 @@ module _ (p : PlainRow → Bool) where
   passes_at x (y ∷ rows) zero lt e h = contains_first (p y) y x (filter p rows) (ap p e ∙ h) e
   passes_at x (y ∷ rows) (suc k) lt e h = contains_further (p y) y x (filter p rows) (passes_at x rows k (omega arith) e h)
 
-  within : (rows : List PlainRow) (x : PlainRow) → Contains (filter p rows) x → Contains rows x
+  pub within : (rows : List PlainRow) (x : PlainRow) → Contains (filter p rows) x → Contains rows x
   within rows x h = All-contains (Contains rows) (filter p rows) x (All-filter p (Contains rows) rows (All-contains_itself rows)) h
 
-  passes : (rows : List PlainRow) (x : PlainRow) → Contains (filter p rows) x → p x ≡ true
+  pub passes : (rows : List PlainRow) (x : PlainRow) → Contains (filter p rows) x → p x ≡ true
   passes rows x h = All-contains (λ y. p y ≡ true) (filter p rows) x (filter_passes p rows) h
 
   same_passing : (rows other : List PlainRow) → ((x : PlainRow) → Contains rows x → Contains other x) → (x : PlainRow) → Contains (filter p rows) x → Contains (filter p other) x
@@ -133,7 +135,7 @@ rows_in_any_order do_same origin rows other t are one_ttl same =
 rows_of_other : (rows other : List PlainRow) → All IsRow rows → HaveSameRows rows other → All IsRow other
 rows_of_other rows other are same = λ k d lt. All-contains IsRow rows (get_or other k d) are ((same (get_or other k d)).1 (Contains-get_or other k d lt))
 
-pub rules_in_any_order : AreTold → DoSameInAnyOrder → (origin : List (List ℕ)) (rows other : List PlainRow) → All IsRow rows → HaveOneTtl rows → HaveSameRows rows other → rules_of origin rows ≡ rules_of origin other
-rules_in_any_order told do_same origin rows other are one_ttl same =
-    only_rules told origin other (rules_of origin rows) (rows_of_other rows other are same) (rules_named origin rows are) (rules_in_order origin rows)
+pub rules_in_any_order : NameLaws → DoSameInAnyOrder → (origin : List (List ℕ)) (rows other : List PlainRow) → All IsRow rows → HaveOneTtl rows → HaveSameRows rows other → rules_of origin rows ≡ rules_of origin other
+rules_in_any_order laws do_same origin rows other are one_ttl same =
+    only_rules laws origin other (rules_of origin rows) (rows_of_other rows other are same) (rules_named laws origin rows are) (rules_in_order origin rows)
     (λ t is. rule_of_rows origin rows t ∙ rows_in_any_order do_same origin rows other t are one_ttl same)

@@ -1,4 +1,4 @@
--- Rows do the same under triggers that are at one place in the order of precedence.
+-- Rows do the same under patterns that are at one place in the order of precedence.
 use Rattle.std.proofs.Common.{◌≡◌, ℕ, Bool, true, false, List, [], ◌∷◌, Option, Some, None, refl, sym, ap, ◌∙◌, true≢false}
 use Rattle.std.specs.Prelude.{codes, length, if◌then◌else◌}
 use Rattle.std.specs.BTreeMap.{is_at}
@@ -11,12 +11,9 @@ use Rattle.std.specs.declared.cmp.Ordering.TheVariants.{Less, Equal, Greater}
 use Rattle.std.proofs.lemmas.Map.Text.{is_eq-slice_cmp}
 use Rattle.dns_name.specs.Alike.{PlainPattern}
 use Rattle.dns_name.specs.Labels.{name_octets}
-use Rattle.ip_prefix.specs.Prefix.{PlainPrefix}
 use Rattle.qname_index.specs.Best.{pattern_order}
-use Rattle.trigger_codec.specs.declared.trigger.Trigger.{Trigger}
-use Rattle.trigger_codec.specs.declared.trigger.Trigger.TheVariants.{Client, Qname, RespIp, NsName, NsIp}
-use Rattle.zone_rows.specs.Row.{PlainRow}
-use Rattle.action_codec.specs.Action.{action_by, rows_action, cname_action, is_cname, local_alone, is_own_name, is_reserved_name, own_name, points_to}
+use Rattle.dns_record.specs.Row.{PlainRow}
+use Rattle.action_codec.specs.Action.{action_for, rows_action, cname_action, is_cname, local_alone, is_own_name, is_reserved_name, own_name, points_to}
 use Rattle.action_codec.specs.Local.{rule_rows}
 use Rattle.action_codec.specs.declared.action.Action.{Action}
 use Rattle.action_codec.specs.declared.action.Action.TheVariants.{NxDomain, NoData, PassThru, Drop, TcpOnly}
@@ -62,8 +59,8 @@ same_own p q ties = own_octets p.wild p.base q.base ties.octets ∙ ap (λ (wild
 
 -- ---- what rows do
 
-module _ (t u : Trigger) (same : (rdata : List ℕ) → is_own_name t rdata ≡ is_own_name u rdata) where
-  same_cname : (row : PlainRow) → cname_action t row ≡ cname_action u row
+module _ (own other : Option PlainPattern) (same : (rdata : List ℕ) → is_own_name own rdata ≡ is_own_name other rdata) where
+  same_cname : (row : PlainRow) → cname_action own row ≡ cname_action other row
   unfolding cname_action
   same_cname row =
       ap
@@ -78,25 +75,11 @@ module _ (t u : Trigger) (same : (rdata : List ℕ) → is_own_name t rdata ≡ 
       else local_alone row)))))))
       (same row.rdata)
 
-  same_rows : (rows : List PlainRow) → rows_action t rows ≡ rows_action u rows
+  same_rows : (rows : List PlainRow) → rows_action own rows ≡ rows_action other rows
   same_rows [] = refl
   same_rows (row ∷ []) = ap (λ (action : Option Action). if is_cname row then action else local_alone row) (same_cname row)
-  same_rows (row ∷ other ∷ rows) = refl
+  same_rows (row ∷ next ∷ rows) = refl
 
-  same_action : (rows : List PlainRow) → action_by t rows ≡ action_by u rows
-  same_action rows = same_rows (rule_rows rows)
-
-pub same_client : (p q : PlainPrefix) (rows : List PlainRow) → action_by (Client q) rows ≡ action_by (Client p) rows
-same_client p q = same_action (Client q) (Client p) (λ rdata. refl)
-
-pub same_resp_ip : (p q : PlainPrefix) (rows : List PlainRow) → action_by (RespIp q) rows ≡ action_by (RespIp p) rows
-same_resp_ip p q = same_action (RespIp q) (RespIp p) (λ rdata. refl)
-
-pub same_ns_ip : (p q : PlainPrefix) (rows : List PlainRow) → action_by (NsIp q) rows ≡ action_by (NsIp p) rows
-same_ns_ip p q = same_action (NsIp q) (NsIp p) (λ rdata. refl)
-
-pub same_ns_name : (p q : PlainPattern) (rows : List PlainRow) → action_by (NsName q) rows ≡ action_by (NsName p) rows
-same_ns_name p q = same_action (NsName q) (NsName p) (λ rdata. refl)
-
-pub same_qname : (p q : PlainPattern) (rows : List PlainRow) → is_at (pattern_order p) q ≡ true → action_by (Qname q) rows ≡ action_by (Qname p) rows
-same_qname p q rows h = same_action (Qname q) (Qname p) (λ rdata. ap (λ (octets : List ℕ). bytes_eq rdata octets) (sym (same_own p q (tied_patterns p q h)))) rows
+-- patterns at one place write one name, so that a row that points to it does the same
+pub same_action : (p q : PlainPattern) (rows : List PlainRow) → is_at (pattern_order p) q ≡ true → action_for (Some q) rows ≡ action_for (Some p) rows
+same_action p q rows h = same_rows (Some q) (Some p) (λ rdata. ap (λ (octets : List ℕ). bytes_eq rdata octets) (sym (same_own p q (tied_patterns p q h)))) (rule_rows rows)

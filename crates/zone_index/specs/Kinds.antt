@@ -1,22 +1,26 @@
 -- What stands at the triggers of a zone, for each kind of trigger in order of precedence.
-use Rattle.std.specs.Prelude.{List}
+use Rattle.std.specs.Prelude.{Bool, List}
 use Rattle.dns_name.specs.Alike.{PlainPattern}
 use Rattle.ip_prefix.specs.Prefix.{PlainPrefix}
-use Rattle.zone_rows.specs.Row.{PlainRow}
+use Rattle.trigger_codec.specs.declared.trigger.Kind.{Kind}
+use Rattle.trigger_codec.specs.declared.trigger.Kind.TheVariants as kinds
+use Rattle.dns_record.specs.Row.{PlainRow}
 use Rattle.action_codec.specs.declared.action.Action.{Action}
+use Rattle.zone_index.specs.Addresses.{has_some}
+use Rattle.zone_index.specs.declared.by_kind.ByKind.{ByKind}
 
 -- rows
-pub record PlainGroups : Type 0 where
-  pub client : List (PlainPrefix × List PlainRow)
-  pub qname : List (PlainPattern × List PlainRow)
-  pub resp_ip : List (PlainPrefix × List PlainRow)
-  pub ns_name : List (PlainPattern × List PlainRow)
-  pub ns_ip : List (PlainPrefix × List PlainRow)
+abbrev pub PlainGroups : Type 0
+PlainGroups = ByKind (List (PlainPrefix × List PlainRow)) (List (PlainPattern × List PlainRow))
 
 -- actions
-pub record PlainRules : Type 0 where
-  pub client : List (PlainPrefix × Action)
-  pub qname : List (PlainPattern × Action)
-  pub resp_ip : List (PlainPrefix × Action)
-  pub ns_name : List (PlainPattern × Action)
-  pub ns_ip : List (PlainPrefix × Action)
+abbrev pub PlainRules : Type 0
+PlainRules = ByKind (List (PlainPrefix × Action)) (List (PlainPattern × Action))
+
+-- there is a rule of this kind
+abbrev pub has_kind : PlainRules → Kind → Bool
+has_kind rules kinds.ClientIp = has_some rules.client_ip
+has_kind rules kinds.Qname = has_some rules.qname
+has_kind rules kinds.ResponseIp = has_some rules.response_ip
+has_kind rules kinds.NsDname = has_some rules.nsdname
+has_kind rules kinds.NsIp = has_some rules.nsip

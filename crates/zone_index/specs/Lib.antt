@@ -3,4 +3,5 @@ pub mod Addresses
 pub mod Earlier
 pub mod Laws
 pub mod Rules
-pub mod Triggers
+pub mod Listed
+pub mod Indexed

@@ -2,9 +2,9 @@
 
 ghost use Rattle.std.specs.Prelude.{◌≡◌, [], ◌∷◌, ◌++◌, map, OnOk};
 
+use dns_record::Row;
 use std::alloc::{AllocError, Global};
 use std::marker::Model;
-use zone_rows::Row;
 
 // The rows of one trigger, in the order of the zone.
 #[derive(Drop)]
@@ -14,7 +14,7 @@ pub(crate) struct Group<'a> {
 
 impl<'a> Model for Group<'a> {
     ghost use Rattle.std.specs.Prelude.{List, map};
-    ghost use Rattle.zone_rows.specs.Row.{PlainRow};
+    ghost use Rattle.dns_record.specs.Row.{PlainRow};
 
     ghost Value = { List PlainRow };
 

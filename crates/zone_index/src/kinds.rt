@@ -1,21 +1,19 @@
 //! Groups and rules of one kind of trigger.
 
-ghost use Rattle.std.specs.Prelude.{◌≡◌, IfOk, OnOk};
-ghost use Rattle.action_codec.specs.Action.{action_by};
+ghost use Rattle.std.specs.Prelude.{◌≡◌, None, option_copied, IfOk, OnOk};
+ghost use Rattle.action_codec.specs.Action.{action_for as rule_action};
 ghost use Rattle.ip_prefix.specs.Prefix.{prefix_order};
 ghost use Rattle.qname_index.specs.Best.{pattern_order};
-ghost use Rattle.zone_index.specs.Triggers as form;
-ghost use Rattle.zone_index.specs.Rules.{put_rule, rules_by, with_row};
+ghost use Rattle.zone_index.specs.Rules.{own_if, put_rule, rules_by, with_row};
 
 use crate::group::Group;
-use action_codec::{Action, action_of};
+use action_codec::{Action, action_for};
 use dns_name::Pattern;
+use dns_record::Row;
 use ip_prefix::Prefix;
 use prefix_index::PrefixMap;
 use qname_index::NameMap;
 use std::alloc::{AllocError, Global};
-use trigger_codec::Trigger;
-use zone_rows::Row;
 
 /// Puts the row behind those of the prefix.
 pub(crate) fn put_prefix<'a>(
@@ -53,51 +51,16 @@ pub(crate) fn put_pattern<'a>(
     Ok(())
 }
 
-/// The kinds of triggers that are prefixes.
-#[derive(Clone, Copy, Debug, PartialEq, Eq)]
-pub(crate) enum PrefixKind {
-    Client,
-    RespIp,
-    NsIp,
-}
-
-/// The kinds of triggers that are patterns.
-#[derive(Clone, Copy, Debug, PartialEq, Eq)]
-pub(crate) enum NameKind {
-    Qname,
-    NsName,
-}
-
-fn prefix_trigger(kind: PrefixKind, prefix: Prefix) -> Trigger
-    ensures { result ≡ form.prefix_trigger kind prefix }
-{
-    match kind {
-        PrefixKind::Client => Trigger::Client(prefix),
-        PrefixKind::RespIp => Trigger::RespIp(prefix),
-        PrefixKind::NsIp => Trigger::NsIp(prefix),
-    }
-}
-
-fn name_trigger(kind: NameKind, pattern: Pattern) -> Trigger
-    ensures { result ≡ form.name_trigger kind pattern }
-{
-    match kind {
-        NameKind::Qname => Trigger::Qname(pattern),
-        NameKind::NsName => Trigger::NsName(pattern),
-    }
-}
-
-/// The rules of the groups of one kind, for prefixes.
+/// The rules of the groups of one kind whose triggers are prefixes.
 pub(crate) fn prefix_rules(
     alloc: Global,
-    kind: PrefixKind,
     groups: PrefixMap<Group<'_>>,
 ) -> Result<PrefixMap<Action>, AllocError>
-    ensures { IfOk result (λ rules. rules ≡ rules_by prefix_order (form.prefix_trigger kind) groups.entry) }
+    ensures { IfOk result (λ rules. rules ≡ rules_by prefix_order (λ _. None) groups.entry) }
 {
     let mut rules = PrefixMap::new(alloc);
     for (prefix, group) in groups.into_entries(alloc)? {
-        put_prefix_rule(alloc, &mut rules, kind, prefix, &group)?;
+        put_prefix_rule(alloc, &mut rules, prefix, &group)?;
     }
     Ok(rules)
 }
@@ -106,61 +69,54 @@ pub(crate) fn prefix_rules(
 fn put_prefix_rule(
     alloc: Global,
     rules: &mut PrefixMap<Action>,
-    kind: PrefixKind,
     prefix: Prefix,
     group: &Group<'_>,
 ) -> Result<(), AllocError>
-    ensures { OnOk result (rules.new ≡ put_rule prefix_order rules.old prefix (action_by (form.prefix_trigger kind prefix) group.now)) }
+    ensures { OnOk result (rules.new
+        ≡ put_rule prefix_order rules.old prefix (rule_action None group.now)) }
 {
-    let trigger = prefix_trigger(kind, prefix);
-    if let Some(action) = action_of(alloc, &trigger, group.as_slice())? {
+    if let Some(action) = action_for(alloc, None, group.as_slice())? {
         rules.insert(prefix, action)?;
     }
     Ok(())
 }
 
-/// The rules of the groups of one kind, for patterns.
+/// The rules of the groups of one kind whose triggers are patterns. `has_own` is for the kind QNAME, where a CNAME
+/// row that points to the rule's own pattern lets the answer pass (draft-vixie-dnsop-dns-rpz, section 3.3).
 pub(crate) fn name_rules(
     alloc: Global,
-    kind: NameKind,
+    has_own: bool,
     groups: NameMap<Group<'_>>,
 ) -> Result<NameMap<Action>, AllocError>
-    ensures { IfOk result (λ rules. rules ≡ rules_by pattern_order (form.name_trigger kind) groups.entry) }
+    ensures { IfOk result (λ rules. rules ≡ rules_by pattern_order (own_if has_own) groups.entry) }
 {
     let mut rules = NameMap::new(alloc);
     for (pattern, group) in groups.into_entries(alloc)? {
-        put_name_rule(alloc, &mut rules, kind, pattern, &group)?;
+        put_name_rule(alloc, &mut rules, has_own, pattern, &group)?;
     }
     Ok(rules)
 }
 
 // Puts the rule of the group, if it does something.
-#[tactic(auto, using(crate::proofs::Patterns::pattern_back))]
 fn put_name_rule(
     alloc: Global,
     rules: &mut NameMap<Action>,
-    kind: NameKind,
+    has_own: bool,
     pattern: Pattern,
     group: &Group<'_>,
 ) -> Result<(), AllocError>
-    ensures { OnOk result (rules.new ≡ put_rule pattern_order rules.old pattern (action_by (form.name_trigger kind pattern) group.now)) }
+    ensures { OnOk result (rules.new
+        ≡ put_rule pattern_order rules.old pattern (rule_action (own_if has_own pattern) group.now)) }
 {
-    let trigger = name_trigger(kind, pattern);
-    let Some(action) = action_of(alloc, &trigger, group.as_slice())? else {
-        return Ok(());
-    };
-    if let Some(pattern) = pattern_in(trigger) {
+    if let Some(action) = action_for(alloc, own_pattern(has_own, &pattern), group.as_slice())? {
         rules.insert(pattern, action)?;
     }
     Ok(())
 }
 
-// The pattern of the trigger, if it has one.
-fn pattern_in(trigger: Trigger) -> Option<Pattern>
-    ensures { result ≡ form.pattern_in trigger }
+// The pattern, if it is the rule's own.
+fn own_pattern(has_own: bool, pattern: &Pattern) -> Option<&Pattern>
+    ensures { option_copied result ≡ own_if has_own pattern.now }
 {
-    match trigger {
-        Trigger::Qname(pattern) | Trigger::NsName(pattern) => Some(pattern),
-        Trigger::Client(_) | Trigger::RespIp(_) | Trigger::NsIp(_) => None,
-    }
+    if has_own { Some(pattern) } else { None }
 }

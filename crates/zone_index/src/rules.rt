@@ -1,34 +1,35 @@
 //! The rules of a zone.
 
-ghost use Rattle.std.specs.Prelude.{◌≡◌, IfOk};
-ghost use Rattle.std.specs.Option.{option_map};
+ghost use Rattle.std.specs.Prelude.{◌≡◌, All, IfOk};
+ghost use Rattle.std.specs.Option.{option_copied, option_map};
+ghost use Rattle.dns_name.specs.Labels.{lowered};
+ghost use Rattle.dns_record.specs.Row.{IsRow};
 ghost use Rattle.prefix_index.specs.Longest.{longest};
 ghost use Rattle.qname_index.specs.Best.{best};
-ghost use Rattle.zone_index.specs.Addresses.{first_about as first_of, has_some};
+ghost use Rattle.zone_index.specs.Addresses.{first_about as first_of};
+ghost use Rattle.zone_index.specs.Kinds.{has_kind};
+ghost use Rattle.zone_index.specs.Laws.{rule_at};
 ghost use Rattle.zone_index.specs.Rules.{rules_in, rules_of};
 
 use crate::addresses::first_about;
+use crate::by_kind::ByKind;
 use crate::groups::Groups;
-use crate::kinds::{NameKind, PrefixKind, name_rules, prefix_rules};
+use crate::kinds::{name_rules, prefix_rules};
 use action_codec::Action;
 use dns_name::{Name, Pattern};
-use dns_record::Record;
+use dns_record::{Record, Row};
 use ip_prefix::{Addr, Prefix};
 use prefix_index::PrefixMap;
 use qname_index::NameMap;
 use std::alloc::{AllocError, Global};
 use std::marker::Model;
-use zone_rows::Row;
+use trigger_codec::{Kind, Trigger};
 
 /// The rules of a zone (draft-vixie-dnsop-dns-rpz, sections 3 to 5): what is done at each trigger. Contracts see
 /// the rules of each kind of trigger, in order of precedence.
 #[derive(Drop)]
 pub struct Rules {
-    client: PrefixMap<Action>,
-    qname: NameMap<Action>,
-    resp_ip: PrefixMap<Action>,
-    ns_name: NameMap<Action>,
-    ns_ip: PrefixMap<Action>,
+    by_kind: ByKind<PrefixMap<Action>, NameMap<Action>>,
 }
 
 impl Model for Rules {
@@ -36,14 +37,15 @@ impl Model for Rules {
 
     ghost Value = { PlainRules };
 
-    ghost view = { λ r. record { client = r.client; qname = r.qname; resp_ip = r.resp_ip; ns_name = r.ns_name; ns_ip = r.ns_ip } };
+    ghost view = { λ r. r.by_kind };
 }
 
 impl Rules {
     /// The rules of a zone of this origin and these rows. Rows that are not live make none, and rules that do
     /// nothing are left out. Its time is n log n in the rows.
     pub fn of(alloc: Global, origin: &Name, rows: &[Row]) -> Result<Self, AllocError>
-        ensures { IfOk result (λ rules. rules ≡ rules_of origin.now rows.now) }
+        ensures rules { IfOk result (λ rules. rules ≡ rules_of origin.now rows.now) }
+        ensures rows { IfOk result (λ _. All IsRow rows.now) }
     {
         let groups = Groups::of(alloc, origin, rows)?;
         Rules::in_groups(alloc, groups)
@@ -53,63 +55,81 @@ impl Rules {
     fn in_groups(alloc: Global, groups: Groups<'_>) -> Result<Self, AllocError>
         ensures { IfOk result (λ rules. rules ≡ rules_in groups.entry) }
     {
-        Ok(Rules {
-            client: prefix_rules(alloc, PrefixKind::Client, groups.client)?,
-            qname: name_rules(alloc, NameKind::Qname, groups.qname)?,
-            resp_ip: prefix_rules(alloc, PrefixKind::RespIp, groups.resp_ip)?,
-            ns_name: name_rules(alloc, NameKind::NsName, groups.ns_name)?,
-            ns_ip: prefix_rules(alloc, PrefixKind::NsIp, groups.ns_ip)?,
-        })
+        let by_kind = ByKind {
+            client_ip: prefix_rules(alloc, groups.client_ip)?,
+            qname: name_rules(alloc, true, groups.qname)?,
+            response_ip: prefix_rules(alloc, groups.response_ip)?,
+            nsdname: name_rules(alloc, false, groups.nsdname)?,
+            nsip: prefix_rules(alloc, groups.nsip)?,
+        };
+        Ok(Rules { by_kind })
+    }
+
+    /// What the rule of exactly this trigger does, if there is one. It takes no memory, and its time is
+    /// logarithmic in the number of rules.
+    pub fn get(&self, trigger: &Trigger) -> Option<&Action>
+        ensures { option_copied result ≡ rule_at self.now trigger.now }
+    {
+        match trigger {
+            Trigger::ClientIp(prefix) => self.by_kind.client_ip.get(*prefix),
+            Trigger::Qname(pattern) => self.by_kind.qname.get(pattern),
+            Trigger::ResponseIp(prefix) => self.by_kind.response_ip.get(*prefix),
+            Trigger::NsDname(pattern) => self.by_kind.nsdname.get(pattern),
+            Trigger::NsIp(prefix) => self.by_kind.nsip.get(*prefix),
+        }
+    }
+
+    /// Whether there is a rule of this kind.
+    pub fn has(&self, kind: Kind) -> bool
+        ensures { result ≡ has_kind self.now kind }
+    {
+        let count = match kind {
+            Kind::ClientIp => self.by_kind.client_ip.len(),
+            Kind::Qname => self.by_kind.qname.len(),
+            Kind::ResponseIp => self.by_kind.response_ip.len(),
+            Kind::NsDname => self.by_kind.nsdname.len(),
+            Kind::NsIp => self.by_kind.nsip.len(),
+        };
+        count > 0
     }
 
     /// The rule that comes first of those about a client of this address.
-    pub fn client(&self, addr: Addr) -> Option<(Prefix, &Action)>
-        ensures { option_map (λ e. (e.0, e.1.now)) result ≡ longest addr self.now.client }
+    pub fn client_ip(&self, addr: Addr) -> Option<(Prefix, &Action)>
+        ensures { option_map (λ e. (e.0, e.1.now)) result ≡ longest addr self.now.client_ip }
     {
-        self.client.longest(addr)
+        self.by_kind.client_ip.longest(addr)
     }
 
-    /// The rule that comes first of those about a query for the name. It takes the memory of one name.
-    pub fn qname(
-        &self,
-        alloc: Global,
-        name: &Name,
-    ) -> Result<Option<(&Pattern, &Action)>, AllocError>
-        ensures { IfOk result (λ found. option_map (λ e. (e.0.now, e.1.now)) found ≡ best name.now self.now.qname) }
+    /// The rule that comes first of those about a query for the name, which is in lower case. It takes no memory.
+    pub fn qname(&self, name: &Name) -> Option<(&Pattern, &Action)>
+        requires { lowered name.now ≡ name.now }
+        ensures { option_map (λ e. (e.0.now, e.1.now)) result ≡ best name.now self.now.qname }
     {
-        self.qname.best(alloc, name)
-    }
-
-    /// Whether there are rules about the addresses of answers.
-    pub fn has_resp_ip(&self) -> bool
-        ensures { result ≡ has_some self.now.resp_ip }
-    {
-        self.resp_ip.len() > 0
+        self.by_kind.qname.best(name)
     }
 
     /// The rule that comes first of those about an answer: its prefix contains some address that the records hold
     /// for the name. Its time is linear in the number of records.
-    pub fn resp_ip(&self, owner: &Name, records: &[Record]) -> Option<(Prefix, &Action)>
-        ensures { option_map (λ e. (e.0, e.1.now)) result ≡ first_of owner.now records.now self.now.resp_ip }
+    pub fn response_ip(&self, owner: &Name, records: &[Record]) -> Option<(Prefix, &Action)>
+        ensures { option_map (λ e. (e.0, e.1.now)) result
+            ≡ first_of owner.now records.now self.now.response_ip }
     {
-        first_about(&self.resp_ip, owner, records)
+        first_about(&self.by_kind.response_ip, owner, records)
     }
 
-    /// The rule that comes first of those about a name server of this name. It takes the memory of one name.
-    pub fn ns_name(
-        &self,
-        alloc: Global,
-        name: &Name,
-    ) -> Result<Option<(&Pattern, &Action)>, AllocError>
-        ensures { IfOk result (λ found. option_map (λ e. (e.0.now, e.1.now)) found ≡ best name.now self.now.ns_name) }
+    /// The rule that comes first of those about a name server of this name, which is in lower case. It takes no
+    /// memory.
+    pub fn nsdname(&self, name: &Name) -> Option<(&Pattern, &Action)>
+        requires { lowered name.now ≡ name.now }
+        ensures { option_map (λ e. (e.0.now, e.1.now)) result ≡ best name.now self.now.nsdname }
     {
-        self.ns_name.best(alloc, name)
+        self.by_kind.nsdname.best(name)
     }
 
     /// The rule that comes first of those about a name server of this address.
-    pub fn ns_ip(&self, addr: Addr) -> Option<(Prefix, &Action)>
-        ensures { option_map (λ e. (e.0, e.1.now)) result ≡ longest addr self.now.ns_ip }
+    pub fn nsip(&self, addr: Addr) -> Option<(Prefix, &Action)>
+        ensures { option_map (λ e. (e.0, e.1.now)) result ≡ longest addr self.now.nsip }
     {
-        self.ns_ip.longest(addr)
+        self.by_kind.nsip.longest(addr)
     }
 }

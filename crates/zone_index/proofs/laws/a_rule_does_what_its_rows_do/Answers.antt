@@ -9,7 +9,7 @@ pub returns-clause-ordered : goal.returns-clause-ordered
 returns-clause-ordered c = rules_in_order
 
 pub returns-clause-named : goal.returns-clause-named
-returns-clause-named c = rules_named
+returns-clause-named c = rules_named (record { by_octets = c.names_of_equal_octets_are_equal.ensures; lower_once = c.case_does_not_matter.ensures.lower })
 
 pub returns-clause-only : goal.returns-clause-only
-returns-clause-only c = only_rules c.a_name_is_told_by_its_octets.ensures
+returns-clause-only c = only_rules (record { by_octets = c.names_of_equal_octets_are_equal.ensures; lower_once = c.case_does_not_matter.ensures.lower })

@@ -1,0 +1,4 @@
+pub mod Orders
+pub mod Ties
+pub mod Hits
+pub mod Places

@@ -1,0 +1,20 @@
+//! A rule that is hit.
+
+use crate::rank::TriggerRef;
+use action_codec::Action;
+use dns_record::Record;
+
+/// A rule that is hit: its rank, what it does, and the SOA record of its zone.
+#[derive(Clone, Copy)]
+pub struct Hit<'a> {
+    /// The position in the chain of aliases at which it is hit: 0 is the name of the query.
+    pub position: u32,
+    /// The number of its policy zone, from 1 on.
+    pub zone: u32,
+    /// Its trigger.
+    pub trigger: TriggerRef<'a>,
+    /// What it does.
+    pub action: &'a Action,
+    /// The SOA record of its zone, whose owner is the zone's origin.
+    pub soa: &'a Record,
+}

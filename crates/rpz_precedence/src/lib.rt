@@ -1,0 +1,12 @@
+//! Which rule decides where several are hit (draft-vixie-dnsop-dns-rpz, section 5): the order of ranks, and the hit that
+//! no other hit precedes.
+#![tactic(auto)]
+
+pub mod hit;
+pub mod laws;
+mod order;
+pub mod rank;
+
+pub use hit::Hit;
+pub use order::{before, kind_place};
+pub use rank::{Rank, TriggerRef};

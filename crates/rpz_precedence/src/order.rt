@@ -1,0 +1,94 @@
+//! The order of ranks. It takes no memory.
+
+ghost use Rattle.std.specs.Prelude.{◌≡◌};
+ghost use Rattle.qname_index.specs.Best.{pattern_order};
+ghost use Rattle.rpz_precedence.specs.Rank.{kind_number, place_order, precedes, rank_order, server_order, trigger_order};
+ghost use Rattle.rpz_precedence.specs.Seen.{rank_seen, trigger_seen};
+
+use crate::rank::{Rank, TriggerRef};
+use dns_name::Pattern;
+use std::cmp::Ordering;
+
+/// Whether the rule of the first rank goes before that of the second (draft-vixie-dnsop-dns-rpz, section 5): the smaller
+/// position, then the earlier zone, then the kind of trigger, in the order of the variants of [`TriggerRef`]. Of one kind it
+/// is the longer prefix, then the smaller address; the exact pattern, then the longer one; and of patterns of names of
+/// servers the longer one, then the exact one, then the canonical order of their bases.
+///
+/// It takes no memory, and its time is linear in the bytes of the patterns.
+pub fn before(a: &Rank, b: &Rank) -> bool
+    ensures { result ≡ precedes (rank_seen a.now) (rank_seen b.now) }
+{
+    compare_ranks(a, b).is_lt()
+}
+
+fn compare_ranks(a: &Rank, b: &Rank) -> Ordering
+    ensures { result ≡ rank_order (rank_seen a.now) (rank_seen b.now) }
+{
+    match a.position.cmp(&b.position) {
+        Ordering::Equal => match a.zone.cmp(&b.zone) {
+            Ordering::Equal => compare_triggers(&a.trigger, &b.trigger),
+            order => order,
+        },
+        order => order,
+    }
+}
+
+fn compare_triggers(a: &TriggerRef, b: &TriggerRef) -> Ordering
+    ensures { result ≡ trigger_order (trigger_seen a.now) (trigger_seen b.now) }
+{
+    match kind_place(a).cmp(&kind_place(b)) {
+        Ordering::Equal => compare_places(a, b),
+        order => order,
+    }
+}
+
+/// The place of the trigger's kind in the order of kinds: client-ip is 0, qname 1, response-ip 2, nsdname 3 and nsip 4.
+pub fn kind_place(trigger: &TriggerRef) -> u8
+    ensures { result ≡ kind_number (trigger_seen trigger.now) }
+{
+    match trigger {
+        TriggerRef::ClientIp(_) => 0,
+        TriggerRef::Qname(_) => 1,
+        TriggerRef::ResponseIp(_) => 2,
+        TriggerRef::NsDname(_) => 3,
+        TriggerRef::NsIp(_) => 4,
+    }
+}
+
+// The order of triggers of one kind.
+fn compare_places(a: &TriggerRef, b: &TriggerRef) -> Ordering
+    ensures { result ≡ place_order (trigger_seen a.now) (trigger_seen b.now) }
+{
+    match (a, b) {
+        (TriggerRef::ClientIp(p), TriggerRef::ClientIp(q)) => p.rank_cmp(q),
+        (TriggerRef::Qname(p), TriggerRef::Qname(q)) => compare_patterns(p, q),
+        (TriggerRef::ResponseIp(p), TriggerRef::ResponseIp(q)) => p.rank_cmp(q),
+        (TriggerRef::NsDname(p), TriggerRef::NsDname(q)) => compare_servers(p, q),
+        (TriggerRef::NsIp(p), TriggerRef::NsIp(q)) => p.rank_cmp(q),
+        _ => Ordering::Equal,
+    }
+}
+
+fn compare_patterns(a: &Pattern, b: &Pattern) -> Ordering
+    ensures { result ≡ pattern_order a.now b.now }
+{
+    match a.is_wild().cmp(&b.is_wild()) {
+        Ordering::Equal => match b.base().label_count().cmp(&a.base().label_count()) {
+            Ordering::Equal => a.base().octets().cmp(b.base().octets()),
+            order => order,
+        },
+        order => order,
+    }
+}
+
+fn compare_servers(a: &Pattern, b: &Pattern) -> Ordering
+    ensures { result ≡ server_order a.now b.now }
+{
+    match b.base().label_count().cmp(&a.base().label_count()) {
+        Ordering::Equal => match a.is_wild().cmp(&b.is_wild()) {
+            Ordering::Equal => a.base().canonical_cmp(b.base()),
+            order => order,
+        },
+        order => order,
+    }
+}

@@ -1,0 +1,148 @@
+//! A policy zone with its rules.
+
+ghost use Rattle.std.specs.Prelude.{◌≡◌, option_copied, IfOk};
+ghost use Rattle.zone_rows.specs.Content.{content_count, content_serial, unloaded};
+ghost use Rattle.zone_rows.specs.Zone.{Gives, apply_outcome};
+ghost use Rattle.zone_index.specs.Indexed.{HasRows, content_rule, index_of};
+
+use crate::rules::Rules;
+use action_codec::Action;
+use dns_name::Name;
+use dns_record::Record;
+use std::alloc::{AllocError, Global};
+use std::marker::Model;
+use trigger_codec::Trigger;
+use zone_rows::{ApplyError, Content, PlainZone, Transfer};
+
+/// A policy zone: its origin, and what it holds once a transfer was taken. Contracts see these, and not the index.
+#[derive(Drop)]
+pub struct Zone {
+    zone: PlainZone,
+    // `None` where nothing is loaded.
+    index: Option<Index>,
+}
+
+/// The index of a loaded zone: its rules, and the SOA record that replies by them carry.
+#[derive(Drop)]
+pub struct Index {
+    soa_record: Record,
+    rules: Rules,
+}
+
+impl Index {
+    /// The SOA record of the zone, its origin as owner.
+    pub fn soa_record(&self) -> &Record
+        ensures { result.now ≡ self.now.soa_record }
+    {
+        &self.soa_record
+    }
+
+    /// The rules of the zone.
+    pub fn rules(&self) -> &Rules
+        ensures { result.now ≡ self.now.rules }
+    {
+        &self.rules
+    }
+}
+
+impl Model for Zone {
+    ghost use Rattle.zone_rows.specs.declared.zone.PlainZone.{PlainZone};
+    ghost use Rattle.zone_index.specs.Indexed.{IsIndexed};
+
+    ghost Value = { PlainZone };
+
+    ghost view = { λ z. z.zone };
+
+    ghost invariant = { IsIndexed };
+}
+
+impl Zone {
+    /// A zone with nothing loaded.
+    pub fn new(origin: Name) -> Self
+        ensures { result ≡ unloaded origin }
+    {
+        Zone {
+            zone: PlainZone {
+                origin,
+                content: None,
+            },
+            index: None,
+        }
+    }
+
+    /// The name of the zone, as it was given.
+    pub fn origin(&self) -> &Name
+        ensures { result.now ≡ self.now.origin }
+    {
+        &self.zone.origin
+    }
+
+    /// The serial of what is loaded; `None` where nothing is.
+    pub fn serial(&self) -> Option<u32>
+        ensures { result ≡ content_serial self.now.content }
+    {
+        match &self.zone.content {
+            None => None,
+            Some(content) => Some(content.soa.serial),
+        }
+    }
+
+    /// How many rows are loaded; `None` where nothing is.
+    pub fn row_count(&self) -> Option<usize>
+        ensures { result ≡ content_count self.now.content }
+    {
+        match &self.zone.content {
+            None => None,
+            Some(content) => Some(content.rows.len()),
+        }
+    }
+
+    /// The zone after a transfer, with an index of its own, or why it can't take it. This zone stays as it is.
+    pub fn apply(&self, alloc: Global, transfer: Transfer) -> Result<Zone, ApplyError>
+        ensures { Gives result (apply_outcome self.now transfer) }
+    {
+        let zone = self.zone.apply(alloc, transfer)?;
+        let index = index_for(alloc, &zone.origin, zone.content.as_ref())?;
+        Ok(Zone { zone, index })
+    }
+
+    /// The index of what is loaded; `None` where nothing is. Its clauses also say that the rows are rows, which
+    /// the laws of rules want.
+    pub fn index(&self) -> Option<&Index>
+        ensures index { option_copied result ≡ index_of self.now.origin self.now.content }
+        ensures rows { HasRows self.now.content }
+    {
+        self.index.as_ref()
+    }
+
+    /// What the rule of exactly this trigger does: what the live rows of the trigger do. `None` where there are
+    /// none, or they do nothing. It takes no memory, and its time is logarithmic in the number of rules.
+    #[tactic(auto, using(crate::proofs::Zones::rule_of_index))]
+    pub fn rule(&self, trigger: &Trigger) -> Option<&Action>
+        ensures { option_copied result ≡ content_rule self.now.origin self.now.content trigger.now }
+    {
+        match &self.index {
+            None => None,
+            Some(index) => index.rules.get(trigger),
+        }
+    }
+}
+
+// The index of what a zone holds.
+fn index_for(
+    alloc: Global,
+    origin: &Name,
+    content: Option<&Content>,
+) -> Result<Option<Index>, AllocError>
+    ensures index { IfOk result (λ index. index ≡ index_of origin.now (option_copied content.entry)) }
+    ensures rows { IfOk result (λ _. HasRows (option_copied content.entry)) }
+{
+    match content {
+        None => Ok(None),
+        Some(content) => {
+            let soa_record = content.soa.record(alloc, origin.clone()?)?;
+            let rules = Rules::of(alloc, origin, content.rows.as_slice())?;
+            Ok(Some(Index { soa_record, rules }))
+        }
+    }
+}
