@@ -1,0 +1,9 @@
+pub mod Members
+pub mod BestHits
+pub mod OneKind
+pub mod OneZone
+pub mod AllZones
+pub mod Needs
+pub mod Standing
+pub mod Decision
+pub mod ZoneLoops

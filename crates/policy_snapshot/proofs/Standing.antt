@@ -1,0 +1,132 @@
+-- A snapshot after one more transfer stands for a list with one entry more.
+use Rattle.std.proofs.Common.{◌≡◌, ℕ, zero, suc, ◌+◌, ◌-◌, ◌==◌, Bool, true, false, Option, Some, None, Result, Ok, Err, List, [], ◌∷◌, ◌++◌, length, map, refl, sym, ap, subst, ◌∙◌, arith, length-append, get_or, true≢false}
+use Rattle.std.specs.Prelude.{IsSome, fold, slice_set, slice_get, if◌then◌else◌}
+use Rattle.std.proofs.lemmas.Bool.Decides.{nat_tests}
+use Rattle.std.proofs.lemmas.List.{length-map, length-set}
+use Rattle.std.proofs.lemmas.List.Sums.{fold_push}
+use Rattle.dns_record.specs.declared.soa.Soa.{Soa}
+use Rattle.dns_record.specs.Row.{PlainRow}
+use Rattle.dns_name.specs.Reading.{◌>>=◌}
+use Rattle.zone_rows.specs.declared.fault.ApplyFault.{ApplyFault}
+use Rattle.zone_rows.specs.declared.transfer.Transfer.{Transfer}
+use Rattle.zone_rows.specs.declared.transfer.Transfer.TheVariants.{Whole}
+use Rattle.zone_rows.specs.declared.zone.PlainZone.{PlainZone}
+use Rattle.zone_rows.specs.declared.zone.TheConstants.{ROW_LIMIT}
+use Rattle.zone_rows.specs.Content.{unloaded}
+use Rattle.zone_rows.specs.Repeats.{without_repeats}
+use Rattle.zone_rows.specs.Zone.{newer_soa, fewer_rows, apply_outcome, apply_outcome_within}
+use Rattle.zone_index.specs.Indexed.{HasRows}
+use Rattle.policy_snapshot.specs.Policy.{PlainPolicy, Entry, zone_at, zone_by, zone_after, with_zone_after, policy_with, policy_after}
+use Rattle.policy_snapshot.specs.Stands.{HaveRows, PlainSnapshot, Stands, next_count, count_of, origins_of}
+
+pub policy_after-push : (origins : List (List (List ℕ))) (entries : List Entry) (entry : Entry) → policy_after origins (entries ++ entry ∷ []) ≡ policy_with (policy_after origins entries) entry
+unfolding policy_after
+policy_after-push origins entries entry = fold_push policy_with (map unloaded origins) entries entry
+
+pub policy_after-none : (origins : List (List (List ℕ))) → policy_after origins [] ≡ map unloaded origins
+unfolding policy_after
+policy_after-none origins = refl
+
+origin_if : (zone next : PlainZone) (soa : Result Soa ApplyFault) (rows : Result (List PlainRow) ApplyFault) → (soa >>= λ newer. rows >>= λ kept. Ok (record { origin = zone.origin; content = Some (record { soa = newer; rows = kept }) })) ≡ Ok next → next.origin ≡ zone.origin
+origin_if zone next (Ok soa) (Ok rows) e = let same : record { origin = zone.origin; content = Some (record { soa = soa; rows = rows }) } ≡ next = cc in sym (ap (λ (z : PlainZone). z.origin) same)
+origin_if zone next (Ok soa) (Err fault) e = absurd cc
+origin_if zone next (Err fault) rows e = absurd cc
+
+-- a transfer leaves the zone's origin
+pub origin_stays : (zone next : PlainZone) (transfer : Transfer) → apply_outcome zone transfer ≡ Ok next → next.origin ≡ zone.origin
+unfolding apply_outcome_within
+origin_stays zone next (Whole soa rows) e = origin_if zone next (newer_soa zone.content soa) (fewer_rows ROW_LIMIT (without_repeats rows)) e
+
+origins_set : (zones : List PlainZone) (place : ℕ) (zone next : PlainZone) → slice_get zones place ≡ Some zone → next.origin ≡ zone.origin → origins_of (slice_set zones place next) ≡ origins_of zones
+origins_set [] place zone next found same = absurd cc
+origins_set (first ∷ zones) zero zone next found same = let is : first ≡ zone = cc in ap (λ (o : List (List ℕ)). o ∷ origins_of zones) (same ∙ sym (ap (λ (z : PlainZone). z.origin) is))
+origins_set (first ∷ zones) (suc place) zone next found same = ap (λ (l : List (List (List ℕ))). first.origin ∷ l) (origins_set zones place zone next found same)
+
+place_if : (b : Bool) (found : Option PlainZone) (zone : PlainZone) → (if b then None else found) ≡ Some zone → found ≡ Some zone
+place_if true found zone e = absurd cc
+place_if false found zone e = e
+
+-- the zone of a number stands at the place before
+pub place_of : (zones : List PlainZone) (number : ℕ) (zone : PlainZone) → zone_at zones number ≡ Some zone → slice_get zones (number - 1) ≡ Some zone
+place_of zones number zone e = place_if (number == 0) (slice_get zones (number - 1)) zone e
+
+count_next : (n : ℕ) → next_count (count_of n) ≡ count_of (n + 1)
+count_next n = grind (arith, nat_tests)
+
+with_next : (zones : List PlainZone) (number : ℕ) (transfer : Transfer) (zone next : PlainZone) → zone_at zones number ≡ Some zone → apply_outcome zone transfer ≡ Ok next
+    → policy_with zones (record { zone = number; transfer = transfer }) ≡ slice_set zones (number - 1) next
+with_next zones number transfer zone next at e =
+    ap (with_zone_after zones (record { zone = number; transfer = transfer })) at ∙ ap (λ (o : Result PlainZone ApplyFault). slice_set zones (number - 1) (zone_by zone o)) e
+
+-- the snapshot with the next zone stands for the list with the entry
+pub stands_next : (old : PlainSnapshot) (entries : List Entry) (number : ℕ) (transfer : Transfer) (zone next : PlainZone) → Stands old entries → zone_at old.zones number ≡ Some zone → apply_outcome zone transfer ≡ Ok next
+    → Stands (record { zones = slice_set old.zones (number - 1) next; accepted = next_count old.accepted }) (entries ++ record { zone = number; transfer = transfer } ∷ [])
+stands_next old entries number transfer zone next stands at e =
+    let entry : Entry = record { zone = number; transfer = transfer } in
+    let origins = origins_set old.zones (number - 1) zone next (place_of old.zones number zone at) (origin_stays zone next transfer e) in
+    record {
+      zones =
+          sym (with_next old.zones number transfer zone next at e)
+          ∙ ap (λ (p : PlainPolicy). policy_with p entry) stands.zones
+          ∙ sym (policy_after-push (origins_of old.zones) entries entry)
+          ∙ ap (λ (o : List (List (List ℕ))). policy_after o (entries ++ entry ∷ [])) (sym origins);
+      accepted = ap next_count stands.accepted ∙ count_next (length entries) ∙ ap count_of (sym (length-append entries (entry ∷ [])));
+    }
+
+-- one more transfer, as an entry of the list
+pub policy_next : (origins : List (List (List ℕ))) (entries : List Entry) (number : ℕ) (transfer : Transfer) (zone next : PlainZone) → zone_at (policy_after origins entries) number ≡ Some zone → apply_outcome zone transfer ≡ Ok next
+    → policy_after origins (entries ++ record { zone = number; transfer = transfer } ∷ []) ≡ slice_set (policy_after origins entries) (number - 1) next
+policy_next origins entries number transfer zone next at e =
+    policy_after-push origins entries (record { zone = number; transfer = transfer }) ∙ with_next (policy_after origins entries) number transfer zone next at e
+
+pub count_after : (n : ℕ) → next_count (count_of n) ≡ count_of (n + 1)
+count_after n = count_next n
+
+length_with : (zones : List PlainZone) (entry : Entry) (found : Option PlainZone) → length (with_zone_after zones entry found) ≡ length zones
+length_with zones entry None = refl
+length_with zones entry (Some zone) = length-set zones (entry.zone - 1) (zone_after zone entry.transfer)
+
+length_fold : (zones : List PlainZone) (entries : List Entry) → length (fold policy_with zones entries) ≡ length zones
+length_fold zones [] = refl
+length_fold zones (entry ∷ entries) = length_fold (policy_with zones entry) entries ∙ length_with zones entry (zone_at zones entry.zone)
+
+pub policy_length : (origins : List (List (List ℕ))) (entries : List Entry) → length (policy_after origins entries) ≡ length origins
+unfolding policy_after
+policy_length origins entries = length_fold (map unloaded origins) entries ∙ length-map origins unloaded
+
+-- ---- rows that are rows
+
+pub rows_set : (zones : List PlainZone) (place : ℕ) (next : PlainZone) → HaveRows zones → HasRows next.content → HaveRows (slice_set zones place next)
+rows_set [] place next h is = h
+rows_set (zone ∷ zones) zero next h is = (is, h.1)
+rows_set (zone ∷ zones) (suc place) next h is = (h.0, rows_set zones place next h.1 is)
+
+pub rows_none : (origins : List (List (List ℕ))) → HaveRows (map unloaded origins)
+rows_none [] = tt
+rows_none (origin ∷ origins) = (tt, rows_none origins)
+
+-- ---- a snapshot by what code holds
+
+at_if : (b : Bool) (found : Option PlainZone) (zone : PlainZone) → IsSome (if b then None else found) → (IsSome found → found ≡ Some zone) → (if b then None else found) ≡ Some zone
+at_if true found zone is same = absurd (true≢false (sym is))
+at_if false found zone is same = same is
+
+module _ {Y : Type 0} (g : Y → PlainZone) where
+  get_if : (ys : List Y) (k : ℕ) (y : Y) → y ≡ get_or ys k y → IsSome (slice_get (map g ys) k) → slice_get (map g ys) k ≡ Some (g y)
+  get_if [] k y is some = absurd (true≢false (sym some))
+  get_if (x ∷ ys) zero y is some = ap (λ (z : Y). Some (g z)) (sym is)
+  get_if (x ∷ ys) (suc k) y is some = get_if ys k y is some
+
+  pub stands_after : (old : PlainSnapshot) (items made : List Y) (accepted count number : ℕ) (transfer : Transfer) (item : Y) (seen next : PlainZone) (entries : List Entry) → record { zones = map g items; accepted = accepted } ≡ old → IsSome (zone_at old.zones number)
+      → item ≡ get_or items (number - 1) item → seen ≡ g item → apply_outcome seen transfer ≡ Ok next → map g made ≡ slice_set (map g items) (number - 1) next → next_count accepted ≡ count → Stands old entries
+      → Stands (record { zones = map g made; accepted = count }) (entries ++ record { zone = number; transfer = transfer } ∷ [])
+  stands_after old items made accepted count number transfer item seen next entries view some is seen_is e set counted stands =
+      let zones : map g items ≡ old.zones = ap (λ (s : PlainSnapshot). s.zones) view in
+      let found = at_if (number == 0) (slice_get (map g items) (number - 1)) (g item) (subst (λ (z : List PlainZone). IsSome (zone_at z number)) (sym zones) some) (get_if items (number - 1) item is) in
+      let at : zone_at old.zones number ≡ Some seen = ap (λ (z : List PlainZone). zone_at z number) (sym zones) ∙ found ∙ ap Some (sym seen_is) in
+      let new_zones : slice_set old.zones (number - 1) next ≡ map g made = ap (λ (z : List PlainZone). slice_set z (number - 1) next) (sym zones) ∙ sym set in
+      let new_count : next_count old.accepted ≡ count = ap next_count (sym (ap (λ (s : PlainSnapshot). s.accepted) view)) ∙ counted in
+      let old_one : PlainSnapshot = record { zones = slice_set old.zones (number - 1) next; accepted = next_count old.accepted } in
+      let new_one : PlainSnapshot = record { zones = map g made; accepted = count } in
+      let same : old_one ≡ new_one = λ i. record { zones = new_zones i; accepted = new_count i } in
+      subst (λ (s : PlainSnapshot). Stands s (entries ++ record { zone = number; transfer = transfer } ∷ [])) same (stands_next old entries number transfer seen next stands at e)

@@ -1,0 +1,9 @@
+//! A policy of ordered zones as it stands after a list of accepted transfers, and which of its rules decides a query.
+#![tactic(auto)]
+
+mod deciding;
+pub mod laws;
+mod lookup;
+mod snapshot;
+
+pub use snapshot::Snapshot;

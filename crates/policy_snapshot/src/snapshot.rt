@@ -1,0 +1,150 @@
+//! A policy at one time.
+
+ghost use Rattle.std.specs.Prelude.{◌≡◌, ◌≤◌, ◌<◌, ◌∷◌, [], ◌++◌, List, length, map, slice_set, option_copied, IfOk, IfSome, IsSome};
+ghost use Rattle.std.specs.Arc.{arc_value};
+ghost use Rattle.zone_rows.specs.declared.zone.TheConstants.{ZONE_LIMIT};
+ghost use Rattle.zone_rows.specs.Content.{unloaded};
+ghost use Rattle.zone_rows.specs.Zone.{Gives, apply_outcome};
+ghost use Rattle.policy_snapshot.specs.Policy.{Entry, zone_at};
+ghost use Rattle.policy_snapshot.specs.Stands.{HaveRows, Stands, new_snapshot, with_zone};
+
+use dns_name::Name;
+use std::alloc::{AllocError, Global};
+use std::marker::Model;
+use std::sync::Arc;
+use zone_index::Zone;
+use zone_rows::{ApplyError, Transfer};
+
+/// The ordered zones of a policy as they are after a list of accepted transfers, each whole. Nothing changes it: a transfer
+/// makes a new snapshot, which shares the zones that the transfer doesn't change. Contracts see the zones as plain ones, and how
+/// many transfers were accepted, up to 2^64 - 1.
+#[derive(Drop)]
+pub struct Snapshot {
+    // The first of them is zone 1.
+    zones: Vec<Arc<Zone, Global>>,
+    accepted: u64,
+}
+
+impl Model for Snapshot {
+    ghost use Rattle.std.specs.Prelude.{◌≤◌, length, map};
+    ghost use Rattle.std.specs.Arc.{arc_value};
+    ghost use Rattle.zone_rows.specs.declared.zone.TheConstants.{ZONE_LIMIT};
+    ghost use Rattle.policy_snapshot.specs.Stands.{HaveRows, PlainSnapshot};
+
+    ghost Value = { PlainSnapshot };
+
+    ghost view = { λ s. record { zones = map arc_value s.zones.items; accepted = s.accepted } };
+
+    ghost invariant = { λ s. (length s.zones.items ≤ ZONE_LIMIT) × HaveRows (map arc_value s.zones.items) };
+}
+
+impl Snapshot {
+    /// Zones of these origins in this order, with nothing loaded. There are at most 32.
+    pub fn start(alloc: Global, origins: &[Name]) -> Result<Self, AllocError>
+        requires { length origins.now ≤ ZONE_LIMIT }
+        ensures { IfOk result (λ snapshot. snapshot ≡ new_snapshot origins.now) }
+    {
+        let mut zones = Vec::with_capacity(alloc, origins.len())?;
+        for origin in origins {
+            zones.push(empty_zone(alloc, origin)?)?;
+        }
+        Ok(Snapshot { zones, accepted: 0 })
+    }
+
+    /// How many zones the policy has, at most 32.
+    pub fn zone_count(&self) -> usize
+        ensures count { result ≡ length self.now.zones }
+        ensures limit { result ≤ ZONE_LIMIT }
+    {
+        self.zones.len()
+    }
+
+    /// How many transfers were accepted; it stands still at 2^64 - 1.
+    pub fn accepted(&self) -> u64
+        ensures { result ≡ self.now.accepted }
+    {
+        self.accepted
+    }
+
+    /// The zones in order, the first of them zone 1.
+    pub(crate) fn zones(&self) -> &[Arc<Zone, Global>]
+        ensures zones { map arc_value result.now ≡ self.now.zones }
+        ensures limit { length result.now ≤ ZONE_LIMIT }
+        ensures rows { HaveRows self.now.zones }
+    {
+        self.zones.as_slice()
+    }
+
+    /// The zone of a number, where there is one; the first is zone 1.
+    pub fn zone(&self, number: u32) -> Option<&Zone>
+        ensures { option_copied result ≡ zone_at self.now.zones number }
+    {
+        if number == 0 {
+            return None;
+        }
+        match self.zones.get(number as usize - 1) {
+            None => None,
+            Some(zone) => Some(zone),
+        }
+    }
+
+    /// The policy after one more transfer of the zone of this number, or why the zone can't take it. The other zones are
+    /// shared, and this snapshot stays as it is. Its time is that of building one zone.
+    pub fn apply(
+        &self,
+        alloc: Global,
+        number: u32,
+        transfer: Transfer,
+    ) -> Result<Snapshot, ApplyError>
+        requires { IsSome (zone_at self.now.zones number) }
+        ensures exact { IfSome (zone_at self.now.zones number) (λ zone.
+            Gives result (with_zone self.now number (apply_outcome zone transfer))) }
+        ensures stands { IfOk result (λ next. (entries : List Entry) → Stands self.now entries →
+            Stands next (entries ++ record { zone = number; transfer = transfer } ∷ [])) }
+    {
+        let place = number as usize - 1;
+        let old: &Zone = &self.zones[place];
+        let zone = old.apply(alloc, transfer)?;
+        // what its clause says is wanted here: that the rows of the new zone are rows
+        let _index = zone.index();
+        let zones = with_zone_at(alloc, &self.zones, place, zone)?;
+        Ok(Snapshot {
+            zones,
+            accepted: self.accepted.saturating_add(1),
+        })
+    }
+}
+
+// A zone of this origin with nothing loaded.
+fn empty_zone(alloc: Global, origin: &Name) -> Result<Arc<Zone, Global>, AllocError>
+    ensures { IfOk result (λ zone. arc_value zone ≡ unloaded origin.now) }
+{
+    let zone = Zone::new(origin.clone()?);
+    Ok(Arc::new(alloc, zone)?)
+}
+
+// The zones with this one at a place, the others shared.
+fn with_zone_at(
+    alloc: Global,
+    zones: &[Arc<Zone, Global>],
+    place: usize,
+    zone: Zone,
+) -> Result<Vec<Arc<Zone, Global>>, AllocError>
+    requires { place < length zones.now }
+    ensures { IfOk result (λ all. map arc_value all.items ≡ slice_set (map arc_value zones.now) place zone) }
+{
+    let mut all = shared(alloc, zones)?;
+    all[place] = Arc::new(alloc, zone)?;
+    Ok(all)
+}
+
+// The same zones, shared.
+fn shared(alloc: Global, zones: &[Arc<Zone, Global>]) -> Result<Vec<Arc<Zone, Global>>, AllocError>
+    ensures { IfOk result (λ all. map arc_value all.items ≡ map arc_value zones.now) }
+{
+    let mut all = Vec::with_capacity(alloc, zones.len())?;
+    for zone in zones {
+        all.push(Arc::try_clone(zone)?)?;
+    }
+    Ok(all)
+}
