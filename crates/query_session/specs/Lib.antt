@@ -1,6 +1,2 @@
-pub mod Indexed
-pub mod Policy
-pub mod Finding
-pub mod Seen
-pub mod Talk
+pub mod State
 pub mod Session

@@ -1,59 +1,66 @@
--- What is done with one query, turn by turn.
+-- How one query is answered, turn by turn.
 use Rattle.std.specs.Prelude.{[], ◌∷◌, ◌++◌, Option, Some, None}
 use Rattle.dns_message.specs.declared.question.Question.{Question}
 use Rattle.dns_message.specs.declared.request.Incoming.{Incoming}
 use Rattle.dns_message.specs.declared.request.Incoming.TheVariants.{Silent, Refuse, Query as Asks}
 use Rattle.dns_message.specs.declared.request.Query.{Query}
 use Rattle.dns_message.specs.declared.limit.TheConstants.{LEAST_LIMIT}
-use Rattle.dns_message.specs.Limit.{reply_limit, spelled_within}
+use Rattle.dns_message.specs.Limit.{reply_limit, spelling_within}
 use Rattle.upstream_link.specs.declared.fact.Fact.{Fact}
 use Rattle.upstream_link.specs.Facts.{PlainFacts}
-use Rattle.upstream_link.specs.Question.{main_question}
 use Rattle.reply_build.specs.declared.said.Said.TheVariants as said
-use Rattle.reply_build.specs.Needs.{missing}
+use Rattle.reply_build.specs.declared.turn.Turn.{Turn}
+use Rattle.reply_build.specs.declared.turn.Turn.TheVariants.{Ask, Said}
 use Rattle.reply_build.specs.Reply.{reply}
-use Rattle.reply_build.specs.Verdict.{PlainVerdict}
-use Rattle.query_session.specs.declared.session.Turn.{Turn}
-use Rattle.query_session.specs.declared.session.Turn.TheVariants.{Ask, Said}
-use Rattle.query_session.specs.Finding.{decided}
-use Rattle.query_session.specs.Policy.{PlainPolicy}
-use Rattle.query_session.specs.Talk.{Talk}
+use Rattle.reply_build.specs.Verdict.{PlainVerdict, passes, hits}
+use Rattle.rpz_precedence.specs.Best.{PlainHit}
+use Rattle.policy_snapshot.specs.Next.{Next, ask, decided_by, no_hit, next}
+use Rattle.policy_snapshot.specs.Policy.{PlainPolicy}
+use Rattle.query_session.specs.State.{SessionState}
 
--- what is decided is said, once all is known that the reply needs
-abbrev pub unless_missing : Query → PlainVerdict → PlainFacts → Option Question → Turn
-unless_missing query verdict facts None = Said (reply (reply_limit query) query verdict facts)
-unless_missing query verdict facts (Some question) = Ask question
+-- what is decided by the best hit, where nothing is pending
+abbrev pub hit_verdict : Option PlainHit → PlainVerdict
+hit_verdict None = passes
+hit_verdict (Some hit) = hits hit.action hit.soa
 
-abbrev pub verdict_turn : Query → PlainFacts → Option PlainVerdict → Turn
-verdict_turn query facts None = Ask (main_question query)
-verdict_turn query facts (Some verdict) = unless_missing query verdict facts (missing query verdict facts)
+-- a rule that decides is answered by, and where none is hit the answer passes, once all is known that the reply needs
+abbrev pub turn_by_next : Query → PlainFacts → Next → Turn
+turn_by_next query facts (ask question) = Ask question
+turn_by_next query facts (decided_by hit) = reply (reply_limit query) query (hits hit.action hit.soa) facts
+turn_by_next query facts no_hit = reply (reply_limit query) query passes facts
 
--- What is done at this point. A refusal has at most the question and the OPT record, and keeps to the least limit.
+-- What is done about a message under a policy, by what is known. A refusal has at most the question and the OPT record, and
+-- keeps to the least limit.
 abbrev pub turn_by : PlainPolicy → Incoming → PlainFacts → Turn
 turn_by policy Silent facts = Said said.Silent
-turn_by policy (Refuse message) facts = Said (said.Reply (spelled_within LEAST_LIMIT message))
-turn_by policy (Asks query) facts = verdict_turn query facts (decided query facts policy)
+turn_by policy (Refuse message) facts = Said (said.Reply (spelling_within LEAST_LIMIT message))
+turn_by policy (Asks query) facts = turn_by_next query facts (next policy query facts)
 
-abbrev pub turn_of : Talk → Turn
-turn_of talk = turn_by talk.policy talk.incoming talk.facts
+-- what a session does at this point
+abbrev pub turn_of : SessionState → Turn
+turn_of session = turn_by session.policy session.incoming session.facts
 
 -- at the beginning nothing is known
-abbrev pub begun : PlainPolicy → Incoming → Talk
-begun policy incoming = record { policy = policy; incoming = incoming; facts = []; asked = None }
+abbrev pub new_session : PlainPolicy → Incoming → SessionState
+new_session policy incoming = record { policy = policy; incoming = incoming; facts = []; asked = None }
 
-abbrev pub asked_in : Turn → Option Question
-asked_in (Ask question) = Some question
-asked_in (Said s) = None
+abbrev pub question_in : Turn → Option Question
+question_in (Ask question) = Some question
+question_in (Said s) = None
 
 -- after a turn it waits exactly if it asked
-abbrev pub turned : Talk → Talk
-turned talk = record talk { asked = asked_in (turn_of talk) }
+abbrev pub after_turn : SessionState → SessionState
+after_turn session = record { policy = session.policy; incoming = session.incoming; facts = session.facts; asked = question_in (turn_of session) }
 
 -- with one fact more, of the question that was asked
-abbrev pub known_more : PlainFacts → Option Question → Fact → PlainFacts
-known_more facts None fact = facts
-known_more facts (Some question) fact = facts ++ (question, fact) ∷ []
+abbrev pub with_fact : PlainFacts → Option Question → Fact → PlainFacts
+with_fact facts None fact = facts
+with_fact facts (Some question) fact = facts ++ (question, fact) ∷ []
 
 -- after the fact is given that was asked for
-abbrev pub given : Talk → Fact → Talk
-given talk fact = record { policy = talk.policy; incoming = talk.incoming; facts = known_more talk.facts talk.asked fact; asked = None }
+abbrev pub after_fact : SessionState → Fact → SessionState
+after_fact session fact = record { policy = session.policy; incoming = session.incoming; facts = with_fact session.facts session.asked fact; asked = None }
+
+-- waiting for the answer to a question, with these facts
+abbrev pub awaiting : SessionState → PlainFacts → Question → SessionState
+awaiting session facts question = record { policy = session.policy; incoming = session.incoming; facts = facts; asked = Some question }

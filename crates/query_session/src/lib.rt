@@ -1,11 +1,6 @@
-//! What happens to one query: which rule of the policy is about it, what is asked of the server, and the reply.
+//! How one query is answered under the policy that held when it came: what is asked of the upstream, and what is replied.
 #![tactic(auto)]
 
-mod finding;
-mod policy;
-mod policy_zone;
 mod session;
 
-pub use policy::Policy;
-pub use policy_zone::PolicyZone;
-pub use session::{Session, Turn};
+pub use session::Session;

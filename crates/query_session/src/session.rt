@@ -1,46 +1,42 @@
-//! What is done with one query.
+//! A session: one message of a client, from its coming to what is said.
 
-ghost use Rattle.std.specs.Prelude.{◌≡◌, Some, IfOk, IsSome, OnOk, OnErr, option_copied, is_some};
+ghost use Rattle.std.specs.Prelude.{◌≡◌, ◌∷◌, [], ◌++◌, Some, IfOk, IsSome, OnOk, OnErr, option_copied, option_map, is_some};
+ghost use Rattle.dns_message.specs.declared.question.Question as questions;
 ghost use Rattle.dns_message.specs.Request.{incoming_of};
-ghost use Rattle.query_session.specs.Finding.{decided};
-ghost use Rattle.query_session.specs.Seen.{verdict_seen};
-ghost use Rattle.query_session.specs.Session.{asked_in as asks, begun, given, turn_of, turned, verdict_turn};
+ghost use Rattle.policy_snapshot.specs.Next.{next};
+ghost use Rattle.reply_build.specs.Verdict.{verdict_of as verdict_seen};
+ghost use Rattle.rpz_precedence.specs.Seen.{hit_seen};
+ghost use Rattle.upstream_link.specs.declared.fact.Fact as facts;
+ghost use Rattle.upstream_link.specs.Facts.{PlainFacts};
+ghost use Rattle.query_session.specs.Session.{after_fact, after_turn, awaiting, new_session, hit_verdict, question_in as asks, turn_by_next, turn_of};
 
-use crate::policy::Policy;
 use dns_message::{Incoming, LEAST_LIMIT, Query, Question, classify, reply_limit, write_message};
 use ip_prefix::{Addr, Transport};
-use reply_build::{Said, Verdict, build, missing};
+use policy_snapshot::Snapshot;
+use reply_build::{Said, Turn, Verdict, build};
+use rpz_precedence::Hit;
 use std::alloc::{AllocError, Global};
 use std::marker::Model;
 use std::sync::Arc;
-use upstream_link::{Fact, Facts, main_question};
-
-/// What a session does at a point.
-#[derive(Debug, Drop)]
-pub enum Turn {
-    /// It needs to know the answer to this question.
-    Ask(Question),
-    /// It is done.
-    Said(Said),
-}
+use upstream_link::{Fact, Facts};
 
 /// What is done with one message of a client, under the policy that held when it came. Contracts see that policy,
-/// what came, what is known, and what it asked.
+/// the query, what is known, and what was asked.
 #[derive(Drop)]
 pub struct Session {
     alloc: Global,
-    policy: Arc<Policy, Global>,
+    policy: Arc<Snapshot, Global>,
     incoming: Incoming,
     facts: Facts,
     asked: Option<Question>,
 }
 
 impl Model for Session {
-    ghost use Rattle.query_session.specs.Talk.{Talk};
+    ghost use Rattle.query_session.specs.State.{SessionState};
 
-    ghost Value = { Talk };
+    ghost Value = { SessionState };
 
-    ghost view = { λ s. record { policy = s.policy.value; incoming = s.incoming; facts = s.facts; asked = s.asked } };
+    ghost view = { λ s. record { policy = s.policy.value.zones; incoming = s.incoming; facts = s.facts; asked = s.asked } };
 }
 
 impl Session {
@@ -48,12 +44,13 @@ impl Session {
     /// whatever comes after it.
     pub fn start(
         alloc: Global,
-        policy: Arc<Policy, Global>,
+        policy: Arc<Snapshot, Global>,
         message: &[u8],
         client: Addr,
         transport: Transport,
     ) -> Result<Self, AllocError>
-        ensures { IfOk result (λ session. session ≡ begun policy.value (incoming_of message.now client transport)) }
+        ensures { IfOk result (λ session. session
+            ≡ new_session policy.value.zones (incoming_of message.now client transport)) }
     {
         let incoming = classify(alloc, message, client, transport)?;
         Ok(Session {
@@ -82,7 +79,7 @@ impl Session {
     /// What is done at this point, which is the same until a fact is given.
     pub fn turn(&mut self) -> Result<Turn, AllocError>
         ensures turn { IfOk result (λ turn. turn ≡ turn_of self.old) }
-        ensures ok { OnOk result (self.new ≡ turned self.old) }
+        ensures ok { OnOk result (self.new ≡ after_turn self.old) }
         ensures err { OnErr result (self.new ≡ self.old) }
     {
         let turn = self.next_turn()?;
@@ -93,7 +90,7 @@ impl Session {
     /// Gives the fact that the last turn asked for. An `Err` leaves the session as it was.
     pub fn give(&mut self, fact: Fact) -> Result<(), AllocError>
         requires { IsSome self.old.asked }
-        ensures ok { OnOk result (self.new ≡ given self.old fact) }
+        ensures ok { OnOk result (self.new ≡ after_fact self.old fact) }
         ensures err { OnErr result (self.new ≡ self.old) }
     {
         let Some(question) = self.asked.take() else {
@@ -105,6 +102,17 @@ impl Session {
                 self.asked = Some(refused.value);
                 Err(AllocError)
             }
+        }
+    }
+
+    /// Takes the last fact back, so that the session waits for the answer to its question again: what undoes
+    /// [`give`](Session::give) where what was to follow can't be done.
+    pub fn take_back(&mut self)
+        ensures { (before : PlainFacts) (question : questions.Question) (fact : facts.Fact) →
+            self.old.facts ≡ before ++ (question, fact) ∷ [] → self.new ≡ awaiting self.old before question }
+    {
+        if let Some((question, _fact)) = self.facts.pop() {
+            self.asked = Some(question);
         }
     }
 
@@ -146,33 +154,30 @@ fn copied(question: &Question) -> Result<Question, AllocError>
 // What is done about a query.
 fn turn_about(
     alloc: Global,
-    policy: &Policy,
+    policy: &Snapshot,
     query: &Query,
     facts: &Facts,
 ) -> Result<Turn, AllocError>
-    ensures { IfOk result (λ turn. turn ≡ verdict_turn query.now facts.now (decided query.now facts.now policy.now)) }
+    ensures { IfOk result (λ turn. turn ≡ turn_by_next query.now facts.now (next policy.now.zones query.now facts.now)) }
 {
-    let verdict = policy.decide(alloc, query, facts)?;
-    verdict_turn_of(alloc, query, facts, verdict)
+    match policy.best(alloc, query, facts) {
+        Err(error) => Err(error),
+        Ok(hit) => match policy.pending(query, facts, &hit)? {
+            Some(question) => Ok(Turn::Ask(question)),
+            None => build(alloc, query, verdict_of(&hit), facts, reply_limit(query)),
+        },
+    }
 }
 
-// What is done by a verdict.
-fn verdict_turn_of(
-    alloc: Global,
-    query: &Query,
-    facts: &Facts,
-    verdict: Option<Verdict<'_>>,
-) -> Result<Turn, AllocError>
-    ensures { IfOk result (λ turn. turn ≡ verdict_turn query.now facts.now (verdict_seen verdict.entry)) }
+// What is decided by the best hit.
+fn verdict_of<'a>(hit: &Option<Hit<'a>>) -> Verdict<'a>
+    ensures { verdict_seen result ≡ hit_verdict (option_map hit_seen hit.now) }
 {
-    let Some(verdict) = verdict else {
-        return Ok(Turn::Ask(main_question(query)?));
-    };
-    match missing(alloc, query, verdict, facts)? {
-        Some(question) => Ok(Turn::Ask(question)),
-        None => {
-            let said = build(alloc, query, verdict, facts, reply_limit(query))?;
-            Ok(Turn::Said(said))
-        }
+    match hit {
+        None => Verdict::Pass,
+        Some(hit) => Verdict::Hit {
+            action: hit.action,
+            soa: hit.soa,
+        },
     }
 }

@@ -1,17 +1,20 @@
 -- Replies that are written piece by piece.
-use Rattle.std.proofs.Common.{◌≡◌, ℕ, ◌+◌, Bool, true, false, cond, List, [], ◌∷◌, ◌++◌, length, map, filter, drop, get_or, Option, Some, None, refl, sym, ap, ◌∙◌, append_assoc, arith}
-use Rattle.std.specs.Prelude.{◌<◌, ◌≤◌, option_map}
+use Rattle.std.proofs.Common.{◌≡◌, ℕ, ◌+◌, Bool, true, false, cond, List, [], ◌∷◌, ◌++◌, length, map, filter, drop, get_or, Some, refl, sym, ap, ◌∙◌, append_assoc, arith}
+use Rattle.std.specs.Prelude.{◌<◌, ◌≤◌}
 use Rattle.std.proofs.lemmas.List.{append-nil, length-map, at_drop_more, drop_all}
 use Rattle.dns_record.specs.Record.{PlainRecord, record_octets}
 use Rattle.dns_message.specs.declared.request.Query.{Query}
-use Rattle.dns_message.specs.Limit.{octets_within, spelled_within}
+use Rattle.dns_message.specs.Limit.{octets_within, spelling_within}
 use Rattle.dns_message.specs.Request.{reply_edns}
-use Rattle.dns_message.specs.Spelling.{start_octets, records_octets, opt_count, opt_octets, parts_octets, spelled}
+use Rattle.dns_message.specs.Spelling.{start_octets, records_octets, opt_count, opt_octets, parts_octets, spelling}
 use Rattle.action_codec.specs.Local.{PlainLocal}
 use Rattle.reply_build.specs.declared.draft.Draft.{Draft}
-use Rattle.reply_build.specs.Draft.{draft_octets, draft_of}
+use Rattle.reply_build.specs.declared.draft_outcome.DraftOutcome.{DraftOutcome}
+use Rattle.reply_build.specs.declared.draft_outcome.DraftOutcome.TheVariants.{Needs, Gives, Silent}
+use Rattle.reply_build.specs.Draft.{draft_octets, draft_of, draft_outcome}
 use Rattle.reply_build.specs.declared.said.Said.TheVariants.{Reply}
-use Rattle.reply_build.specs.Reply.{said, Sections, reply_header, reply_of, local_record, is_asked, local_answer, sections}
+use Rattle.reply_build.specs.declared.turn.Turn.TheVariants.{Said}
+use Rattle.reply_build.specs.Reply.{Outcome, needs, gives, silent, outcome_turn, Sections, reply_header, reply_of, local_record, is_asked, local_answer, sections}
 
 no_records : (octets : List ℕ) → octets ++ records_octets [] ≡ octets
 unfolding records_octets
@@ -61,29 +64,31 @@ alias_pieces rcode query alias soa answers authority k a b c d e ek ea eb ec ed 
     ∙ ap (λ (l : List ℕ). l ++ records_octets (soa ∷ [])) (ed ∙ ap (λ (l : List ℕ). l ++ records_octets authority) all)
 
 -- a reply with its OPT record
-whole_reply : (query : Query) (s : Sections) → draft_octets query s ++ opt_octets (reply_edns 0 query.edns) ≡ spelled (reply_of query s)
+whole_reply : (query : Query) (s : Sections) → draft_octets query s ++ opt_octets (reply_edns 0 query.edns) ≡ spelling (reply_of query s)
 unfolding start_octets parts_octets
 whole_reply query s = refl
 
 pub finished : (limit : ℕ) (query : Query) (s : Sections) (draft : Draft) (out : List ℕ) → draft ≡ draft_of query s
     → out ≡ octets_within limit (draft.octets ++ opt_octets (reply_edns 0 query.edns)) draft.header (Some query.question) (reply_edns 0 query.edns)
-    → out ≡ spelled_within limit (reply_of query s)
+    → out ≡ spelling_within limit (reply_of query s)
 finished limit query s draft out is e =
     e
     ∙ ap (λ (d : Draft). octets_within limit (d.octets ++ opt_octets (reply_edns 0 query.edns)) d.header (Some query.question) (reply_edns 0 query.edns)) is
     ∙ ap (λ (l : List ℕ). octets_within limit l (reply_header s.tc s.rcode query) (Some query.question) (reply_edns 0 query.edns)) (whole_reply query s)
 
-draft_in : Draft → Option Draft → Draft
-draft_in other None = other
-draft_in other (Some draft) = draft
+draft_in : Draft → DraftOutcome → Draft
+draft_in other (Needs question) = other
+draft_in other (Gives draft) = draft
+draft_in other Silent = other
 
--- what is said is the draft, finished
-pub said_draft : (limit : ℕ) (query : Query) (whole : Option Sections) (draft : Draft) (bytes : List ℕ) → Some draft ≡ option_map (draft_of query) whole
-    → ((s : Sections) → draft ≡ draft_of query s → bytes ≡ spelled_within limit (reply_of query s))
-    → Reply bytes ≡ said limit query whole
+-- the turn where the outcome is a draft
+pub turn_gives : (limit : ℕ) (query : Query) (outcome : Outcome) (draft : Draft) (bytes : List ℕ) → Gives draft ≡ draft_outcome query outcome
+    → ((s : Sections) → draft ≡ draft_of query s → bytes ≡ spelling_within limit (reply_of query s))
+    → Said (Reply bytes) ≡ outcome_turn limit query outcome
 unfolding draft_in
-said_draft limit query None draft bytes is each = absurd cc
-said_draft limit query (Some s) draft bytes is each = ap (λ (l : List ℕ). Reply l) (each s (ap (draft_in draft) is))
+turn_gives limit query (needs asked) draft bytes is each = absurd cc
+turn_gives limit query (gives s) draft bytes is each = ap (λ (l : List ℕ). Said (Reply l)) (each s (ap (draft_in draft) is))
+turn_gives limit query silent draft bytes is each = absurd cc
 
 -- the rows that are asked for, as records of this owner
 abbrev pub asked_octets : List (List ℕ) → ℕ → List PlainLocal → List ℕ

@@ -1,5 +1,4 @@
 pub mod Verdict
 pub mod Target
 pub mod Reply
-pub mod Needs
 pub mod Draft

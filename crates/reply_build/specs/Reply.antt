@@ -1,12 +1,14 @@
--- The reply to a query, by what is decided of it and what is known (draft-vixie-dnsop-dns-rpz, section 3).
+-- The reply to a query, by what is decided of it and what is known, or the question whose answer it needs
+-- (draft-vixie-dnsop-dns-rpz, section 3).
 use Rattle.std.specs.Prelude.{ℕ, Bool, true, false, ◌==◌, ◌||◌, if◌then◌else◌, List, [], ◌∷◌, map, filter, Option, Some, None}
 use Rattle.std.specs.Option.{option_to_list}
 use Rattle.dns_name.specs.Labels.{name_octets}
 use Rattle.dns_record.specs.Record.{PlainRecord}
 use Rattle.dns_message.specs.declared.header.Header.{Header}
 use Rattle.dns_message.specs.declared.message.Message.{Message}
+use Rattle.dns_message.specs.declared.question.Question.{Question}
 use Rattle.dns_message.specs.declared.request.Query.{Query}
-use Rattle.dns_message.specs.Limit.{spelled_within}
+use Rattle.dns_message.specs.Limit.{spelling_within}
 use Rattle.dns_message.specs.Request.{reply_edns}
 use Rattle.ip_prefix.specs.declared.Transport.{Transport}
 use Rattle.ip_prefix.specs.declared.Transport.TheVariants.{Udp, Tcp}
@@ -16,10 +18,11 @@ use Rattle.action_codec.specs.declared.action.Action.TheVariants.{NxDomain, NoDa
 use Rattle.upstream_link.specs.Kept.{PlainAnswer}
 use Rattle.upstream_link.specs.declared.fact.Fact.{Fact}
 use Rattle.upstream_link.specs.declared.fact.Fact.TheVariants.{Answer, Broken}
-use Rattle.upstream_link.specs.Facts.{PlainFacts, known}
+use Rattle.upstream_link.specs.Facts.{PlainFacts, fact_about}
 use Rattle.upstream_link.specs.Question.{question_of, main_question}
-use Rattle.reply_build.specs.declared.said.Said.{Said}
 use Rattle.reply_build.specs.declared.said.Said.TheVariants.{Reply, Silent}
+use Rattle.reply_build.specs.declared.turn.Turn.{Turn}
+use Rattle.reply_build.specs.declared.turn.Turn.TheVariants.{Ask, Said}
 use Rattle.reply_build.specs.Target.{alias_in, asks_alias, target_of}
 use Rattle.reply_build.specs.Verdict.{PlainVerdict, passes, hits}
 
@@ -66,14 +69,25 @@ abbrev pub soa_list : PlainAnswer → List PlainRecord
 soa_list answer = option_to_list answer.soa
 
 -- the answer of the upstream: its rcode, its answers, and its SOA in the authority section
-abbrev pub answered : PlainAnswer → Sections
-answered answer = sections answer.rcode answer.answers (soa_list answer) []
+abbrev pub answer_sections : PlainAnswer → Sections
+answer_sections answer = sections answer.rcode answer.answers (soa_list answer) []
 
--- the answer of the upstream passes (section 3.3)
-abbrev pub passed : Option Fact → Sections
-passed None = server_failure
-passed (Some (Broken why)) = server_failure
-passed (Some (Answer answer)) = answered answer
+-- What a query comes to, by what is decided of it and what is known: it needs the answer to a question, or gives a reply
+-- of these sections, or nothing is said.
+pub data Outcome : Type 0 where
+  needs : Question → Outcome
+  gives : Sections → Outcome
+  silent : Outcome
+
+-- the answer of the upstream to this question passes (section 3.3)
+abbrev pub pass_outcome : Question → Option Fact → Outcome
+pass_outcome question None = needs question
+pass_outcome question (Some (Broken why)) = gives server_failure
+pass_outcome question (Some (Answer answer)) = gives (answer_sections answer)
+
+-- the answer of the upstream to the query's own question passes
+abbrev pub main_outcome : Query → PlainFacts → Outcome
+main_outcome query facts = pass_outcome (main_question query) (fact_about facts (main_question query))
 
 -- local data as a record of this owner, in class IN
 abbrev pub local_record : List (List ℕ) → PlainLocal → PlainRecord
@@ -91,51 +105,59 @@ local_answer query rows soa = sections 0 (map (local_record query.question.name)
 abbrev pub alias_record : Query → ℕ → List (List ℕ) → PlainRecord
 alias_record query ttl target = record { owner = query.question.name; rtype = 5; class = 1; ttl = ttl; rdata = name_octets target }
 
--- an alias and what the upstream says of its target: its rcode, its answers, and its SOA in the authority section
-abbrev pub followed : PlainRecord → PlainRecord → Option Fact → Sections
-followed alias soa None = server_failure
-followed alias soa (Some (Broken why)) = server_failure
-followed alias soa (Some (Answer answer)) = sections answer.rcode (alias ∷ answer.answers) (soa_list answer) (soa ∷ [])
+-- an alias and the answer of the upstream about its target: its rcode, its answers, and its SOA in the authority section
+abbrev pub alias_sections : PlainRecord → PlainRecord → PlainAnswer → Sections
+alias_sections alias soa answer = sections answer.rcode (alias ∷ answer.answers) (soa_list answer) (soa ∷ [])
 
-abbrev pub to_target : Query → ℕ → PlainRecord → PlainFacts → Option (List (List ℕ)) → Sections
-to_target query ttl soa facts None = server_failure
-to_target query ttl soa facts (Some target) =
-    if asks_alias query.question.qtype then sections 0 (alias_record query ttl target ∷ []) [] (soa ∷ [])
-    else followed (alias_record query ttl target) soa (known facts (question_of target query.question.qtype))
+-- the alias to a target of which this is known
+abbrev pub alias_outcome : Query → ℕ → List (List ℕ) → PlainRecord → Option Fact → Outcome
+alias_outcome query ttl target soa None = needs (question_of target query.question.qtype)
+alias_outcome query ttl target soa (Some (Broken why)) = gives server_failure
+alias_outcome query ttl target soa (Some (Answer answer)) = gives (alias_sections (alias_record query ttl target) soa answer)
 
-abbrev pub local_by : Query → List PlainLocal → PlainRecord → PlainFacts → Option PlainLocal → Sections
-local_by query rows soa facts None = local_answer query rows soa
-local_by query rows soa facts (Some row) = to_target query row.ttl soa facts (target_of query.question.name row.rdata)
+-- the alias to this target, which is None where it is longer than a name may be; the alias alone where the alias itself is
+-- asked for
+abbrev pub target_outcome : Query → ℕ → PlainRecord → PlainFacts → Option (List (List ℕ)) → Outcome
+target_outcome query ttl soa facts None = gives server_failure
+target_outcome query ttl soa facts (Some target) =
+    if asks_alias query.question.qtype then gives (sections 0 (alias_record query ttl target ∷ []) [] (soa ∷ []))
+    else alias_outcome query ttl target soa (fact_about facts (question_of target query.question.qtype))
+
+abbrev pub by_alias : Query → List PlainLocal → PlainRecord → PlainFacts → Option PlainLocal → Outcome
+by_alias query rows soa facts None = gives (local_answer query rows soa)
+by_alias query rows soa facts (Some row) = target_outcome query row.ttl soa facts (target_of query.question.name row.rdata)
 
 -- local data, or the alias that it is
-abbrev pub local_reply : Query → List PlainLocal → PlainRecord → PlainFacts → Sections
-local_reply query rows soa facts = local_by query rows soa facts (alias_in rows)
+abbrev pub local_outcome : Query → List PlainLocal → PlainRecord → PlainFacts → Outcome
+local_outcome query rows soa facts = by_alias query rows soa facts (alias_in rows)
 
 abbrev pub over_tcp : Transport → Bool
 over_tcp Udp = false
 over_tcp Tcp = true
 
-abbrev pub pass : Query → PlainFacts → Sections
-pass query facts = passed (known facts (main_question query))
+-- the answer of the upstream passes over TCP; over UDP the reply is truncated
+abbrev pub tcp_only_outcome : Query → PlainFacts → Outcome
+tcp_only_outcome query facts = if over_tcp query.transport then main_outcome query facts else gives truncation
 
--- what a rule's action says; nothing for DROP (section 3.4)
-abbrev pub acted : Query → PlainFacts → PlainRecord → Action → Option Sections
-acted query facts soa NxDomain = Some (denial 3 soa)
-acted query facts soa NoData = Some (denial 0 soa)
-acted query facts soa PassThru = Some (pass query facts)
-acted query facts soa Drop = None
-acted query facts soa TcpOnly = if over_tcp query.transport then Some (pass query facts) else Some truncation
-acted query facts soa (Local rows) = Some (local_reply query rows soa facts)
+-- what a rule's action comes to; nothing is said for DROP (section 3.4)
+abbrev pub by_action : Query → PlainFacts → PlainRecord → Action → Outcome
+by_action query facts soa NxDomain = gives (denial 3 soa)
+by_action query facts soa NoData = gives (denial 0 soa)
+by_action query facts soa PassThru = main_outcome query facts
+by_action query facts soa Drop = silent
+by_action query facts soa TcpOnly = tcp_only_outcome query facts
+by_action query facts soa (Local rows) = local_outcome query rows soa facts
 
-abbrev pub by_verdict : Query → PlainVerdict → PlainFacts → Option Sections
-by_verdict query passes facts = Some (pass query facts)
-by_verdict query (hits action soa) facts = acted query facts soa action
+abbrev pub by_verdict : Query → PlainVerdict → PlainFacts → Outcome
+by_verdict query passes facts = main_outcome query facts
+by_verdict query (hits action soa) facts = by_action query facts soa action
 
--- what is sent: the reply, or its truncated form where it is longer than the limit
-abbrev pub said : ℕ → Query → Option Sections → Said
-said limit query None = Silent
-said limit query (Some s) = Reply (spelled_within limit (reply_of query s))
+-- the question is asked, or the reply is sent, in its truncated form where it is longer than the limit
+abbrev pub outcome_turn : ℕ → Query → Outcome → Turn
+outcome_turn limit query (needs question) = Ask question
+outcome_turn limit query (gives s) = Said (Reply (spelling_within limit (reply_of query s)))
+outcome_turn limit query silent = Said Silent
 
--- What is said to the client, in at most so many bytes.
-abbrev pub reply : ℕ → Query → PlainVerdict → PlainFacts → Said
-reply limit query verdict facts = said limit query (by_verdict query verdict facts)
+-- The question whose answer the reply needs and that isn't known, or what is said to the client, in at most so many bytes.
+abbrev pub reply : ℕ → Query → PlainVerdict → PlainFacts → Turn
+reply limit query verdict facts = outcome_turn limit query (by_verdict query verdict facts)

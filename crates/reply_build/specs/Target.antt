@@ -1,6 +1,6 @@
 -- The alias of a rule (draft-vixie-dnsop-dns-rpz, section 3.6).
 use Rattle.std.specs.Prelude.{ℕ, Bool, ◌==◌, ◌||◌, if◌then◌else◌, List, [], ◌∷◌, Option, Some, None, Result, Ok, Err}
-use Rattle.dns_name.specs.Joined.{joined}
+use Rattle.dns_name.specs.Join.{join_outcome}
 use Rattle.dns_name.specs.Reading.{Outcome, name_at}
 use Rattle.dns_name.specs.declared.fault.TooLong.{TooLong}
 use Rattle.trigger_codec.specs.Trigger.{is_asterisk}
@@ -16,21 +16,21 @@ alias_in (row ∷ other ∷ rows) = None
 abbrev pub asks_alias : ℕ → Bool
 asks_alias qtype = qtype == 5 || qtype == 255
 
-abbrev pub if_joined : Result (List (List ℕ)) TooLong → Option (List (List ℕ))
-if_joined (Ok name) = Some name
-if_joined (Err too_long) = None
+abbrev pub if_ok : Result (List (List ℕ)) TooLong → Option (List (List ℕ))
+if_ok (Ok name) = Some name
+if_ok (Err too_long) = None
 
 -- `*.X` stands for the name that is answered for followed by X, unless X is the root
 abbrev pub target_by : List (List ℕ) → List (List ℕ) → Option (List (List ℕ))
 target_by name [] = Some []
 target_by name (label ∷ []) = Some (label ∷ [])
-target_by name (label ∷ next ∷ others) = if is_asterisk label then if_joined (joined name (next ∷ others)) else Some (label ∷ next ∷ others)
+target_by name (label ∷ next ∷ others) = if is_asterisk label then if_ok (join_outcome name (next ∷ others)) else Some (label ∷ next ∷ others)
 
-abbrev pub target_read : List (List ℕ) → Outcome → Option (List (List ℕ))
-target_read name (Ok found) = target_by name found.0
-target_read name (Err fault) = None
+abbrev pub target_in : List (List ℕ) → Outcome → Option (List (List ℕ))
+target_in name (Ok found) = target_by name found.0
+target_in name (Err fault) = None
 
 -- The name that an alias leads to: the one that its data is, or with an asterisk the name that is answered for in its
 -- place. None where that is longer than a name may be.
 abbrev pub target_of : List (List ℕ) → List ℕ → Option (List (List ℕ))
-target_of name rdata = target_read name (name_at rdata 0)
+target_of name rdata = target_in name (name_at rdata 0)

@@ -1,7 +1,7 @@
 //! A reply that is written but for its OPT record.
 
 ghost use Rattle.std.specs.Prelude.{◌≡◌, ◌≤◌, IfOk};
-ghost use Rattle.dns_message.specs.Limit.{spelled_within};
+ghost use Rattle.dns_message.specs.Limit.{spelling_within};
 ghost use Rattle.dns_message.specs.Request.{reply_edns as edns_of_reply};
 ghost use Rattle.dns_message.specs.Spelling.{opt_count as count_of_opt};
 ghost use Rattle.reply_build.specs.Draft.{draft_of};
@@ -34,7 +34,7 @@ pub fn finish(draft: Draft, query: &Query, limit: usize) -> Result<Octets, Alloc
     requires low { LEAST_LIMIT ≤ limit }
     requires high { limit ≤ GREATEST_LIMIT }
     ensures { (s : Sections) → draft ≡ draft_of query.now s →
-        IfOk result (λ reply. reply ≡ spelled_within limit (reply_of query.now s)) }
+        IfOk result (λ reply. reply ≡ spelling_within limit (reply_of query.now s)) }
 {
     let Draft { header, octets } = draft;
     let mut reply = octets;

@@ -1,16 +1,18 @@
-//! The reply to a query, by what is decided of it and what is known (draft-vixie-dnsop-dns-rpz, section 3).
+//! The reply to a query, by what is decided of it and what is known, or the question whose answer it needs
+//! (draft-vixie-dnsop-dns-rpz, section 3).
 #![tactic(auto)]
 
 mod building;
 mod draft;
+mod draft_outcome;
 mod local;
-mod needs;
 mod reply;
 mod said;
 mod target;
+mod turn;
 mod verdict;
 
 pub use building::build;
-pub use needs::missing;
 pub use said::Said;
+pub use turn::Turn;
 pub use verdict::Verdict;

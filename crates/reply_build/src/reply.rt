@@ -1,16 +1,18 @@
 //! Replies of records that are at hand.
 
 ghost use Rattle.std.specs.Prelude.{◌≡◌, option_copied, IfOk};
-ghost use Rattle.reply_build.specs.Draft.{draft_of};
+ghost use Rattle.reply_build.specs.Draft.{draft_of, draft_outcome};
 ghost use Rattle.reply_build.specs.Reply as form;
+ghost use Rattle.upstream_link.specs.Question.{main_question as question_about};
 
 use crate::draft::{Draft, opt_count};
+use crate::draft_outcome::DraftOutcome;
 use dns_message::{Header, Query, write_records, write_start};
 use dns_name::Octets;
 use dns_record::Record;
 use std::alloc::{AllocError, Global};
 use std::slice;
-use upstream_link::{Answer, Fact};
+use upstream_link::{Answer, Fact, Facts, main_question};
 
 /// The header of a reply.
 pub fn reply_header(tc: bool, rcode: u8, query: &Query) -> Header
@@ -29,7 +31,7 @@ pub fn reply_header(tc: bool, rcode: u8, query: &Query) -> Header
 }
 
 // The reply of these sections, but for its OPT record.
-fn written(
+fn sections_draft(
     alloc: Global,
     tc: bool,
     rcode: u8,
@@ -38,7 +40,8 @@ fn written(
     authority: &[Record],
     additional: &[Record],
 ) -> Result<Draft, AllocError>
-    ensures { IfOk result (λ draft. draft ≡ draft_of query.now (record { tc = tc; rcode = rcode; answer = answer.now; authority = authority.now; additional = additional.now })) }
+    ensures { IfOk result (λ draft. draft
+        ≡ draft_of query.now (record { tc = tc; rcode = rcode; answer = answer.now; authority = authority.now; additional = additional.now })) }
 {
     let header = reply_header(tc, rcode, query);
     let mut octets = Octets::with_capacity(alloc, 512)?;
@@ -60,28 +63,28 @@ fn written(
 pub fn denial(alloc: Global, rcode: u8, query: &Query, soa: &Record) -> Result<Draft, AllocError>
     ensures { IfOk result (λ draft. draft ≡ draft_of query.now (form.denial rcode soa.now)) }
 {
-    written(alloc, false, rcode, query, &[], &[], slice::from_ref(soa))
+    sections_draft(alloc, false, rcode, query, &[], &[], slice::from_ref(soa))
 }
 
 /// The client is to ask again over TCP.
 pub fn truncation(alloc: Global, query: &Query) -> Result<Draft, AllocError>
     ensures { IfOk result (λ draft. draft ≡ draft_of query.now form.truncation) }
 {
-    written(alloc, true, 0, query, &[], &[], &[])
+    sections_draft(alloc, true, 0, query, &[], &[], &[])
 }
 
 /// There is no answer.
 pub fn server_failure(alloc: Global, query: &Query) -> Result<Draft, AllocError>
     ensures { IfOk result (λ draft. draft ≡ draft_of query.now form.server_failure) }
 {
-    written(alloc, false, 2, query, &[], &[], &[])
+    sections_draft(alloc, false, 2, query, &[], &[], &[])
 }
 
 // The answer of the upstream as it is.
-fn answered(alloc: Global, query: &Query, answer: &Answer) -> Result<Draft, AllocError>
-    ensures { IfOk result (λ draft. draft ≡ draft_of query.now (form.answered answer.now)) }
+fn answer_draft(alloc: Global, query: &Query, answer: &Answer) -> Result<Draft, AllocError>
+    ensures { IfOk result (λ draft. draft ≡ draft_of query.now (form.answer_sections answer.now)) }
 {
-    written(
+    sections_draft(
         alloc,
         false,
         answer.rcode(),
@@ -102,12 +105,27 @@ pub fn soa_slice(answer: &Answer) -> &[Record]
     }
 }
 
-/// What the upstream says passes.
-pub fn passed(alloc: Global, query: &Query, fact: Option<&Fact>) -> Result<Draft, AllocError>
-    ensures { IfOk result (λ draft. draft ≡ draft_of query.now (form.passed (option_copied fact.entry))) }
+// What is known of the query's own question passes.
+fn pass_outcome(
+    alloc: Global,
+    query: &Query,
+    fact: Option<&Fact>,
+) -> Result<DraftOutcome, AllocError>
+    ensures { IfOk result (λ outcome. outcome
+        ≡ draft_outcome query.now (form.pass_outcome (question_about query.now) (option_copied fact.entry))) }
 {
     match fact {
-        Some(Fact::Answer(answer)) => answered(alloc, query, answer),
-        Some(Fact::Broken(_)) | None => server_failure(alloc, query),
+        None => Ok(DraftOutcome::Needs(main_question(query)?)),
+        Some(Fact::Broken(_)) => Ok(DraftOutcome::Gives(server_failure(alloc, query)?)),
+        Some(Fact::Answer(answer)) => Ok(DraftOutcome::Gives(answer_draft(alloc, query, answer)?)),
     }
+}
+
+/// The answer of the upstream to the query's own question passes.
+pub fn main_outcome(alloc: Global, query: &Query, facts: &Facts) -> Result<DraftOutcome, AllocError>
+    ensures { IfOk result (λ outcome. outcome
+        ≡ draft_outcome query.now (form.main_outcome query.now facts.now)) }
+{
+    let fact = facts.get(&query.question.name, query.question.qtype);
+    pass_outcome(alloc, query, fact)
 }

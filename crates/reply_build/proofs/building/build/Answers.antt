@@ -1,7 +1,7 @@
 use Rattle.std.proofs.Common.{sym, ◌∙◌}
-use Rattle.reply_build.proofs.Pieces.{said_draft}
+use Rattle.reply_build.proofs.Pieces.{turn_gives}
 use Rattle.reply_build.proofs.building.build.Goals as goal
 
-pub returns-in_ok-finish-in-Some : goal.returns-in_ok-finish-in-Some
-returns-in_ok-finish-in-Some c =
-    said_draft c.args.limit c.args.query.now _ c.in-Some.draft c.in_ok-finish-in-Some.field-0 (sym c.in-Some.is ∙ c.in_ok-draft.ensures) (λ s is. c.in_ok-finish-in-Some.ensures s is)
+pub returns-in_ok-finish-in-Gives : goal.returns-in_ok-finish-in-Gives
+returns-in_ok-finish-in-Gives c =
+    turn_gives c.args.limit c.args.query.now _ c.in-Gives.draft c.in_ok-finish-in-Gives.field-0 (sym c.in-Gives.is ∙ c.in_ok-outcome.ensures) (λ s is. c.in_ok-finish-in-Gives.ensures s is)
