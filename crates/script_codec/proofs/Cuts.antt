@@ -5,7 +5,7 @@ use Rattle.std.proofs.lemmas.Bool.{cases_Bool}
 use Rattle.std.proofs.lemmas.List.{take_all}
 use Rattle.std.proofs.lemmas.List.Splits.{slice_split_first}
 use Rattle.script_codec.specs.declared.why.Why.TheVariants as why
-use Rattle.script_codec.specs.Fields.{is_space, fields_of, ended}
+use Rattle.script_codec.specs.Fields.{is_space, fields_of, no_more_fields}
 
 -- a text without a space is one field
 whole : (text : List ℕ) → length text ≤ position_or_len is_space text → fields_of text ≡ text ∷ []
@@ -36,11 +36,11 @@ fields_cut text at h lt =
     let cut : fields_of text ≡ take (position_or_len is_space text) text ∷ fields_of (drop (position_or_len is_space text + 1) text) = slice_split_first is_space text 0 (omega arith) in
     rw (all, same) cut
 
-onto_ended : (x : ℕ) (parts : List (List ℕ)) → ended (onto_first x parts) ≡ Err why.Fields
+onto_ended : (x : ℕ) (parts : List (List ℕ)) → no_more_fields (onto_first x parts) ≡ Err why.Fields
 onto_ended x [] = refl
 onto_ended x (part ∷ parts) = refl
 
 -- what stands behind a space has a field
-pub never_ended : (text : List ℕ) → ended (fields_of text) ≡ Err why.Fields
+pub never_ended : (text : List ℕ) → no_more_fields (fields_of text) ≡ Err why.Fields
 never_ended [] = refl
 never_ended (x ∷ xs) = ⊎_elim (λ yes. rw yes refl) (λ no. rw no (onto_ended x (fields_of xs))) (cases_Bool (is_space x))

@@ -1,1 +1,4 @@
 pub mod Cuts
+pub mod Binding
+pub mod FieldBounds
+pub mod LineBounds

@@ -11,6 +11,7 @@ use Rattle.ip_prefix.specs.declared.Addr.TheVariants as addr
 use Rattle.ip_prefix.specs.declared.Transport.{Transport}
 use Rattle.ip_prefix.specs.declared.Transport.TheVariants as transport
 use Rattle.script_codec.specs.declared.field.TheConstants.{MESSAGE_BYTES}
+use Rattle.script_codec.specs.declared.state.TheConstants.{WORKERS}
 use Rattle.script_codec.specs.declared.why.Why.{Why}
 use Rattle.script_codec.specs.declared.why.Why.TheVariants as why
 use Rattle.script_codec.specs.Outcome.{◌>>=◌, refuse_if}
@@ -36,7 +37,7 @@ is_number most bound digits = nat_lt 0 (length digits) && nat_le (length digits)
 unfoldable pub number_of : List ℕ → Result ℕ Why
 number_of digits = if is_number 10 (2 ^ 32) digits then Ok (value_of digits) else Err why.Number
 
--- the number of a zone, of so many that are open; zone 1 is the first
+-- the number of a zone, of so many that there are; zone 1 is the first
 unfoldable pub zone_of : ℕ → List ℕ → Result ℕ Why
 zone_of zones digits = do
   zone ← number_of digits
@@ -44,15 +45,11 @@ zone_of zones digits = do
   _ ← refuse_if (nat_lt zones zone) why.NoZone
   Ok zone
 
--- how many workers there are
-abbrev pub workers : ℕ
-workers = 16
-
 -- the number of a worker; worker 0 is the first
 unfoldable pub worker_of : List ℕ → Result ℕ Why
 worker_of digits = do
   worker ← number_of digits
-  _ ← refuse_if (nat_le workers worker) why.NoWorker
+  _ ← refuse_if (nat_le WORKERS worker) why.NoWorker
   Ok worker
 
 -- `udp` or `tcp`

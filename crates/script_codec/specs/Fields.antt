@@ -23,15 +23,15 @@ first_field [] = Err why.Fields
 first_field (field ∷ others) = if length field == 0 then Err why.Fields else Ok (field, others)
 
 -- there are no fields
-abbrev pub ended : List (List ℕ) → Result (Unit {0}) Why
-ended [] = Ok tt
-ended (field ∷ others) = Err why.Fields
+abbrev pub no_more_fields : List (List ℕ) → Result (Unit {0}) Why
+no_more_fields [] = Ok tt
+no_more_fields (field ∷ others) = Err why.Fields
 
 -- the one field
 unfoldable pub one_field : List (List ℕ) → Result (List ℕ) Why
 one_field fields = do
   (first, others) ← first_field fields
-  _ ← ended others
+  _ ← no_more_fields others
   Ok first
 
 -- the two fields

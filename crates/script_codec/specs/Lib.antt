@@ -6,5 +6,5 @@ pub mod Names
 pub mod State
 pub mod Line
 pub mod Refusal
-pub mod Output
+pub mod Shown
 pub mod Within

@@ -1,5 +1,5 @@
 -- Why a transfer was refused, as text: the name of the fault, and its numbers in their order, each after one space.
-use Rattle.std.specs.Prelude.{ℕ, List, [], ◌++◌, codes, decimal}
+use Rattle.std.specs.Prelude.{ℕ, List, ◌++◌, codes, decimal}
 use Rattle.axfr_apply.specs.declared.fault.TransferFault.{TransferFault}
 use Rattle.axfr_apply.specs.declared.fault.TransferFault.TheVariants as transfer
 use Rattle.zone_rows.specs.declared.fault.ApplyFault.{ApplyFault}
@@ -52,7 +52,7 @@ abbrev pub numbers_of : Refusal → Numbers
 numbers_of (Transfer fault) = transfer_numbers fault
 numbers_of (Apply fault) = apply_numbers fault
 
--- the line that tells a refusal of this word and these numbers
+-- the line of a refusal of this word and these numbers
 abbrev pub refused_line : ℕ → List ℕ → Numbers → List ℕ
 refused_line zone word Without = codes "refused " ++ (decimal zone ++ (codes " " ++ (word ++ codes "\n")))
 refused_line zone word (One number) = codes "refused " ++ (decimal zone ++ (codes " " ++ (word ++ (codes " " ++ (decimal number ++ codes "\n")))))

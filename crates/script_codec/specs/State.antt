@@ -1,39 +1,37 @@
--- What is kept from line to line.
-use Rattle.std.specs.Prelude.{ℕ, nat_le, Bool, true, false, List, [], ◌∷◌, ◌++◌, length, replicate, slice_index_or, slice_set, Result}
+-- What a line is read by.
+use Rattle.std.specs.Prelude.{ℕ, nat_le, Bool, false, List, length, slice_index_or, Result, Err}
 use Rattle.script_codec.specs.declared.state.ScriptState.{ScriptState}
+use Rattle.script_codec.specs.declared.state.ScriptState.TheVariants.{Opening, Running}
+use Rattle.zone_rows.specs.declared.zone.TheConstants.{ZONE_LIMIT}
 use Rattle.script_codec.specs.declared.why.Why.{Why}
 use Rattle.script_codec.specs.declared.why.Why.TheVariants as why
-use Rattle.script_codec.specs.Field.{workers}
 use Rattle.script_codec.specs.Names.{has_name}
 use Rattle.script_codec.specs.Outcome.{◌>>=◌, refuse_if}
 
--- how many zones a script may open
-abbrev pub most_zones : ℕ
-most_zones = 1
+-- Only zone lines stood so far, which opened zones of these origins, zone 1 first; or other lines stood, and there are so
+-- many zones, and for each worker, worker 0 first, it is said whether it has a pending query.
+pub data PlainState : Type 0 where
+  opening : List (List (List ℕ)) → PlainState
+  running : ℕ → List Bool → PlainState
 
--- before the first line
-abbrev pub new_state : ScriptState
-new_state = record { origins = []; other_stood = false; waiting = replicate workers false }
+-- what the code holds by reference
+abbrev pub state_of : ScriptState → PlainState
+state_of (Opening origins) = opening origins.now
+state_of (Running zones pending) = running zones pending
 
--- a zone of this origin is opened
-abbrev pub with_zone : ScriptState → List (List ℕ) → ScriptState
-with_zone state origin = record state { origins = state.origins ++ origin ∷ [] }
+-- how many zones there are
+abbrev pub zone_count : PlainState → ℕ
+zone_count (opening origins) = length origins
+zone_count (running zones pending) = zones
 
--- a line of another kind stood
-abbrev pub with_other : ScriptState → ScriptState
-with_other state = record state { other_stood = true }
+-- whether the worker has a pending query
+abbrev pub is_pending : PlainState → ℕ → Bool
+is_pending (opening origins) worker = false
+is_pending (running zones pending) worker = slice_index_or pending worker false
 
--- whether the worker waits for an answer
-abbrev pub is_waiting : ScriptState → ℕ → Bool
-is_waiting state worker = slice_index_or state.waiting worker false
-
--- the worker waits, or waits no more
-abbrev pub with_worker : ScriptState → ℕ → Bool → ScriptState
-with_worker state worker waits = record state { waiting = slice_set state.waiting worker waits }
-
--- a zone of this origin may be opened
-unfoldable pub opens : ScriptState → List (List ℕ) → Result (Unit {0}) Why
-opens state origin = do
-  _ ← refuse_if state.other_stood why.Late
-  _ ← refuse_if (nat_le most_zones (length state.origins)) why.Many
-  refuse_if (has_name state.origins origin) why.Repeated
+-- whether a zone of this origin may be opened
+unfoldable pub opens : PlainState → List (List ℕ) → Result (Unit {0}) Why
+opens (opening origins) origin = do
+  _ ← refuse_if (nat_le ZONE_LIMIT (length origins)) why.Many
+  refuse_if (has_name origins origin) why.Repeated
+opens (running zones pending) origin = Err why.Late

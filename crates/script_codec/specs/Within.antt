@@ -1,34 +1,42 @@
--- The bounds of what a line says.
-use Rattle.std.specs.Prelude.{ℕ, ◌≤◌, ◌<◌, List, length, Option, Some, None}
+-- What holds of a line that is read, by the state that it is read by.
+use Rattle.std.specs.Prelude.{◌≡◌, ℕ, ◌≤◌, ◌<◌, true, false, List, length, Option, Some, None}
 use Rattle.dns_name.specs.Labels.{IsName}
-use Rattle.script_codec.specs.Field.{workers}
+use Rattle.zone_rows.specs.declared.zone.TheConstants.{ZONE_LIMIT}
 use Rattle.script_codec.specs.declared.field.TheConstants.{MESSAGE_BYTES}
 use Rattle.script_codec.specs.declared.line.Line.{Line}
 use Rattle.script_codec.specs.declared.line.Line.TheVariants.{Zone, Transfer, Full, Query, Give, Fail, Clock}
-use Rattle.script_codec.specs.declared.state.ScriptState.{ScriptState}
+use Rattle.script_codec.specs.declared.state.TheConstants.{WORKERS}
+use Rattle.script_codec.specs.Names.{has_name}
+use Rattle.script_codec.specs.State.{PlainState, opening, running, zone_count, is_pending}
 
--- a zone of this number is open; zone 1 is the first
-abbrev pub IsZone : ScriptState → ℕ → Type 0
-IsZone state zone = (1 ≤ zone) × (zone ≤ length state.origins)
+-- there is a zone of this number; zone 1 is the first
+abbrev pub IsZone : PlainState → ℕ → Type 0
+IsZone state zone = (1 ≤ zone) × (zone ≤ zone_count state)
 
--- a worker has this number
+-- a worker has this number; worker 0 is the first
 abbrev pub IsWorker : ℕ → Type 0
-IsWorker worker = worker < workers
+IsWorker worker = worker < WORKERS
 
 -- a message is not too long (RFC 1035, section 4.2.2)
 abbrev pub IsMessage : List ℕ → Type 0
 IsMessage message = length message ≤ MESSAGE_BYTES
 
-abbrev pub IsWithin : ScriptState → Line → Type 0
-IsWithin state (Zone origin) = IsName origin
+-- A zone of this origin may be opened: only zone lines stood, there is room for one more zone, and none has this origin.
+abbrev pub MayOpen : PlainState → List (List ℕ) → Type 0
+MayOpen (opening origins) origin = (length origins < ZONE_LIMIT) × (has_name origins origin ≡ false)
+MayOpen (running zones pending) origin = ⊥
+
+-- A transfer is of a zone that there is; a worker with a pending query gets no other, and only such a worker gets an answer.
+abbrev pub IsWithin : PlainState → Line → Type 0
+IsWithin state (Zone origin) = IsName origin × MayOpen state origin
 IsWithin state (Transfer zone stream) = IsZone state zone
 IsWithin state (Full zone) = IsZone state zone
-IsWithin state (Query worker transport client message) = IsWorker worker × IsMessage message
-IsWithin state (Give worker message) = IsWorker worker × IsMessage message
-IsWithin state (Fail worker) = IsWorker worker
+IsWithin state (Query worker transport client message) = IsWorker worker × IsMessage message × (is_pending state worker ≡ false)
+IsWithin state (Give worker message) = IsWorker worker × IsMessage message × (is_pending state worker ≡ true)
+IsWithin state (Fail worker) = IsWorker worker × (is_pending state worker ≡ true)
 IsWithin state (Clock seconds) = Unit {0}
 
 -- the same of a line that may be skipped
-abbrev pub SaysWithin : ScriptState → Option Line → Type 0
+abbrev pub SaysWithin : PlainState → Option Line → Type 0
 SaysWithin state None = Unit {0}
 SaysWithin state (Some line) = IsWithin state line

@@ -41,7 +41,7 @@ pub fn number(digits: &[u8]) -> Result<u32, Why>
     u32::try_from(value(digits)).map_err(|_| Why::Number)
 }
 
-/// The number of a zone, of so many that are open. Zone 1 is the first.
+/// The number of a zone, of so many that there are. Zone 1 is the first.
 #[tactic(auto, unfolding(crate::specs::Field::zone_of))]
 pub fn zone(digits: &[u8], zones: usize) -> Result<u32, Why>
     ensures exact { result ≡ zone_of zones digits.now }

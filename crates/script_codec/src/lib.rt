@@ -1,22 +1,23 @@
-//! The lines of a script, and the lines that a replay of it writes.
+//! The lines of a script, and the lines of the transcript of its replay.
 #![tactic(auto)]
 
 mod field;
 mod fields;
+pub mod laws;
 mod line;
 mod line_reading;
 mod names;
-mod output;
-mod output_text;
 mod refusal;
+mod shown;
+mod shown_text;
 mod state;
 mod why;
 
 pub use line::Line;
-pub use line_reading::{LINE_BYTES, LINES, read_line, read_unnumbered};
+pub use line_reading::{read_line, read_unnumbered};
 pub use names::Names;
-pub use output::Output;
-pub use output_text::write_output;
 pub use refusal::Refusal;
+pub use shown::Shown;
+pub use shown_text::write_shown;
 pub use state::{ScriptState, WORKERS};
 pub use why::{BadLine, LineError, ReadError, Why};

@@ -26,12 +26,12 @@ pub enum Line {
         client: Addr,
         message: Octets,
     },
-    /// The answer of the server that this worker has asked.
+    /// The answer of the upstream to the question that this worker asked.
     Give {
         worker: u32,
         message: Octets,
     },
-    /// The server that this worker has asked did not answer.
+    /// The upstream did not answer the question that this worker asked.
     Fail {
         worker: u32,
     },

@@ -6,6 +6,7 @@ ghost use Rattle.script_codec.specs.Outcome.{Gives, LineGives};
 ghost use Rattle.script_codec.specs.Fields.{fields_of, fields_left};
 ghost use Rattle.script_codec.specs.Line as line_form;
 ghost use Rattle.script_codec.specs.Line.{zone_line, transfer_line, full_line, query_line, give_line, fail_line, clock_line, worded_line, unnumbered_line, line_of, is_text_byte};
+ghost use Rattle.script_codec.specs.State.{PlainState, state_of};
 ghost use Rattle.script_codec.specs.Within.{IsWithin, SaysWithin};
 
 use crate::field::{address, bytes, message, name, number, transport, worker, zone};
@@ -13,13 +14,8 @@ use crate::fields::{Left, four_fields, one_field, split_field, two_fields};
 use crate::line::Line;
 use crate::state::ScriptState;
 use crate::why::{BadLine, LineError, ReadError, Why};
+use script_loop::{LINE_BYTES, LINES};
 use std::alloc::Global;
-
-/// The greatest number of a line.
-pub const LINES: u64 = 4_294_967_295;
-
-/// The most bytes of a line, its line feed not counted.
-pub const LINE_BYTES: usize = 200_000;
 
 /// What the line of this number says, which comes without its line feed; `None` exactly where it is
 /// empty or begins with `#`. Line 1 is the first. It is refused for the first reason that applies.
@@ -27,10 +23,10 @@ pub fn read_line(
     alloc: Global,
     bytes: &[u8],
     number: u64,
-    state: &ScriptState,
+    state: &ScriptState<'_>,
 ) -> Result<Option<Line>, LineError>
-    ensures exact { LineGives number result (line_of number bytes.now state.now) }
-    ensures within { IfOk result (SaysWithin state.now) }
+    ensures exact { LineGives number result (line_of number bytes.now (state_of state.now)) }
+    ensures within { IfOk result (SaysWithin (state_of state.now)) }
 {
     match read_numbered(alloc, bytes, number, state) {
         Ok(line) => Ok(line),
@@ -44,10 +40,10 @@ fn read_numbered(
     alloc: Global,
     text: &[u8],
     number: u64,
-    state: &ScriptState,
+    state: &ScriptState<'_>,
 ) -> Result<Option<Line>, ReadError>
-    ensures exact { Gives result (line_of number text.now state.now) }
-    ensures within { IfOk result (SaysWithin state.now) }
+    ensures exact { Gives result (line_of number text.now (state_of state.now)) }
+    ensures within { IfOk result (SaysWithin (state_of state.now)) }
 {
     if number > LINES {
         return Err(ReadError::Refused(Why::Lines));
@@ -63,10 +59,10 @@ fn read_numbered(
 pub fn read_unnumbered(
     alloc: Global,
     text: &[u8],
-    state: &ScriptState,
+    state: &ScriptState<'_>,
 ) -> Result<Option<Line>, ReadError>
-    ensures exact { Gives result (unnumbered_line text.now state.now) }
-    ensures within { IfOk result (SaysWithin state.now) }
+    ensures exact { Gives result (unnumbered_line text.now (state_of state.now)) }
+    ensures within { IfOk result (SaysWithin (state_of state.now)) }
 {
     if !is_text(text) {
         return Err(ReadError::Refused(Why::Char));
@@ -96,9 +92,9 @@ fn is_skipped(text: &[u8]) -> bool
 
 // A line that begins with its first word.
 #[tactic(auto, unfolding(crate::specs::Line::kind_line))]
-fn read_worded(alloc: Global, text: &[u8], state: &ScriptState) -> Result<Line, ReadError>
-    ensures exact { Gives result (worded_line state.now (fields_of text.now)) }
-    ensures within { IfOk result (IsWithin state.now) }
+fn read_worded(alloc: Global, text: &[u8], state: &ScriptState<'_>) -> Result<Line, ReadError>
+    ensures exact { Gives result (worded_line (state_of state.now) (fields_of text.now)) }
+    ensures within { IfOk result (IsWithin (state_of state.now)) }
 {
     let (word, fields) = split_field(text);
     if word == b"zone".as_slice() {
@@ -127,51 +123,55 @@ fn read_worded(alloc: Global, text: &[u8], state: &ScriptState) -> Result<Line, 
 
 // The field of `zone NAME`.
 #[tactic(auto, unfolding(crate::specs::Line::zone_line))]
-fn read_zone(alloc: Global, fields: Left<'_>, state: &ScriptState) -> Result<Line, ReadError>
-    ensures exact { Gives result (zone_line state.now (fields_left fields.entry)) }
-    ensures within { IfOk result (IsWithin state.now) }
+fn read_zone(alloc: Global, fields: Left<'_>, state: &ScriptState<'_>) -> Result<Line, ReadError>
+    ensures exact { Gives result (zone_line (state_of state.now) (fields_left fields.entry)) }
+    ensures within { IfOk result (IsWithin (state_of state.now)) }
 {
     let text = one_field(fields)?;
     let origin = name(alloc, text)?;
-    state.may_open(&origin)?;
+    state.opens(&origin)?;
     Ok(Line::Zone { origin })
 }
 
 // The fields of `xfer Z HEX`.
 #[tactic(auto, unfolding(crate::specs::Line::transfer_line))]
-fn read_transfer(alloc: Global, fields: Left<'_>, state: &ScriptState) -> Result<Line, ReadError>
-    ensures exact { Gives result (transfer_line state.now (fields_left fields.entry)) }
-    ensures within { IfOk result (IsWithin state.now) }
+fn read_transfer(
+    alloc: Global,
+    fields: Left<'_>,
+    state: &ScriptState<'_>,
+) -> Result<Line, ReadError>
+    ensures exact { Gives result (transfer_line (state_of state.now) (fields_left fields.entry)) }
+    ensures within { IfOk result (IsWithin (state_of state.now)) }
 {
     let (digits, text) = two_fields(fields)?;
-    let zone = zone(digits, state.origins.len())?;
+    let zone = zone(digits, state.zone_count())?;
     let stream = bytes(alloc, text)?;
     Ok(Line::Transfer { zone, stream })
 }
 
 // The field of `full Z`.
 #[tactic(auto, unfolding(crate::specs::Line::full_line))]
-fn read_full(fields: Left<'_>, state: &ScriptState) -> Result<Line, ReadError>
-    ensures exact { Gives result (full_line state.now (fields_left fields.entry)) }
-    ensures within { IfOk result (IsWithin state.now) }
+fn read_full(fields: Left<'_>, state: &ScriptState<'_>) -> Result<Line, ReadError>
+    ensures exact { Gives result (full_line (state_of state.now) (fields_left fields.entry)) }
+    ensures within { IfOk result (IsWithin (state_of state.now)) }
 {
     let digits = one_field(fields)?;
-    let zone = zone(digits, state.origins.len())?;
+    let zone = zone(digits, state.zone_count())?;
     Ok(Line::Full { zone })
 }
 
 // The fields of `query W udp|tcp ADDR HEX`.
 #[tactic(auto, unfolding(crate::specs::Line::query_line))]
-fn read_query(alloc: Global, fields: Left<'_>, state: &ScriptState) -> Result<Line, ReadError>
-    ensures exact { Gives result (query_line state.now (fields_left fields.entry)) }
-    ensures within { IfOk result (IsWithin state.now) }
+fn read_query(alloc: Global, fields: Left<'_>, state: &ScriptState<'_>) -> Result<Line, ReadError>
+    ensures exact { Gives result (query_line (state_of state.now) (fields_left fields.entry)) }
+    ensures within { IfOk result (IsWithin (state_of state.now)) }
 {
     let (digits, carrier, source, text) = four_fields(fields)?;
     let worker = worker(digits)?;
     let transport = transport(carrier)?;
     let client = address(source)?;
     let message = message(alloc, text)?;
-    if state.is_waiting(worker) {
+    if state.is_pending(worker) {
         return Err(ReadError::Refused(Why::Busy));
     }
     Ok(Line::Query {
@@ -184,14 +184,14 @@ fn read_query(alloc: Global, fields: Left<'_>, state: &ScriptState) -> Result<Li
 
 // The fields of `give W HEX`.
 #[tactic(auto, unfolding(crate::specs::Line::give_line))]
-fn read_give(alloc: Global, fields: Left<'_>, state: &ScriptState) -> Result<Line, ReadError>
-    ensures exact { Gives result (give_line state.now (fields_left fields.entry)) }
-    ensures within { IfOk result (IsWithin state.now) }
+fn read_give(alloc: Global, fields: Left<'_>, state: &ScriptState<'_>) -> Result<Line, ReadError>
+    ensures exact { Gives result (give_line (state_of state.now) (fields_left fields.entry)) }
+    ensures within { IfOk result (IsWithin (state_of state.now)) }
 {
     let (digits, text) = two_fields(fields)?;
     let worker = worker(digits)?;
     let message = message(alloc, text)?;
-    if !state.is_waiting(worker) {
+    if !state.is_pending(worker) {
         return Err(ReadError::Refused(Why::Idle));
     }
     Ok(Line::Give { worker, message })
@@ -199,13 +199,13 @@ fn read_give(alloc: Global, fields: Left<'_>, state: &ScriptState) -> Result<Lin
 
 // The field of `fail W`.
 #[tactic(auto, unfolding(crate::specs::Line::fail_line))]
-fn read_fail(fields: Left<'_>, state: &ScriptState) -> Result<Line, ReadError>
-    ensures exact { Gives result (fail_line state.now (fields_left fields.entry)) }
-    ensures within { IfOk result (IsWithin state.now) }
+fn read_fail(fields: Left<'_>, state: &ScriptState<'_>) -> Result<Line, ReadError>
+    ensures exact { Gives result (fail_line (state_of state.now) (fields_left fields.entry)) }
+    ensures within { IfOk result (IsWithin (state_of state.now)) }
 {
     let digits = one_field(fields)?;
     let worker = worker(digits)?;
-    if !state.is_waiting(worker) {
+    if !state.is_pending(worker) {
         return Err(ReadError::Refused(Why::Idle));
     }
     Ok(Line::Fail { worker })
@@ -215,7 +215,7 @@ fn read_fail(fields: Left<'_>, state: &ScriptState) -> Result<Line, ReadError>
 #[tactic(auto, unfolding(crate::specs::Line::clock_line))]
 fn read_clock(fields: Left<'_>) -> Result<Line, ReadError>
     ensures exact { Gives result (clock_line (fields_left fields.entry)) }
-    ensures within { (state : ScriptState) → IfOk result (IsWithin state) }
+    ensures within { (state : PlainState) → IfOk result (IsWithin state) }
 {
     let digits = one_field(fields)?;
     let seconds = number(digits)?;

@@ -1,4 +1,4 @@
-//! Names in a row.
+//! Lists of names.
 
 ghost use Rattle.std.specs.Prelude.{◌≡◌, ℕ, List, [], ◌∷◌, ◌++◌, length, OnOk, OnErr};
 ghost use Rattle.script_codec.specs.Names.{has_name};
@@ -7,7 +7,7 @@ use dns_name::Name;
 use std::alloc::{AllocError, Global};
 use std::marker::Model;
 
-/// Names in a row. Contracts see their list.
+/// A list of names. Contracts see it as one.
 #[derive(Debug, Drop)]
 pub struct Names {
     names: Vec<Name>,
@@ -36,11 +36,18 @@ impl Names {
         self.names.len()
     }
 
-    /// Whether the name is among them. Capitals of ASCII count as small letters.
+    /// Whether the name is among them. ASCII letters compare without case.
     pub fn contains(&self, name: &Name) -> bool
         ensures { result ≡ has_name self.now name.now }
     {
         self.names.iter().any(|other| other.is_same(name))
+    }
+
+    /// The names, in their order.
+    pub fn as_slice(&self) -> &[Name]
+        ensures { result.now ≡ self.now }
+    {
+        &self.names
     }
 
     /// Puts the name at the end. An `Err` leaves the names as they were.
@@ -50,5 +57,11 @@ impl Names {
     {
         self.names.push(name)?;
         Ok(())
+    }
+    /// The names, in their order.
+    pub fn into_vec(self) -> Vec<Name>
+        ensures { result.items ≡ self }
+    {
+        self.names
     }
 }

@@ -25,13 +25,13 @@ pub enum Why {
     Name,
     /// A zone is opened after a line of another kind.
     Late,
-    /// More zones are opened than are allowed.
+    /// As many zones are open as may be: 32.
     Many,
     /// The zone is open already.
     Repeated,
     /// The field is not a number of 1 to 10 decimal digits that is at most 4,294,967,295.
     Number,
-    /// No zone of this number is open.
+    /// There is no zone of this number.
     NoZone,
     /// The number of the worker is over 15.
     NoWorker,
@@ -43,9 +43,9 @@ pub enum Why {
     Hex,
     /// The message has over 65,535 bytes.
     Long,
-    /// The worker waits already.
+    /// The worker has a pending query.
     Busy,
-    /// The worker does not wait.
+    /// The worker has no pending query.
     Idle,
 }
 
@@ -93,7 +93,7 @@ pub enum LineError {
     BadLine(BadLine),
 }
 
-/// The same, before the number of the line is told.
+/// The same, without the number of the line.
 #[derive(Clone, Copy, Debug, PartialEq, Eq)]
 pub enum ReadError {
     OutOfMemory,

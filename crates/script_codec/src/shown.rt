@@ -1,18 +1,18 @@
-//! What a line of a script outputs.
+//! What a line of the transcript shows.
 
 use crate::refusal::Refusal;
 use dns_name::Octets;
 
-/// What a line of a script outputs.
+/// What a line of the transcript shows.
 #[derive(Debug, Drop)]
-pub enum Output {
-    /// A transfer was taken by the zone of this number: its new serial, and how many rows it has.
+pub enum Shown {
+    /// The zone of this number took the transfer: its new serial, and how many rows it has.
     Taken { zone: u32, serial: u32, rows: usize },
-    /// The zone of this number is as new as the transfer that came.
+    /// The zone of this number is as new as the transfer.
     Current { zone: u32, serial: u32 },
-    /// The zone of this number doesn't take the transfer that came, and is as before.
+    /// The zone of this number doesn't take the transfer, and is as before.
     Refused { zone: u32, why: Refusal },
-    /// What this worker asks a server.
+    /// The question that this worker asks the upstream.
     Ask { worker: u32, message: Octets },
     /// The reply to the query of this worker.
     Reply { worker: u32, message: Octets },

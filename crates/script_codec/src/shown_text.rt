@@ -1,13 +1,13 @@
-//! The line that tells an output.
+//! The lines of the transcript.
 
 ghost use Rattle.std.specs.Prelude.{◌≡◌, ◌++◌, IfOk, OnOk, string_bytes};
 ghost use Rattle.hex.specs.Hex.{encode_lower};
-ghost use Rattle.script_codec.specs.Output as output_form;
-ghost use Rattle.script_codec.specs.Output.{output_line};
 ghost use Rattle.script_codec.specs.Refusal as refusal_form;
+ghost use Rattle.script_codec.specs.Shown as shown_form;
+ghost use Rattle.script_codec.specs.Shown.{shown_line};
 
-use crate::output::Output;
 use crate::refusal::Numbers;
+use crate::shown::Shown;
 use dns_name::Octets;
 use std::alloc::{AllocError, Global};
 use std::fmt::Write;
@@ -15,35 +15,36 @@ use std::fmt::Write;
 /// Room for the word of a line, a number of 10 digits, two spaces and the line feed.
 const HEAD_BYTES: usize = 20;
 
-/// The line that tells an output, with its line feed.
-pub fn write_output(alloc: Global, output: &Output) -> Result<Octets, AllocError>
-    ensures { IfOk result (λ text. text ≡ output_line output.now) }
+/// The line that shows this, with its line feed.
+pub fn write_shown(alloc: Global, shown: &Shown) -> Result<Octets, AllocError>
+    ensures { IfOk result (λ text. text ≡ shown_line shown.now) }
 {
-    let line = match output {
-        Output::Taken { zone, serial, rows } => {
+    let line = match shown {
+        Shown::Taken { zone, serial, rows } => {
             format!(in alloc; "taken {zone} {serial} {rows}\n")?
         }
-        Output::Current { zone, serial } => format!(in alloc; "current {zone} {serial}\n")?,
-        Output::Refused { zone, why } => { refused_line(alloc, *zone, why.word(), why.numbers())? }
-        Output::Ask { worker, message } => {
+        Shown::Current { zone, serial } => format!(in alloc; "current {zone} {serial}\n")?,
+        Shown::Refused { zone, why } => { refused_line(alloc, *zone, why.word(), why.numbers())? }
+        Shown::Ask { worker, message } => {
             return message_line(alloc, "ask", *worker, message.as_slice());
         }
-        Output::Reply { worker, message } => {
+        Shown::Reply { worker, message } => {
             return message_line(alloc, "reply", *worker, message.as_slice());
         }
-        Output::Silent { worker } => format!(in alloc; "silent {worker}\n")?,
+        Shown::Silent { worker } => format!(in alloc; "silent {worker}\n")?,
     };
     Ok(Octets::from_vec(line.into_bytes()))
 }
 
-// The line that tells a refusal of this word and these numbers.
+// The line of a refusal of this word and these numbers.
 fn refused_line(
     alloc: Global,
     zone: u32,
     word: &str,
     numbers: Numbers,
 ) -> Result<String, AllocError>
-    ensures { IfOk result (λ text. string_bytes text ≡ refusal_form.refused_line zone word.now numbers) }
+    ensures { IfOk result (λ text. string_bytes text
+        ≡ refusal_form.refused_line zone word.now numbers) }
 {
     match numbers {
         Numbers::Without => format!(in alloc; "refused {zone} {word}\n"),
@@ -61,7 +62,7 @@ fn message_line(
     worker: u32,
     message: &[u8],
 ) -> Result<Octets, AllocError>
-    ensures { IfOk result (λ text. text ≡ output_form.message_line word.now worker message.now) }
+    ensures { IfOk result (λ text. text ≡ shown_form.message_line word.now worker message.now) }
 {
     let capacity = message.len().saturating_mul(2).saturating_add(HEAD_BYTES);
     let mut head = String::with_capacity(alloc, capacity)?;

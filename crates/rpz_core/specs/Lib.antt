@@ -1,0 +1,6 @@
+pub mod Sessions
+pub mod Offer
+pub mod World
+pub mod State
+pub mod Pending
+pub mod Faults

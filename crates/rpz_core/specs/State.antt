@@ -1,0 +1,83 @@
+-- The state of the core in code, which sees of the accepted transfers the policy that they make, and what each event does to it.
+use Rattle.std.specs.Prelude.{◌≡◌, ℕ, ◌-◌, List, length, Option, Some, None, Result, Ok, Err, slice_set}
+use Rattle.std.specs.declared.alloc.AllocError.{AllocError}
+use Rattle.zone_rows.specs.declared.transfer.Transfer.{Transfer}
+use Rattle.zone_rows.specs.declared.zone.PlainZone.{PlainZone}
+use Rattle.zone_rows.specs.Zone.{apply_outcome}
+use Rattle.policy_snapshot.specs.Policy.{zone_at}
+use Rattle.policy_snapshot.specs.Stands.{PlainSnapshot, new_snapshot, next_count, count_of}
+use Rattle.rpz_core.specs.declared.event.CoreError.{CoreError}
+use Rattle.rpz_core.specs.declared.event.CoreError.TheVariants as errors
+use Rattle.rpz_core.specs.declared.event.CoreFault.{CoreFault}
+use Rattle.rpz_core.specs.declared.event.CoreFault.TheVariants as fault
+use Rattle.rpz_core.specs.declared.event.Event.{Event}
+use Rattle.rpz_core.specs.declared.event.Event.TheVariants as event
+use Rattle.rpz_core.specs.declared.event.Output.{Output}
+use Rattle.rpz_core.specs.declared.event.Output.TheVariants as output
+use Rattle.rpz_core.specs.Offer.{Offer, takes, stays, offer, offer_by_outcome, content_taken}
+use Rattle.rpz_core.specs.Sessions.{PendingQuery, SessionsState, with_worker, no_sessions, take_query, take_answer, take_failure}
+use Rattle.rpz_core.specs.World.{World, policy_of}
+
+pub record CoreState : Type 0 where
+  pub policy : PlainSnapshot
+  pub sessions : SessionsState
+
+abbrev pub new_core : List (List (List ℕ)) → CoreState
+new_core origins = record { policy = new_snapshot origins; sessions = no_sessions }
+
+-- the state of the core in a world
+abbrev pub state_of : World → CoreState
+state_of world = record { policy = record { zones = policy_of world; accepted = count_of (length world.accepted) }; sessions = world.sessions }
+
+abbrev pub with_zone : PlainSnapshot → ℕ → PlainZone → PlainSnapshot
+with_zone policy number zone = record { zones = slice_set policy.zones (number - 1) zone; accepted = next_count policy.accepted }
+
+abbrev pub core_after_offer : CoreState → ℕ → Offer → CoreState × Output
+core_after_offer core number (stays out) = (core, out)
+core_after_offer core number (takes transfer next) = (record { policy = with_zone core.policy number next; sessions = core.sessions }, content_taken number next.content)
+
+abbrev pub transfer_step : CoreState → ℕ → List ℕ → Option PlainZone → Result (CoreState × Output) CoreFault
+transfer_step core number stream None = Err fault.NoZone
+transfer_step core number stream (Some zone) = Ok (core_after_offer core number (offer number zone stream))
+
+-- the same where the transfer was read
+abbrev pub apply_step : CoreState → ℕ → Transfer → Option PlainZone → Result (CoreState × Output) CoreFault
+apply_step core number transfer None = Err fault.NoZone
+apply_step core number transfer (Some zone) = Ok (core_after_offer core number (offer_by_outcome number transfer (apply_outcome zone transfer)))
+
+abbrev pub full_step : CoreState → Option PlainZone → Result (CoreState × Output) CoreFault
+full_step core None = Err fault.NoZone
+full_step core (Some zone) = Ok (core, output.None)
+
+abbrev pub with_sessions : CoreState → Result (SessionsState × Output) CoreFault → Result (CoreState × Output) CoreFault
+with_sessions core (Ok next) = Ok (record { policy = core.policy; sessions = next.0 }, next.1)
+with_sessions core (Err fault) = Err fault
+
+unfoldable pub core_step : CoreState → Event → Result (CoreState × Output) CoreFault
+core_step core (event.Transfer number stream) = transfer_step core number stream (zone_at core.policy.zones number)
+core_step core (event.Full number) = full_step core (zone_at core.policy.zones number)
+core_step core (event.Query worker transport client message) = with_sessions core (take_query core.sessions core.policy.zones worker transport client message)
+core_step core (event.Give worker message) = with_sessions core (take_answer core.sessions worker message)
+core_step core (event.Fail worker) = with_sessions core (take_failure core.sessions worker)
+core_step core (event.Clock seconds) = Ok (core, output.None)
+
+-- What a step did: what the definition gives. After a fault, and out of memory, the state is as it was.
+abbrev pub Steps : {S : Type 0} → Result (S × Output) CoreFault → Result Output CoreError → S → S → Type 0
+Steps gives (Ok out) old new = gives ≡ Ok (new, out)
+Steps gives (Err (errors.Fault fault)) old new = (gives ≡ Err fault) × (new ≡ old)
+Steps gives (Err errors.OutOfMemory) old new = new ≡ old
+
+-- The same of a step that has no fault.
+abbrev pub Turns : {S : Type 0} → S × Output → Result Output AllocError → S → S → Type 0
+Turns gives (Ok out) old new = gives ≡ (new, out)
+Turns gives (Err e) old new = new ≡ old
+
+-- The same of a pending query that was taken out of its worker's place: an error puts it back.
+abbrev pub TurnsOrPutsBack : ℕ → PendingQuery → SessionsState × Output → Result Output AllocError → SessionsState → SessionsState → Type 0
+TurnsOrPutsBack worker pending gives (Ok out) old new = gives ≡ (new, out)
+TurnsOrPutsBack worker pending gives (Err e) old new = new ≡ with_worker old worker (Some pending) old.last_id
+
+-- the world after a step, seen as the state of the core
+abbrev pub seen : Result (World × Output) CoreFault → Result (CoreState × Output) CoreFault
+seen (Ok next) = Ok (state_of next.0, next.1)
+seen (Err fault) = Err fault

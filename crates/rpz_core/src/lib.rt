@@ -1,0 +1,14 @@
+//! The core: a policy and workers with their pending queries, as a machine that takes events one by one. It knows nothing of
+//! scripts, threads or sockets.
+#![tactic(auto)]
+
+mod event;
+pub mod laws;
+mod pending;
+mod policy_core;
+mod sessions;
+mod transfer;
+
+pub use event::{CoreError, CoreFault, Event, Output, Refusal};
+pub use policy_core::Core;
+pub use sessions::WORKERS;

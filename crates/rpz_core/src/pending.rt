@@ -1,0 +1,106 @@
+//! A query that waits for an answer.
+
+ghost use Rattle.std.specs.Prelude.{◌≡◌};
+ghost use Rattle.rpz_core.specs.Pending.{Resumes, TakesTurn};
+
+use dns_message::Question;
+use dns_name::Octets;
+use query_session::Session;
+use reply_build::{Said, Turn};
+use std::alloc::{AllocError, Global};
+use std::marker::Model;
+use upstream_link::{Fact, question_bytes};
+
+/// A query that waits for an answer: its session, the question that was asked, and the ID of the message that asked it.
+#[derive(Drop)]
+pub(crate) struct Pending {
+    pub(crate) session: Session,
+    pub(crate) question: Question,
+    pub(crate) id: u16,
+}
+
+impl Model for Pending {
+    ghost use Rattle.std.specs.Prelude.{◌≡◌, Some};
+    ghost use Rattle.rpz_core.specs.Sessions.{PendingQuery};
+
+    ghost Value = { PendingQuery };
+
+    ghost view = { λ p. record { policy = p.session.policy; incoming = p.session.incoming; facts = p.session.facts; question = p.question; id = p.id } };
+
+    ghost invariant = { λ p. p.session.asked ≡ Some p.question };
+}
+
+/// What a session does at its turn.
+#[derive(Drop)]
+pub(crate) enum NextMessage {
+    /// It asks this question of the upstream, in this message.
+    Ask { question: Question, message: Octets },
+    /// It is done.
+    Said(Said),
+}
+
+/// The next turn of a session. Where it asks, its message has this ID. An `Err` leaves what the session knows.
+pub(crate) fn next_message(
+    alloc: Global,
+    session: &mut Session,
+    id: u16,
+) -> Result<NextMessage, AllocError>
+    ensures { TakesTurn id result session.old session.new }
+{
+    match session.turn()? {
+        Turn::Ask(question) => {
+            let message = question_bytes(alloc, id, &question)?;
+            Ok(NextMessage::Ask { question, message })
+        }
+        Turn::Said(said) => Ok(NextMessage::Said(said)),
+    }
+}
+
+/// What a pending query does that got a fact.
+#[derive(Drop)]
+pub(crate) enum Resumed {
+    /// It asks again in this message, and is pending still.
+    Asks { message: Octets, pending: Pending },
+    /// It is answered.
+    Said(Said),
+}
+
+impl Pending {
+    /// The query once it has the fact that it waits for. Where it asks again, its message has this ID. An `Err` (out of memory)
+    /// gives the query back as it was.
+    pub(crate) fn resume(self, alloc: Global, fact: Fact, id: u16) -> Result<Resumed, Pending>
+        ensures { Resumes id fact self result }
+    {
+        let Pending {
+            mut session,
+            question: asked,
+            id: asked_id,
+        } = self;
+        if session.give(fact).is_err() {
+            return Err(Pending {
+                session,
+                question: asked,
+                id: asked_id,
+            });
+        }
+        match next_message(alloc, &mut session, id) {
+            Ok(NextMessage::Ask { question, message }) => {
+                let pending = Pending {
+                    session,
+                    question,
+                    id,
+                };
+                Ok(Resumed::Asks { message, pending })
+            }
+            Ok(NextMessage::Said(said)) => Ok(Resumed::Said(said)),
+            Err(_) => {
+                session.take_back();
+                Err(Pending {
+                    session,
+                    question: asked,
+                    id: asked_id,
+                })
+            }
+        }
+    }
+}

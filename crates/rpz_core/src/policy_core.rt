@@ -1,0 +1,156 @@
+//! The core.
+
+ghost use Rattle.std.specs.Prelude.{◌≡◌, ◌≤◌, length, map, IfOk, IsSome, is_some};
+ghost use Rattle.zone_rows.specs.declared.zone.TheConstants.{ZONE_LIMIT};
+ghost use Rattle.policy_snapshot.specs.Policy.{zone_at};
+ghost use Rattle.rpz_core.specs.State.{Steps, apply_step, core_step, full_step, new_core, seen, state_of, transfer_step};
+ghost use Rattle.rpz_core.specs.World.{World, world_step};
+
+use crate::event::{CoreError, CoreFault, Event, Output, Refusal};
+use crate::laws::the_core_does_what_the_world_does;
+use crate::sessions::{Sessions, WORKERS};
+use crate::transfer::{read_stream, taken};
+use axfr_apply::{Taken, TransferError};
+use dns_name::{Name, Octets};
+use policy_snapshot::Snapshot;
+use std::alloc::{AllocError, Global};
+use std::marker::Model;
+use std::sync::Arc;
+use zone_rows::{ApplyError, Transfer};
+
+/// The policy as it is, and the workers with their pending queries. Contracts see both; a pending query holds the policy that
+/// it came under, which stays as it is when a transfer is taken.
+#[derive(Drop)]
+pub struct Core {
+    alloc: Global,
+    policy: Arc<Snapshot, Global>,
+    sessions: Sessions,
+}
+
+impl Model for Core {
+    ghost use Rattle.rpz_core.specs.State.{CoreState};
+
+    ghost Value = { CoreState };
+
+    ghost view = { λ c. record { policy = c.policy.value; sessions = c.sessions } };
+}
+
+impl Core {
+    /// Zones of these origins in this order, at most 32, with nothing loaded, and no query is pending.
+    pub fn start(alloc: Global, origins: &[Name]) -> Result<Self, AllocError>
+        requires { length origins.now ≤ ZONE_LIMIT }
+        ensures { IfOk result (λ core. core ≡ new_core origins.now) }
+    {
+        let policy = Arc::new(alloc, Snapshot::start(alloc, origins)?)?;
+        let sessions = Sessions::new(alloc)?;
+        Ok(Core {
+            alloc,
+            policy,
+            sessions,
+        })
+    }
+
+    /// How many zones the policy has.
+    pub fn zone_count(&self) -> usize
+        ensures { result ≡ length self.now.policy.zones }
+    {
+        self.policy.zone_count()
+    }
+
+    /// Which workers have a pending query.
+    pub fn pending(&self) -> [bool; WORKERS]
+        ensures { result ≡ map is_some self.now.sessions.workers }
+    {
+        self.sessions.pending()
+    }
+
+    /// What an event does, and what it outputs: each event but Full and Clock outputs something. A fault leaves the core as it
+    /// was, and so does an event for which memory doesn't suffice.
+    pub fn step(&mut self, event: Event) -> Result<Output, CoreError>
+        ensures core { Steps (core_step self.old event) result self.old self.new }
+        ensures world { (world : World) → self.old ≡ state_of world →
+            Steps (seen (world_step world event)) result self.old self.new }
+    {
+        the_core_does_what_the_world_does();
+        self.take_event(event)
+    }
+
+    // What an event does to the state of the core.
+    #[tactic(auto, unfolding(crate::specs::State::core_step))]
+    fn take_event(&mut self, event: Event) -> Result<Output, CoreError>
+        ensures { Steps (core_step self.old event) result self.old self.new }
+    {
+        match event {
+            Event::Transfer { zone, stream } => self.take_transfer(zone, stream),
+            Event::Full { zone } => self.full(zone),
+            Event::Query {
+                worker,
+                transport,
+                client,
+                message,
+            } => self.sessions.take_query(
+                self.alloc,
+                &self.policy,
+                worker,
+                transport,
+                client,
+                message.as_slice(),
+            ),
+            Event::Give { worker, message } => {
+                self.sessions.take_answer(self.alloc, worker, message)
+            }
+            Event::Fail { worker } => self.sessions.take_failure(self.alloc, worker),
+            Event::Clock { .. } => Ok(Output::None),
+        }
+    }
+
+    // The zone of this number is to be transferred in full next.
+    fn full(&self, number: u32) -> Result<Output, CoreError>
+        ensures { Steps (full_step self.now (zone_at self.now.policy.zones number)) result self.now self.now }
+    {
+        match self.policy.zone(number) {
+            None => Err(CoreError::Fault(CoreFault::NoZone)),
+            Some(_) => Ok(Output::None),
+        }
+    }
+
+    // A stream comes as the transfer of the zone of this number.
+    fn take_transfer(&mut self, number: u32, stream: Octets) -> Result<Output, CoreError>
+        ensures { Steps (transfer_step self.old number stream (zone_at self.old.policy.zones number)) result self.old self.new }
+    {
+        let Some(zone) = self.policy.zone(number) else {
+            return Err(CoreError::Fault(CoreFault::NoZone));
+        };
+        match read_stream(self.alloc, stream, zone.origin(), zone.serial()) {
+            Ok(Taken::Current { theirs }) => Ok(Output::Current {
+                zone: number,
+                serial: theirs,
+            }),
+            Ok(Taken::New(transfer)) => self.apply(number, transfer),
+            Err(TransferError::Fault(fault)) => Ok(Output::Refused {
+                zone: number,
+                refusal: Refusal::Transfer(fault),
+            }),
+            Err(TransferError::OutOfMemory) => Err(CoreError::OutOfMemory),
+        }
+    }
+
+    // The zone of this number takes a transfer, if it can.
+    fn apply(&mut self, number: u32, transfer: Transfer) -> Result<Output, CoreError>
+        requires { IsSome (zone_at self.old.policy.zones number) }
+        ensures { Steps (apply_step self.old number transfer (zone_at self.old.policy.zones number)) result self.old self.new }
+    {
+        match self.policy.apply(self.alloc, number, transfer) {
+            Ok(next) => {
+                let output = taken(&next, number);
+                self.policy = Arc::new(self.alloc, next)?;
+                Ok(output)
+            }
+            Err(ApplyError::Fault(fault)) => Ok(Output::Refused {
+                zone: number,
+                refusal: Refusal::Apply(fault),
+            }),
+            Err(ApplyError::OutOfMemory) => Err(CoreError::OutOfMemory),
+        }
+    }
+}

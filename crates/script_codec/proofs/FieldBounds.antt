@@ -1,0 +1,92 @@
+-- What holds of a field that is read.
+use Rattle.std.proofs.Common.{◌≡◌, ℕ, ◌≤◌, true, false, not, eqb, ltb, leb, List, [], ◌∷◌, length, Result, Ok, Err, subst, arith}
+use Rattle.std.specs.List.{AllByRecursion}
+use Rattle.std.proofs.lemmas.Bool.{cond_both, eqb-false, ltb-false, leb-true, leb-false, and_parts, not-false}
+use Rattle.dns_name.specs.Labels.{IsLabel, IsName, name_octets}
+use Rattle.dns_name.specs.Text.{has_label_lengths, has_text_bytes, text_labels, text_name, without_last_dot}
+use Rattle.dns_name.specs.declared.limits.TheConstants.{LABEL_LIMIT, NAME_LIMIT}
+use Rattle.zone_rows.specs.declared.zone.TheConstants.{ZONE_LIMIT}
+use Rattle.dns_name.specs.declared.fault.TextFault.{TextFault}
+use Rattle.script_codec.specs.declared.field.TheConstants.{MESSAGE_BYTES}
+use Rattle.script_codec.specs.declared.state.TheConstants.{WORKERS}
+use Rattle.script_codec.specs.declared.why.Why.TheVariants as why
+use Rattle.script_codec.specs.Field.{or_refused, name_of, number_of, zone_of, worker_of, bytes_of, message_of}
+use Rattle.script_codec.specs.Outcome.{refuse_if}
+use Rattle.script_codec.specs.State.{PlainState, opening, running, opens}
+use Rattle.script_codec.specs.Within.{IsWorker, IsMessage, MayOpen}
+use Rattle.script_codec.proofs.Binding.{bind_ok, not_refused, ok_is}
+
+-- zones
+
+not_zero : (n : ℕ) → eqb n 0 ≡ false → 1 ≤ n
+not_zero n h = omega (arith, eqb-false n 0 h)
+
+pub zone_bounds : (zones : ℕ) (digits : List ℕ) (zone : ℕ) → zone_of zones digits ≡ Ok zone → (1 ≤ zone) × (zone ≤ zones)
+unfolding zone_of
+zone_bounds zones digits zone e =
+    let a = bind_ok (number_of digits) _ zone e in
+    let b = bind_ok (refuse_if (eqb a.0 0) why.NoZone) _ zone a.2 in
+    let c = bind_ok (refuse_if (ltb zones a.0) why.NoZone) _ zone b.2 in
+    subst (λ n. (1 ≤ n) × (n ≤ zones)) (ok_is a.0 zone c.2) (not_zero a.0 (not_refused _ why.NoZone b.0 b.1), ltb-false zones a.0 (not_refused _ why.NoZone c.0 c.1))
+
+-- workers
+
+pub worker_bounds : (digits : List ℕ) (worker : ℕ) → worker_of digits ≡ Ok worker → IsWorker worker
+unfolding worker_of
+worker_bounds digits worker e =
+    let a = bind_ok (number_of digits) _ worker e in
+    let b = bind_ok (refuse_if (leb WORKERS a.0) why.NoWorker) _ worker a.2 in
+    subst IsWorker (ok_is a.0 worker b.2) (leb-false WORKERS a.0 (not_refused _ why.NoWorker b.0 b.1))
+
+-- messages
+
+pub message_bounds : (text message : List ℕ) → message_of text ≡ Ok message → IsMessage message
+unfolding message_of
+message_bounds text message e =
+    let a = bind_ok (bytes_of text) _ message e in
+    let b = bind_ok (refuse_if (ltb MESSAGE_BYTES (length a.0)) why.Long) _ message a.2 in
+    subst IsMessage (ok_is a.0 message b.2) (ltb-false MESSAGE_BYTES (length a.0) (not_refused _ why.Long b.0 b.1))
+
+-- zones that may be opened
+
+pub may_open : (state : PlainState) (origin : List (List ℕ)) (u : Unit {0}) → opens state origin ≡ Ok u → MayOpen state origin
+unfolding opens
+may_open (opening origins) origin u e =
+    let a = bind_ok (refuse_if (leb ZONE_LIMIT (length origins)) why.Many) _ u e in
+    (leb-false ZONE_LIMIT (length origins) (not_refused _ why.Many a.0 a.1), not_refused _ why.Repeated u a.2)
+may_open (running zones pending) origin u e = absurd cc
+
+-- names
+
+labels_are : (labels : List (List ℕ)) → has_label_lengths labels ≡ true → AllByRecursion IsLabel labels
+labels_are [] h = tt
+labels_are (label ∷ labels) h =
+    let both = and_parts _ _ h in
+    let parts = and_parts _ _ both.0 in
+    (record { not_empty = leb-true 1 (length label) parts.0; short = leb-true (length label) LABEL_LIMIT parts.1 }, labels_are labels both.1)
+
+one_name : {A : Type 0} (x y : A) → (let r : Result A TextFault = Ok x in r ≡ Ok y) → x ≡ y
+one_name x y e = cc
+
+abbrev GivesName : List (List ℕ) → Result (List (List ℕ)) TextFault → Type 0
+GivesName name read = read ≡ Ok name → IsName name
+
+pub text_is_name : (text : List ℕ) (name : List (List ℕ)) → text_name text ≡ Ok name → IsName name
+unfolding text_name
+text_is_name text name =
+    cond_both (eqb (length (without_last_dot text)) 0) _ _ (GivesName name)
+    (λ t e. absurd cc)
+    (λ t. cond_both (not (has_text_bytes text)) _ _ (GivesName name)
+    (λ t e. absurd cc)
+    (λ t. cond_both (not (has_label_lengths (text_labels text))) _ _ (GivesName name)
+    (λ t e. absurd cc)
+    (λ lengths. cond_both (ltb NAME_LIMIT (length (name_octets (text_labels text)))) _ _ (GivesName name)
+    (λ t e. absurd cc)
+    (λ short e. subst IsName (one_name (text_labels text) name e) (record { labels = labels_are (text_labels text) (not-false _ lengths); short = ltb-false NAME_LIMIT _ short })))))
+
+refused_or : (r : Result (List (List ℕ)) TextFault) (name : List (List ℕ)) → or_refused r why.Name ≡ Ok name → r ≡ Ok name
+refused_or (Ok x) name e = cc
+refused_or (Err fault) name e = absurd cc
+
+pub name_bounds : (text : List ℕ) (name : List (List ℕ)) → name_of text ≡ Ok name → IsName name
+name_bounds text name e = text_is_name text name (refused_or (text_name text) name e)
