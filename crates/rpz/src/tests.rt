@@ -1,6 +1,7 @@
 //! Runs whose reads and writes fail, and what is told of a status. What runs answer stands in scenarios/.
 
 use edge_io::{ListSink, ListSource};
+use rpz_program::laws::a_line_of_the_grammar_is_done;
 use rpz_program::run::{replayed, run};
 use rpz_program::status::Status;
 use std::alloc::{AllocError, Global};
@@ -58,6 +59,8 @@ fn each_write_fails(rt: HostRuntime) -> Result<(), Fail> {
 
 #[test]
 fn a_script_in_memory_is_replayed(rt: HostRuntime) -> Result<(), Fail> {
+    // a law of its lines, which does nothing
+    a_line_of_the_grammar_is_done();
     let alloc = rt.alloc();
     let (status, out) = run_failing(alloc, Vec::new(alloc), Vec::new(alloc))?;
     assert_eq!(rt; status, Status::Done);

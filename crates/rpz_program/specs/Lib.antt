@@ -1,12 +1,4 @@
-pub mod Lines
-pub mod Reader
-pub mod Fold
-pub mod Abstraction
-pub mod Replay
-pub mod Policy
-pub mod Offer
-pub mod Desk
-pub mod World
-pub mod CoreSteps
+pub mod Script
+pub mod Stage
 pub mod Run
 pub mod Status

@@ -2,12 +2,10 @@
 //! sink and memory.
 #![tactic(auto)]
 
-mod desk;
-mod policy_core;
-mod reader;
+mod answering;
+pub mod laws;
+mod origins;
 pub mod run;
-mod script;
+mod showing;
+mod stage;
 pub mod status;
-mod transfer_bytes;
-mod transfers;
-mod waiting;

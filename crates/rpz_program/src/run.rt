@@ -2,15 +2,15 @@
 
 ghost use Rattle.std.specs.Prelude.{◌≡◌, ◌≢◌, ◌↔◌, ◌+◌, ◌-◌, ◌≤◌, ◌^◌, ℕ, [], Some, Err, IfErr, IfOk, IfSome, IsOk, IsTrue};
 ghost use Rattle.edge_io.specs.Edge.{appended, Rose};
-ghost use Rattle.rpz_program.specs.Replay.{Blames, Moved, ReadsNoFurther};
-ghost use Rattle.rpz_program.specs.Run.{AnswersEnded, BeginsTranscript, Ends, IsFirstBadLine, IsReplay, IsVerdict, IsWholeScript};
-ghost use Rattle.rpz_program.specs.World.{transcript, verdict};
+ghost use Rattle.script_loop.specs.Replay.{Blames, Moves, ReadsNoFurther};
+ghost use Rattle.rpz_program.specs.Run.{AnswersWholeLines, BeginsTranscript, Ends, IsFirstBadLine, IsReplay, IsVerdict, IsWholeScript};
+ghost use Rattle.rpz_program.specs.Script.{transcript, verdict};
 
-use crate::policy_core::Core;
-use crate::script::{Stop, replay};
+use crate::stage::Stage;
 use crate::status::Status;
 use edge_io::{Bytes, ListSink, Sink, Source};
 use script_codec::Why;
+use script_loop::replay::{Stop, replay};
 use std::alloc::{AllocError, Global};
 
 /// Runs the command that the words name: `replay` reads a script from the source, and writes a line for
@@ -26,7 +26,8 @@ pub fn run<S: Source, K: Sink>(
 ) -> Status
     // It needs the one word `replay`, and touches nothing without.
     ensures usage { (result ≡ Status.Usage) ↔ (IsReplay words.now → ⊥) }
-    ensures untouched { result ≡ Status.Usage → (S.left script.new ≡ S.left script.old) × (K.held out.new ≡ K.held out.old) }
+    ensures untouched { result ≡ Status.Usage → (S.left script.new ≡ S.left script.old) ×
+        (K.held out.new ≡ K.held out.old) }
 
     // The whole script was read, and its transcript written.
     ensures done { result ≡ Status.Done → IfSome (S.left script.old) (λ bytes.
@@ -41,13 +42,15 @@ pub fn run<S: Source, K: Sink>(
         ReadsNoFurther line (S.left script.old) (S.left script.new) }
 
     // After a fault of the source, each line whose line feed was read is answered.
-    ensures read_fault { result ≡ Status.ReadFault → Moved (S.left script.old) (S.left script.new) (K.held out.old) (K.held out.new) AnswersEnded }
+    ensures read_fault { result ≡ Status.ReadFault →
+        Moves (S.left script.old) (S.left script.new) (K.held out.old) (K.held out.new) AnswersWholeLines }
 
     // Whatever happens, what was written begins the transcript of what was read.
-    ensures prefix { Moved (S.left script.old) (S.left script.new) (K.held out.old) (K.held out.new) BeginsTranscript }
+    ensures prefix { Moves (S.left script.old) (S.left script.new) (K.held out.old) (K.held out.new) BeginsTranscript }
 
     // It blames the source or the sink only where a call on it failed.
-    ensures source_failed { result ≡ Status.ReadFault → Rose (S.faults script.old) (S.faults script.new) }
+    ensures source_failed { result ≡ Status.ReadFault →
+        Rose (S.faults script.old) (S.faults script.new) }
     ensures sink_failed { result ≡ Status.WriteFault → Rose (K.faults out.old) (K.faults out.new) }
 
     // With no fault and with memory, a script of the grammar is done, and another is refused at its first bad line.
@@ -84,19 +87,20 @@ fn replay_script<S: Source, K: Sink>(
     ensures ends { Ends result (S.left script.old) (S.left script.new) (K.held out.old) (K.held out.new) }
     ensures no_further { (line : ℕ) (why : Why) → result ≡ Err (Stop.BadLine line why) →
         ReadsNoFurther line (S.left script.old) (S.left script.new) }
-    ensures prefix { Moved (S.left script.old) (S.left script.new) (K.held out.old) (K.held out.new) BeginsTranscript }
-    ensures fault { IfErr result (λ stop. Blames stop (Rose (S.faults script.old) (S.faults script.new)) (Rose (K.faults out.old) (K.faults out.new))) }
+    ensures prefix { Moves (S.left script.old) (S.left script.new) (K.held out.old) (K.held out.new) BeginsTranscript }
+    ensures fault { IfErr result
+        (λ stop. Blames stop (Rose (S.faults script.old) (S.faults script.new)) (Rose (K.faults out.old) (K.faults out.new))) }
 {
-    match Core::new(alloc) {
-        Ok(mut core) => replay(alloc, &mut core, script, out),
-        Err(_) => Err(Stop::OutOfMemory),
-    }
+    let mut stage = Stage::new(alloc);
+    replay(alloc, &mut stage, script, out)
 }
 
 /// The transcript of a script in memory, if no line of it is refused.
 pub fn replayed(alloc: Global, script: Vec<u8>) -> Result<Vec<u8>, Status>
-    ensures ok { IfOk result (λ out. IsOk (verdict script.items) × (out.items ≡ transcript script.items)) }
-    ensures bad_line { (line : ℕ) (why : _) → result ≡ Err (Status.BadLine line why) → verdict script.items ≡ Err (line, why) }
+    ensures ok { IfOk result (λ out. IsOk (verdict script.items) ×
+        (out.items ≡ transcript script.items)) }
+    ensures bad_line { (line : ℕ) (why : _) → result ≡ Err (Status.BadLine line why) →
+        verdict script.items ≡ Err (line, why) }
     ensures read_fault { result ≢ Err Status.ReadFault }
     ensures not_done { result ≢ Err Status.Done }
     ensures usage { result ≢ Err Status.Usage }

@@ -1,0 +1,155 @@
+-- In a world that a script reaches, a line of the grammar is done.
+use Rattle.std.proofs.Common.{◌≡◌, ℕ, zero, suc, ◌-◌, ◌==◌, ◌<◌, ◌≤◌, true, false, List, [], ◌∷◌, ◌++◌, Option, Some, None, Result, Ok, Err, length, map, replicate, refl, sym, ap, subst, ◌∙◌, arith}
+use Rattle.std.proofs.lemmas.Bool.Decides.{nat_tests}
+use Rattle.std.specs.Prelude.{IsOk, is_some, slice_get, slice_index_or, ⊤}
+use Rattle.script_codec.specs.declared.line.Line.{Line}
+use Rattle.script_codec.specs.declared.line.Line.TheVariants.{Zone, Transfer, Full, Query, Give, Fail, Clock}
+use Rattle.script_codec.specs.declared.why.Why.{Why}
+use Rattle.script_codec.specs.Line.{unnumbered_line}
+use Rattle.script_codec.specs.State.{zone_count, is_pending}
+use Rattle.script_codec.specs.Within.{IsWithin, IsZone, MayOpen}
+use Rattle.script_codec.proofs.LineBounds.{line_within}
+use Rattle.script_loop.specs.Abstraction.{outcome_along}
+use Rattle.zone_rows.specs.declared.zone.PlainZone.{PlainZone}
+use Rattle.policy_snapshot.specs.Policy.{zone_at}
+use Rattle.policy_snapshot.proofs.Standing.{policy_length}
+use Rattle.rpz_core.specs.declared.event.CoreFault.{CoreFault}
+use Rattle.rpz_core.specs.declared.event.Event.{Event}
+use Rattle.rpz_core.specs.declared.event.Event.TheVariants as event
+use Rattle.rpz_core.specs.declared.event.Output.{Output}
+use Rattle.rpz_core.specs.declared.sessions.TheConstants.{WORKERS}
+use Rattle.rpz_core.specs.Faults.{zone_fault, query_fault, fact_fault, fault_of}
+use Rattle.rpz_core.specs.Sessions.{PendingQuery}
+use Rattle.rpz_core.specs.World.{World, policy_of, world_step}
+use Rattle.rpz_core.proofs.Outputs.{step_keeps}
+use Rattle.rpz_core.proofs.Refusals.{refused_by_state}
+use Rattle.rpz_program.specs.Script.{ScriptWorld, opening, running, IsReached, at_start, after_line, state_in, world_in, shown_outcome, event_outcome, zone_outcome, line_outcome, text_outcome}
+
+-- ---- a world that is reached has its workers
+
+abbrev HasWorkers : ScriptWorld → Type 0
+HasWorkers (opening origins) = ⊤
+HasWorkers (running world) = length world.sessions.workers ≡ WORKERS
+
+workers_in : (w : ScriptWorld) → HasWorkers w → length (world_in w).sessions.workers ≡ WORKERS
+workers_in (opening origins) h = refl
+workers_in (running world) h = h
+
+abbrev Outcome : Type 0
+Outcome = Result (ScriptWorld × List ℕ) Why
+
+pairs_are : (given next : ScriptWorld × List ℕ) → (let o : Outcome = Ok given in o ≡ Ok next) → given ≡ next
+pairs_are given next e = cc
+
+done_is : (given next : ScriptWorld) (octets out : List ℕ) → (let o : Outcome = Ok (given, octets) in o ≡ Ok (next, out)) → given ≡ next
+done_is given next octets out e = ap (λ (p : ScriptWorld × List ℕ). p.0) (pairs_are (given, octets) (next, out) e)
+
+abbrev KeepsWorkers : ScriptWorld → Outcome → Type 0
+KeepsWorkers next outcome = (out : List ℕ) → outcome ≡ Ok (next, out) → HasWorkers next
+
+event_if : (world : World) (next : ScriptWorld) (e : Event) (r : Result (World × Output) CoreFault) → length world.sessions.workers ≡ WORKERS → world_step world e ≡ r → KeepsWorkers next (outcome_along running (shown_outcome r))
+event_if world next e (Ok given) h is out same = subst HasWorkers (done_is (running given.0) next _ out same) ((step_keeps world given.0 e given.1 is).workers ∙ h)
+event_if world next e (Err fault) h is out same = absurd cc
+
+event_keeps : (w next : ScriptWorld) (e : Event) → HasWorkers w → KeepsWorkers next (event_outcome w e)
+event_keeps w next e h = event_if (world_in w) next e (world_step (world_in w) e) (workers_in w h) refl
+
+zone_keeps : (w next : ScriptWorld) (origin : List (List ℕ)) → KeepsWorkers next (zone_outcome w origin)
+zone_keeps (opening origins) next origin out is = subst HasWorkers (done_is (opening (origins ++ origin ∷ [])) next [] out is) tt
+zone_keeps (running world) next origin out is = absurd cc
+
+line_keeps : (w next : ScriptWorld) (line : Line) → HasWorkers w → KeepsWorkers next (line_outcome w line)
+unfolding line_outcome
+line_keeps w next (Zone origin) h = zone_keeps w next origin
+line_keeps w next (Transfer zone stream) h = event_keeps w next (event.Transfer zone stream) h
+line_keeps w next (Full zone) h = event_keeps w next (event.Full zone) h
+line_keeps w next (Query worker transport client message) h = event_keeps w next (event.Query worker transport client message) h
+line_keeps w next (Give worker message) h = event_keeps w next (event.Give worker message) h
+line_keeps w next (Fail worker) h = event_keeps w next (event.Fail worker) h
+line_keeps w next (Clock seconds) h = event_keeps w next (event.Clock seconds) h
+
+text_keeps : (w next : ScriptWorld) (read : Result (Option Line) Why) → HasWorkers w → KeepsWorkers next (text_outcome w read)
+text_keeps w next (Err why) h out is = absurd cc
+text_keeps w next (Ok None) h out is = subst HasWorkers (done_is w next [] out is) h
+text_keeps w next (Ok (Some line)) h out is = line_keeps w next line h out is
+
+reached_workers : (w : ScriptWorld) → IsReached w → HasWorkers w
+reached_workers w at_start = tt
+reached_workers w (after_line world next text out before is) = text_keeps world next (unnumbered_line text (state_in world)) (reached_workers world before) out is
+
+-- ---- a line within its state has no fault
+
+zone_there : (zones : List PlainZone) (place : ℕ) → place < length zones → zone_fault (slice_get zones place) ≡ None
+zone_there [] place h = absurd (omega (arith, h))
+zone_there (zone ∷ zones) zero h = refl
+zone_there (zone ∷ zones) (suc place) h = zone_there zones place (omega (arith, h))
+
+number_there : (zones : List PlainZone) (number : ℕ) → 1 ≤ number → number ≤ length zones → zone_fault (zone_at zones number) ≡ None
+number_there zones number low high =
+    let counts : (number == 0) ≡ false = grind (arith, nat_tests) in
+    rw counts (zone_there zones (number - 1) (omega (arith, low, high)))
+
+query_free : (workers : List (Option PendingQuery)) (k : ℕ) → k < length workers → slice_index_or (map is_some workers) k false ≡ false → query_fault (slice_get workers k) ≡ None
+query_free [] k h free = absurd (omega (arith, h))
+query_free (None ∷ workers) zero h free = refl
+query_free (Some pending ∷ workers) zero h free = absurd cc
+query_free (worker ∷ workers) (suc k) h free = query_free workers k (omega (arith, h)) free
+
+fact_awaited : (workers : List (Option PendingQuery)) (k : ℕ) → k < length workers → slice_index_or (map is_some workers) k false ≡ true → fact_fault (slice_get workers k) ≡ None
+fact_awaited [] k h busy = absurd (omega (arith, h))
+fact_awaited (None ∷ workers) zero h busy = absurd cc
+fact_awaited (Some pending ∷ workers) zero h busy = refl
+fact_awaited (worker ∷ workers) (suc k) h busy = fact_awaited workers k (omega (arith, h)) busy
+
+none_pending : (count k : ℕ) → slice_index_or (map is_some (replicate {A = Option PendingQuery} count None)) k false ≡ false
+none_pending zero k = refl
+none_pending (suc count) zero = refl
+none_pending (suc count) (suc k) = none_pending count k
+
+-- which workers are pending, in the world of the core
+pending_in : (w : ScriptWorld) (k : ℕ) → is_pending (state_in w) k ≡ slice_index_or (map is_some (world_in w).sessions.workers) k false
+pending_in (opening origins) k = sym (none_pending WORKERS k)
+pending_in (running world) k = refl
+
+zones_in : (w : ScriptWorld) → length (policy_of (world_in w)) ≡ zone_count (state_in w)
+zones_in (opening origins) = policy_length origins []
+zones_in (running world) = policy_length world.origins world.accepted
+
+zone_found : (w : ScriptWorld) (number : ℕ) → IsZone (state_in w) number → zone_fault (zone_at (policy_of (world_in w)) number) ≡ None
+zone_found w number h = number_there (policy_of (world_in w)) number h.0 (subst (λ (n : ℕ). number ≤ n) (sym (zones_in w)) h.1)
+
+worker_found : (w : ScriptWorld) (k : ℕ) → HasWorkers w → k < WORKERS → k < length (world_in w).sessions.workers
+worker_found w k has h = subst (λ (n : ℕ). k < n) (sym (workers_in w has)) h
+
+query_found : (w : ScriptWorld) (k : ℕ) → HasWorkers w → k < WORKERS → is_pending (state_in w) k ≡ false → query_fault (slice_get (world_in w).sessions.workers k) ≡ None
+query_found w k has h free = query_free (world_in w).sessions.workers k (worker_found w k has h) (sym (pending_in w k) ∙ free)
+
+fact_found : (w : ScriptWorld) (k : ℕ) → HasWorkers w → k < WORKERS → is_pending (state_in w) k ≡ true → fact_fault (slice_get (world_in w).sessions.workers k) ≡ None
+fact_found w k has h busy = fact_awaited (world_in w).sessions.workers k (worker_found w k has h) (sym (pending_in w k) ∙ busy)
+
+-- ---- so it is done
+
+event_done_if : (world : World) (e : Event) (r : Result (World × Output) CoreFault) → fault_of world e ≡ None → world_step world e ≡ r → IsOk (outcome_along running (shown_outcome r))
+event_done_if world e (Ok next) h is = refl
+event_done_if world e (Err fault) h is = let faulty = (refused_by_state world e fault).0 is in absurd cc
+
+event_done : (w : ScriptWorld) (e : Event) → fault_of (world_in w) e ≡ None → IsOk (event_outcome w e)
+event_done w e h = event_done_if (world_in w) e (world_step (world_in w) e) h refl
+
+zone_done : (w : ScriptWorld) (origin : List (List ℕ)) → MayOpen (state_in w) origin → IsOk (zone_outcome w origin)
+zone_done (opening origins) origin h = refl
+zone_done (running world) origin h = absurd h
+
+within_done : (w : ScriptWorld) (line : Line) → HasWorkers w → IsWithin (state_in w) line → IsOk (line_outcome w line)
+unfolding line_outcome
+within_done w (Zone origin) has h = zone_done w origin h.1
+within_done w (Transfer zone stream) has h = event_done w (event.Transfer zone stream) (zone_found w zone h)
+within_done w (Full zone) has h = event_done w (event.Full zone) (zone_found w zone h)
+within_done w (Query worker transport client message) has h = event_done w (event.Query worker transport client message) (query_found w worker has h.0 h.2)
+within_done w (Give worker message) has h = event_done w (event.Give worker message) (fact_found w worker has h.0 h.2)
+within_done w (Fail worker) has h = event_done w (event.Fail worker) (fact_found w worker has h.0 h.1)
+within_done w (Clock seconds) has h = event_done w (event.Clock seconds) refl
+
+-- A line of the grammar is done in every world that is reached.
+pub line_done : (w : ScriptWorld) (text : List ℕ) (line : Line) → IsReached w → unnumbered_line text (state_in w) ≡ Ok (Some line) → IsOk (line_outcome w line)
+line_done w text line reached is = within_done w line (reached_workers w reached) (line_within text (state_in w) line is)

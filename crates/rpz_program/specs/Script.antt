@@ -1,0 +1,131 @@
+-- The world of a script, and what its lines do to it.
+use Rattle.std.specs.Prelude.{◌≡◌, ℕ, List, [], ◌∷◌, ◌++◌, length, map, Option, Some, None, is_some, Result, Ok, Err}
+use Rattle.script_codec.specs.declared.line.Line.{Line}
+use Rattle.script_codec.specs.declared.line.Line.TheVariants.{Zone, Transfer, Full, Query, Give, Fail, Clock}
+use Rattle.script_codec.specs.declared.refusal.Refusal as reasons
+use Rattle.script_codec.specs.declared.refusal.Refusal.TheVariants as reason
+use Rattle.script_codec.specs.declared.shown.Shown.{Shown}
+use Rattle.script_codec.specs.declared.shown.Shown.TheVariants as shown
+use Rattle.script_codec.specs.declared.why.Why.{Why}
+use Rattle.script_codec.specs.declared.why.Why.TheVariants as why
+use Rattle.script_codec.specs.Line.{unnumbered_line}
+use Rattle.script_codec.specs.Shown.{shown_line}
+use Rattle.script_codec.specs.State.{PlainState}
+use Rattle.script_codec.specs.State as state
+use Rattle.rpz_core.specs.declared.event.CoreFault.{CoreFault}
+use Rattle.rpz_core.specs.declared.event.CoreFault.TheVariants as fault
+use Rattle.rpz_core.specs.declared.event.Event.{Event}
+use Rattle.rpz_core.specs.declared.event.Event.TheVariants as event
+use Rattle.rpz_core.specs.declared.event.Output.{Output}
+use Rattle.rpz_core.specs.declared.event.Output.TheVariants as output
+use Rattle.rpz_core.specs.declared.event.Refusal.{Refusal}
+use Rattle.rpz_core.specs.declared.event.Refusal.TheVariants as refusal
+use Rattle.rpz_core.specs.World.{World, new_world, world_step}
+use Rattle.script_loop.specs.Abstraction.{outcome_along}
+use Rattle.script_loop.specs.Fold as fold
+
+-- The zones that were opened so far, by their origins; and from the first line on that opens no zone, the world of the core.
+pub data ScriptWorld : Type 0 where
+  opening : List (List (List ℕ)) → ScriptWorld
+  running : World → ScriptWorld
+
+abbrev pub start : ScriptWorld
+start = opening []
+
+-- what lines are read by: how many zones there are, and which workers have a pending query
+abbrev pub state_in : ScriptWorld → PlainState
+state_in (opening origins) = state.opening origins
+state_in (running world) = state.running (length world.origins) (map is_some world.sessions.workers)
+
+-- the world of the core, which begins with the zones that were opened
+abbrev pub world_in : ScriptWorld → World
+world_in (opening origins) = new_world origins
+world_in (running world) = world
+
+-- the event that a line is; a zone line is none
+abbrev pub event_of : Line → Option Event
+event_of (Zone origin) = None
+event_of (Transfer zone stream) = Some (event.Transfer zone stream)
+event_of (Full zone) = Some (event.Full zone)
+event_of (Query worker transport client message) = Some (event.Query worker transport client message)
+event_of (Give worker message) = Some (event.Give worker message)
+event_of (Fail worker) = Some (event.Fail worker)
+event_of (Clock seconds) = Some (event.Clock seconds)
+
+-- a core that refuses an event refuses its line
+abbrev pub why_of : CoreFault → Why
+why_of fault.NoZone = why.NoZone
+why_of fault.NoWorker = why.NoWorker
+why_of fault.Pending = why.Busy
+why_of fault.NotPending = why.Idle
+
+abbrev pub reason_of : Refusal → reasons.Refusal
+reason_of (refusal.Transfer fault) = reason.Transfer fault
+reason_of (refusal.Apply fault) = reason.Apply fault
+
+-- what the transcript shows of an output
+abbrev pub shown_of : Output → Option Shown
+shown_of (output.Taken zone serial rows) = Some (shown.Taken zone serial rows)
+shown_of (output.Current zone serial) = Some (shown.Current zone serial)
+shown_of (output.Refused zone refusal) = Some (shown.Refused zone (reason_of refusal))
+shown_of (output.Ask worker message) = Some (shown.Ask worker message)
+shown_of (output.Reply worker message) = Some (shown.Reply worker message)
+shown_of (output.Silent worker) = Some (shown.Silent worker)
+shown_of output.None = None
+
+abbrev pub shown_octets : Option Shown → List ℕ
+shown_octets None = []
+shown_octets (Some s) = shown_line s
+
+-- a step of the core as a line of the transcript, or why its line is refused
+abbrev pub shown_outcome : {S : Type 0} → Result (S × Output) CoreFault → Result (S × List ℕ) Why
+shown_outcome (Ok next) = Ok (next.0, shown_octets (shown_of next.1))
+shown_outcome (Err fault) = Err (why_of fault)
+
+-- a zone is opened, before any other line
+abbrev pub zone_outcome : ScriptWorld → List (List ℕ) → Result (ScriptWorld × List ℕ) Why
+zone_outcome (opening origins) origin = Ok (opening (origins ++ origin ∷ []), [])
+zone_outcome (running world) origin = Err why.Late
+
+-- any other line is an event of the core
+abbrev pub event_outcome : ScriptWorld → Event → Result (ScriptWorld × List ℕ) Why
+event_outcome world event = outcome_along running (shown_outcome (world_step (world_in world) event))
+
+-- the world after a line, and what the line writes; or why it is refused
+unfoldable pub line_outcome : ScriptWorld → Line → Result (ScriptWorld × List ℕ) Why
+line_outcome world (Zone origin) = zone_outcome world origin
+line_outcome world (Transfer zone stream) = event_outcome world (event.Transfer zone stream)
+line_outcome world (Full zone) = event_outcome world (event.Full zone)
+line_outcome world (Query worker transport client message) = event_outcome world (event.Query worker transport client message)
+line_outcome world (Give worker message) = event_outcome world (event.Give worker message)
+line_outcome world (Fail worker) = event_outcome world (event.Fail worker)
+line_outcome world (Clock seconds) = event_outcome world (event.Clock seconds)
+
+-- the same of the bytes of a line: nothing where it is skipped
+abbrev pub text_outcome : ScriptWorld → Result (Option Line) Why → Result (ScriptWorld × List ℕ) Why
+text_outcome world (Err why) = Err why
+text_outcome world (Ok None) = Ok (world, [])
+text_outcome world (Ok (Some line)) = line_outcome world line
+
+abbrev pub step : ScriptWorld → List ℕ → Result (ScriptWorld × List ℕ) Why
+step world text = text_outcome world (unnumbered_line text (state_in world))
+
+-- why a line is refused whatever it says
+abbrev pub too_many : Why
+too_many = why.Lines
+
+abbrev pub too_long : Why
+too_long = why.TooLong
+
+-- The transcript of a script: what its lines write from the start on, up to the first that is refused.
+abbrev pub transcript : List ℕ → List ℕ
+transcript script = fold.transcript too_many too_long step start script
+
+-- the world after a script, or the number of the first line that is refused, and why
+abbrev pub verdict : List ℕ → Result (ℕ × ScriptWorld) (ℕ × Why)
+verdict script = fold.verdict too_many too_long step start script
+
+-- The worlds that scripts reach.
+pub data IsReached : ScriptWorld → Type 0 where
+  at_start : IsReached start
+  after_line : (world next : ScriptWorld) (text out : List ℕ) → IsReached world → step world text ≡ Ok (next, out) → IsReached next

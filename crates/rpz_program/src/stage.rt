@@ -1,0 +1,158 @@
+//! How far a script is: its zones are opened, or the core runs.
+
+ghost use Rattle.std.specs.Prelude.{◌≡◌, []};
+ghost use Rattle.script_codec.specs.State.{state_of as state_seen};
+ghost use Rattle.script_codec.specs.Within.{IsWithin, MayOpen};
+ghost use Rattle.script_loop.specs.Replay.{Steps};
+ghost use Rattle.rpz_program.specs.Stage.{new_stage, stage_event, stage_line, stage_zone, state_in};
+
+use crate::answering::answer_event;
+use crate::origins::Origins;
+use dns_name::Name;
+use rpz_core::{Core, Event};
+use script_codec::{Line, ReadError, ScriptState, Why, read_unnumbered};
+use script_loop::{AnswerError, Machine};
+use std::alloc::Global;
+
+/// How far a script is.
+#[derive(Drop)]
+pub(crate) enum Stage {
+    /// Its zones are opened: only zone lines stood.
+    Opening(Origins),
+    /// The core runs, with the zones that were opened.
+    Running(Core),
+}
+
+impl Machine for Stage {
+    type Why = Why;
+
+    ghost use Rattle.script_codec.specs.declared.why.Why.TheVariants.{Lines, TooLong};
+    ghost use Rattle.rpz_program.specs.Stage.{stage_step};
+
+    ghost step = { stage_step };
+
+    ghost too_many = { Lines };
+
+    ghost too_long = { TooLong };
+
+    fn too_many() -> Why {
+        Why::Lines
+    }
+
+    fn too_long() -> Why {
+        Why::TooLong
+    }
+
+    fn answer(
+        &mut self,
+        alloc: Global,
+        line: &[u8],
+        reply: &mut Vec<u8>,
+    ) -> Result<(), AnswerError<Why>> {
+        match read_unnumbered(alloc, line, &self.state()) {
+            Ok(None) => Ok(()),
+            Ok(Some(line)) => self.take_line(alloc, line, reply),
+            Err(ReadError::Refused(why)) => Err(AnswerError::Refused(why)),
+            Err(ReadError::OutOfMemory) => Err(AnswerError::OutOfMemory),
+        }
+    }
+}
+
+impl Stage {
+    /// No zone is opened. It takes no memory.
+    pub(crate) fn new(alloc: Global) -> Self
+        ensures { result ≡ new_stage }
+    {
+        Stage::Opening(Origins::new(alloc))
+    }
+
+    // What lines are read by.
+    fn state(&self) -> ScriptState<'_>
+        ensures { state_seen result ≡ state_in self.now }
+    {
+        match self {
+            Stage::Opening(origins) => ScriptState::Opening {
+                origins: origins.names(),
+            },
+            Stage::Running(core) => ScriptState::Running {
+                zones: core.zone_count(),
+                pending: core.pending(),
+            },
+        }
+    }
+
+    // What a line does, and what it writes.
+    #[tactic(auto, unfolding(crate::specs::Stage::stage_line))]
+    fn take_line(
+        &mut self,
+        alloc: Global,
+        line: Line,
+        reply: &mut Vec<u8>,
+    ) -> Result<(), AnswerError<Why>>
+        requires reply { reply.old.items ≡ [] }
+        requires within { IsWithin (state_in self.old) line }
+        ensures { Steps (stage_line self.old line) result self.new reply.new.items }
+    {
+        match line {
+            Line::Zone { origin } => self.open(origin),
+            Line::Transfer { zone, stream } => {
+                self.take(alloc, Event::Transfer { zone, stream }, reply)
+            }
+            Line::Full { zone } => self.take(alloc, Event::Full { zone }, reply),
+            Line::Query {
+                worker,
+                transport,
+                client,
+                message,
+            } => {
+                let event = Event::Query {
+                    worker,
+                    transport,
+                    client,
+                    message,
+                };
+                self.take(alloc, event, reply)
+            }
+            Line::Give { worker, message } => {
+                self.take(alloc, Event::Give { worker, message }, reply)
+            }
+            Line::Fail { worker } => self.take(alloc, Event::Fail { worker }, reply),
+            Line::Clock { seconds } => self.take(alloc, Event::Clock { seconds }, reply),
+        }
+    }
+
+    // Opens a zone, which writes nothing.
+    fn open(&mut self, origin: Name) -> Result<(), AnswerError<Why>>
+        requires { MayOpen (state_in self.old) origin }
+        ensures { Steps (stage_zone self.old origin) result self.new [] }
+    {
+        match self {
+            Stage::Opening(origins) => {
+                origins.push(origin)?;
+                Ok(())
+            }
+            Stage::Running(_) => Err(AnswerError::Refused(Why::Late)),
+        }
+    }
+
+    // Takes an event; the first begins the core.
+    fn take(
+        &mut self,
+        alloc: Global,
+        event: Event,
+        reply: &mut Vec<u8>,
+    ) -> Result<(), AnswerError<Why>>
+        requires { reply.old.items ≡ [] }
+        ensures { Steps (stage_event self.old event) result self.new reply.new.items }
+    {
+        match self {
+            Stage::Running(core) => answer_event(alloc, core, event, reply),
+            Stage::Opening(origins) => {
+                let mut core = Core::start(alloc, origins.names().as_slice())?;
+                answer_event(alloc, &mut core, event, reply)?;
+                *self = Stage::Running(core);
+                Ok(())
+            }
+        }
+    }
+}
