@@ -230,7 +230,8 @@ class Reader:
             else:
                 raise Refused(f"not understood: {' '.join(words)}")
         if stream is None and serial is not None:
-            records = [soa_line(serial), *block, soa_line(serial)]
+            rows = [row for line in block for row in each_of(line)]
+            records = [soa_line(serial), *rows, soa_line(serial)]
             size = -(-len(records) // count)
             parts = [("", records[at:at + size]) for at in range(0, len(records), size)]
             stream = stream_of(parts, zone, compressed)
@@ -308,6 +309,14 @@ def take_client(words):
         raise Refused("udp or tcp, and `from ADDRESS`")
     address = ipaddress.ip_address(words.pop(0))
     return transport, str(address) if address.version == 4 else address.packed.hex()
+
+
+def each_of(text):
+    """The texts that a text with `{1..3}` stands for: one for each number."""
+    numbers = re.search(r"\{(\d+)\.\.(\d+)\}", text)
+    if not numbers:
+        return [text]
+    return [text.replace(numbers[0], str(number)) for number in range(int(numbers[1]), int(numbers[2]) + 1)]
 
 
 def messages_of(block):

@@ -20,7 +20,7 @@ from dataclasses import dataclass, field
 from pathlib import Path
 
 from dns_text import Refused
-from scenario_text import OUTPUTS, Reader, Shower, split_worker
+from scenario_text import each_of, OUTPUTS, Reader, Shower, split_worker
 
 TOP = Path(__file__).resolve().parent.parent
 FOLDER = TOP / "scenarios"
@@ -118,8 +118,9 @@ def cases_of(scenario, captures):
     reader, script, transcript, status = Reader(captures), b"", "", "0"
     for step in scenario.steps:
         try:
-            lines = reader.step(step.worker, step.text, step.block) if step.text else [b""]
-            for line in lines:
+            texts = [step.text] if step.text.startswith("line") else each_of(step.text)
+            steps = ([b""] if not text else reader.step(step.worker, text, step.block) for text in texts)
+            for line in (line for lines in steps for line in lines):
                 script += line
                 for text, block in step.expected:
                     refused = re.fullmatch(r"line (\d+) is refused: (\w+)", text)

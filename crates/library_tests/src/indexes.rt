@@ -1,5 +1,6 @@
 //! Look-ups in maps from patterns.
 
+use dns_name::laws::case_does_not_matter;
 use dns_name::{Name, Pattern};
 use qname_index::NameMap;
 use std::alloc::Global;
@@ -24,8 +25,9 @@ fn three(alloc: Global) -> Result<NameMap<u32>, Fail> {
 }
 
 fn best_number(alloc: Global, map: &NameMap<u32>, text: &[u8]) -> Result<Option<u32>, Fail> {
-    let name = Name::from_text(alloc, text)?;
-    match map.best(alloc, &name)? {
+    case_does_not_matter();
+    let name = Name::from_text(alloc, text)?.lower(alloc)?;
+    match map.best(&name) {
         Some((_pattern, number)) => Ok(Some(*number)),
         None => Ok(None),
     }

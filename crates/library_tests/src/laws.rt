@@ -7,5 +7,12 @@ fn laws_do_nothing() {
     dns_record::laws::a_record_is_read_by_its_grammar();
     dns_message::laws::a_message_is_read_by_its_grammar();
     dns_message::laws::a_message_is_read_as_it_is_spelled();
+    dns_record::laws::data_in_lower_case_have_the_same_parts();
     trigger_codec::laws::a_trigger_is_read_back();
+    rpz_precedence::laws::an_index_is_in_order_of_precedence();
+    policy_snapshot::laws::a_policy_takes_transfers_one_by_one();
+    script_codec::laws::a_line_is_within_its_state();
+    rpz_core::laws::an_event_is_refused_by_its_state();
+    rpz_core::laws::an_event_has_one_output();
+    rpz_core::laws::an_event_keeps_the_zones_and_the_workers();
 }

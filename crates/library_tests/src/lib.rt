@@ -14,6 +14,8 @@ mod laws;
 #[cfg(test)]
 mod names;
 #[cfg(test)]
+mod precedence;
+#[cfg(test)]
 mod prefixes;
 #[cfg(test)]
 mod records;

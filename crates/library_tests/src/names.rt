@@ -13,7 +13,7 @@ enum Made {
     LowerCase,
     Parent,
     Section,
-    Joined,
+    Join,
 }
 
 fn make(alloc: Global, name: &Name, what: Made) -> Result<Name, Fail> {
@@ -23,7 +23,7 @@ fn make(alloc: Global, name: &Name, what: Made) -> Result<Name, Fail> {
         Made::LowerCase => Ok(name.lower(alloc)?),
         Made::Parent => Ok(name.parent(alloc)?.ok_or("a parent")?),
         Made::Section => Ok(name.section(alloc, 1, 1)?),
-        Made::Joined => Ok(Name::join(alloc, name, name)?),
+        Made::Join => Ok(Name::join(alloc, name, name)?),
     }
 }
 
@@ -36,7 +36,7 @@ fn a_name_is_made_of_another(rt: HostRuntime) -> Result<(), Fail> {
         (Made::LowerCase, b"\x01f\x03isi\x04arpa\0"),
         (Made::Parent, b"\x03ISI\x04ARPA\0"),
         (Made::Section, b"\x03ISI\0"),
-        (Made::Joined, b"\x01F\x03ISI\x04ARPA\x01F\x03ISI\x04ARPA\0"),
+        (Made::Join, b"\x01F\x03ISI\x04ARPA\x01F\x03ISI\x04ARPA\0"),
     ] {
         let made = make(rt.alloc(), &name, what)?;
         assert_eq!(rt; made.octets(), octets);

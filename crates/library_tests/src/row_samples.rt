@@ -1,10 +1,10 @@
 //! A row and a zone that the tests of several crates use.
 
 use dns_name::Name;
-use dns_record::{class, read_record};
+use dns_record::{Row, class, read_record};
 use std::alloc::Global;
 use std::test::Fail;
-use zone_rows::{Row, Rows};
+use zone_rows::Rows;
 
 /// A rule about the name server `ns.test`: an alias of `*.`, which says that there are no records.
 pub const SERVER: &[u8] =

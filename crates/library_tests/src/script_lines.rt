@@ -1,13 +1,14 @@
 //! Lines of a script with their number.
 
 use dns_name::Name;
-use script_codec::{Line, ScriptState, read_line};
+use script_codec::{Line, Names, ScriptState, read_line};
 use std::test::Fail;
 
 #[test]
 fn a_line_is_read(rt: HostRuntime) -> Result<(), Fail> {
-    let mut state = ScriptState::new(rt.alloc());
-    state.zone_opened(Name::from_text(rt.alloc(), b"rpz.example")?)?;
+    let mut origins = Names::new(rt.alloc());
+    origins.push(Name::from_text(rt.alloc(), b"rpz.example")?)?;
+    let state = ScriptState::Opening { origins: &origins };
     let line = read_line(rt.alloc(), b"xfer 001 00aB", 2, &state)?;
     let Some(Line::Transfer { zone: 1, stream }) = line else {
         return Err("a transfer".into());

@@ -8,7 +8,7 @@ use std::test::Fail;
 use trigger_codec::{owner_of, trigger_of};
 
 // The canonical owner of the trigger that this owner has in the zone.
-fn spelled(alloc: Global, owner: &[u8], origin: &Name) -> Result<Name, Fail> {
+fn spelling(alloc: Global, owner: &[u8], origin: &Name) -> Result<Name, Fail> {
     let owner = Name::from_text(alloc, owner)?;
     let trigger = trigger_of(alloc, &owner, origin)?;
     Ok(owner_of(alloc, &trigger, origin)?)
@@ -43,7 +43,7 @@ fn a_trigger_has_one_canonical_owner(rt: HostRuntime) -> Result<(), Fail> {
         (b"*.Rpz-Nsdname.rpz.example", b"*.rpz-nsdname.rpz.example"),
     ] {
         let expected = Name::from_text(rt.alloc(), canonical)?;
-        let got = spelled(rt.alloc(), owner, &origin)?;
+        let got = spelling(rt.alloc(), owner, &origin)?;
         assert_eq!(rt; got.octets(), expected.octets());
     }
     Ok(())

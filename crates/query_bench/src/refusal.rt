@@ -1,26 +1,26 @@
 //! Why not all was answered.
 
-use axfr_apply::TransferError;
-use dns_name::NameError;
+use dns_name::TextError;
 use edge_io::{FrameError, SinkError};
+use rpz_core::CoreError;
 use script_codec::ReadError;
 use std::alloc::{AllocError, AllocFailed};
-use zone_rows::ApplyError;
 
 /// Why not all was answered.
 #[derive(Debug, Drop)]
 pub enum Refusal {
     OutOfMemory,
-    Origin(NameError),
-    Transfer(TransferError),
-    Apply(ApplyError),
+    Origin(TextError),
+    /// The input ended before the transfers did.
+    Ended,
     Frame(FrameError),
     Line(ReadError),
+    Core(CoreError),
     Write(SinkError),
-    /// Nothing was taken.
-    Empty,
-    /// The line is none that is answered here.
-    Other,
+    /// There are more than 32 zones, or a transfer was not taken.
+    NotTaken,
+    /// The line is neither `query` nor `give`.
+    OtherLine,
 }
 
 impl From<AllocError> for Refusal {
@@ -35,21 +35,9 @@ impl<T: Drop> From<AllocFailed<T>> for Refusal {
     }
 }
 
-impl From<NameError> for Refusal {
-    fn from(error: NameError) -> Self {
+impl From<TextError> for Refusal {
+    fn from(error: TextError) -> Self {
         Refusal::Origin(error)
-    }
-}
-
-impl From<TransferError> for Refusal {
-    fn from(error: TransferError) -> Self {
-        Refusal::Transfer(error)
-    }
-}
-
-impl From<ApplyError> for Refusal {
-    fn from(error: ApplyError) -> Self {
-        Refusal::Apply(error)
     }
 }
 
@@ -62,6 +50,12 @@ impl From<FrameError> for Refusal {
 impl From<ReadError> for Refusal {
     fn from(error: ReadError) -> Self {
         Refusal::Line(error)
+    }
+}
+
+impl From<CoreError> for Refusal {
+    fn from(error: CoreError) -> Self {
+        Refusal::Core(error)
     }
 }
 

@@ -1,0 +1,22 @@
+//! Transfers in the input.
+
+use crate::refusal::Refusal;
+use dns_name::Octets;
+use edge_io::{Source, read_frame};
+use std::alloc::Global;
+
+/// The next transfer: its messages, each behind its length, up to an empty one, which is left out.
+pub fn read_stream<S: Source>(alloc: Global, source: &mut S) -> Result<Octets, Refusal> {
+    let mut stream = Octets::new(alloc);
+    for _turn in 0..u64::MAX {
+        let Some(message) = read_frame(alloc, source)? else {
+            break;
+        };
+        if message.len() == 0 {
+            return Ok(stream);
+        }
+        stream.append(&(message.len() as u16).to_be_bytes())?;
+        stream.append(message.as_slice())?;
+    }
+    Err(Refusal::Ended)
+}
