@@ -1,7 +1,7 @@
 #!/usr/bin/env python3
 """How much longer the program takes for messages made to hurt than for a plain one of the same size.
 
-    python3 bench/worst_message.py PROGRAM [WORD]
+    python3 bench/worst_message.py PROGRAM [WORD] [--before OLD_PROGRAM]
 
 PROGRAM is the built program. Each script asks one worker the same query many times; every message has
 65,535 bytes. The plain one is a question and records with short names in full. The others have octets made
@@ -12,21 +12,21 @@ pointer each to a place in those octets. They are tried in three kinds:
   labels     names of 127 labels through one pointer, and runs of labels entered at many places
   mixed      labels and pointers by turns
 
-The time of a script whose messages are refused at their first record is taken off all. Prints for each
-message its time and the ratio of it to the plain one's, and the greatest ratio. With a WORD only the
-messages are tried whose name has it.
+Times are those of the processor, the least of several rounds in which all scripts run by turns; that of a
+script whose messages are refused at their first record is taken off all. Prints for each message its time
+and the ratio of it to the plain one's, and the greatest ratio. With a WORD only the messages are tried
+whose name has it; with an earlier program its time for the plain message is measured beside.
 """
 
+import argparse
 import random
+import resource
 import struct
 import subprocess
-import sys
-import time
 
 SIZE = 65_535
-PLAIN_TIMES = 200
-WORST_TIMES = 40
-ROUNDS = 3
+TIMES = 200
+ROUNDS = 7
 
 
 def header(additional):
@@ -202,30 +202,53 @@ def messages():
         yield f"mixed, runs behind {pointers} pointers", run_behind(pointers).message("shuffled")
 
 
-def seconds(program, message, times):
-    script = ("query 0 tcp 192.0.2.7 " + message.hex() + "\n") * times
-    start = time.perf_counter()
-    subprocess.run([program, "replay"], input=script.encode(), stdout=subprocess.DEVNULL, check=True)
-    return (time.perf_counter() - start) / times
+def script_of(message, times):
+    return ("query 0 tcp 192.0.2.7 " + message.hex() + "\n").encode() * times
 
 
-def least(program, message, times):
-    return min(seconds(program, message, times) for _ in range(ROUNDS))
+def processor_seconds(program, script):
+    """The processor time of one run."""
+    before = resource.getrusage(resource.RUSAGE_CHILDREN)
+    subprocess.run([program, "replay"], input=script, stdout=subprocess.DEVNULL, check=True)
+    after = resource.getrusage(resource.RUSAGE_CHILDREN)
+    return after.ru_utime + after.ru_stime - before.ru_utime - before.ru_stime
+
+
+def least_by_turns(runs):
+    """The least time a message of each run, all of them by turns so that a slow while of the machine meets all alike."""
+    scripts = {key: script_of(message, TIMES) for key, (_program, message) in runs.items()}
+    least = {}
+    for _ in range(ROUNDS):
+        for key, (program, _message) in runs.items():
+            took = processor_seconds(program, scripts[key]) / TIMES
+            least[key] = min(took, least.get(key, took))
+    return least
 
 
 def main():
-    program = sys.argv[1]
-    word = sys.argv[2] if len(sys.argv) > 2 else ""
-    base = least(program, refused(), PLAIN_TIMES)
-    plain_time = least(program, plain(), PLAIN_TIMES) - base
+    parser = argparse.ArgumentParser()
+    parser.add_argument("program")
+    parser.add_argument("word", nargs="?", default="")
+    parser.add_argument("--before", help="an earlier program: its time for the plain message is measured beside")
+    wanted = parser.parse_args()
+    runs = {"refused": (wanted.program, refused()), "plain": (wanted.program, plain())}
+    if wanted.before:
+        runs["refused before"] = (wanted.before, refused())
+        runs["plain before"] = (wanted.before, plain())
+    hostile = {name: (wanted.program, message) for name, message in messages() if wanted.word in name}
+    least = least_by_turns({**runs, **hostile})
+    base = least["refused"]
+    plain_time = least["plain"] - base
+    print(f"refused at once: {base * 1e3:.3f} ms, taken off all others")
     print(f"plain: {plain_time * 1e3:.3f} ms")
+    if wanted.before:
+        before = least["plain before"] - least["refused before"]
+        print(f"plain before: {before * 1e3:.3f} ms, so that now is {plain_time / before:.2f} times that")
     greatest = 0
-    for name, message in messages():
-        if word not in name:
-            continue
-        ratio = (least(program, message, WORST_TIMES) - base) / plain_time
+    for name in hostile:
+        ratio = (least[name] - base) / plain_time
         greatest = max(greatest, ratio)
-        print(f"{name}: {ratio * plain_time * 1e3:.3f} ms, ratio {ratio:.1f}", flush=True)
+        print(f"{name}: {ratio * plain_time * 1e3:.3f} ms, ratio {ratio:.1f}")
     print(f"greatest ratio {greatest:.1f}")
 
 
