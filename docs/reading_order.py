@@ -14,9 +14,9 @@ import re
 
 ROOTS = {
     ("edge_io", "Edge"): ("appended", "Rose"),
-    ("rpz_program", "Replay"): ("Moved", "ReadsNoFurther"),
-    ("rpz_program", "Run"): ("AnswersEnded", "BeginsTranscript", "IsFirstBadLine", "IsReplay", "IsVerdict", "IsWholeScript"),
-    ("rpz_program", "World"): ("transcript", "verdict"),
+    ("rpz_program", "Run"): ("AnswersWholeLines", "BeginsTranscript", "IsFirstBadLine", "IsReplay", "IsVerdict", "IsWholeScript"),
+    ("rpz_program", "Script"): ("transcript", "verdict"),
+    ("script_loop", "Replay"): ("Moves", "ReadsNoFurther"),
 }
 
 USE = re.compile(r"^use Rattle\.([\w.]+?)(?:\.\{([^}]*)\})?(?: as (\w+))?$", re.M)
@@ -147,7 +147,7 @@ def main():
         print(f"| {key[0]}/{key[1]} | {', '.join(f'`{name}`' for name in names)} |")
     print(len(seen), "definitions")
     for crate in crates:
-        told = sorted(name.split(".")[-1] for owner, name in types if owner == crate)
+        told = sorted(name.split(".")[-1] for owner, name in types if owner == crate and not name.endswith("TheConstants"))
         if told:
             print(f"| {crate} | {', '.join(f'`{name}`' for name in told)} |")
 
