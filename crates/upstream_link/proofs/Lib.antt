@@ -1,1 +1,9 @@
 pub mod Answers
+pub mod FactLemmas
+pub mod ChainLemmas
+pub mod ServerLemmas
+pub mod Orders
+pub mod Members
+pub mod Found
+pub mod Searches
+pub mod Listed

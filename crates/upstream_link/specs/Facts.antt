@@ -1,10 +1,15 @@
 -- What is known at a point: facts, each beside the question that it answers.
-use Rattle.std.specs.Prelude.{List, Option}
+use Rattle.std.specs.Prelude.{◌≡◌, ℕ, ◌≤◌, Bool, List, [], ◌∷◌, ◌++◌, length, Option, Some, None, is_some}
 use Rattle.std.specs.List.{find}
 use Rattle.std.specs.Option.{option_map}
+use Rattle.dns_record.specs.Record.{PlainRecord}
 use Rattle.dns_message.specs.declared.question.Question.{Question}
+use Rattle.dns_message.specs.declared.request.Query.{Query}
 use Rattle.upstream_link.specs.declared.fact.Fact.{Fact}
+use Rattle.upstream_link.specs.declared.fact.Fact.TheVariants.{Answer, Broken}
+use Rattle.upstream_link.specs.declared.facts.TheConstants.{FACT_LIMIT}
 use Rattle.upstream_link.specs.Fact.{same_question}
+use Rattle.upstream_link.specs.Question.{question_of, main_question}
 
 abbrev pub PlainFacts : Type 0
 PlainFacts = List (Question × Fact)
@@ -12,3 +17,34 @@ PlainFacts = List (Question × Fact)
 -- what is known of a question; names compare without case
 abbrev pub fact_about : PlainFacts → Question → Option Fact
 fact_about facts question = option_map (λ e. e.1) (find (λ e. same_question e.0 question) facts)
+
+abbrev pub is_known : PlainFacts → Question → Bool
+is_known facts question = is_some (fact_about facts question)
+
+-- the records of an answer; none where there is no answer
+abbrev pub records_of : Option Fact → List PlainRecord
+records_of None = []
+records_of (Some (Broken why)) = []
+records_of (Some (Answer answer)) = answer.answers
+
+-- the records of the answer to the question of this name and type, as far as it is known
+abbrev pub records_about : PlainFacts → List (List ℕ) → ℕ → List PlainRecord
+records_about facts name qtype = records_of (fact_about facts (question_of name qtype))
+
+-- the records of the answer to a query, as far as it is known
+abbrev pub main_records : Query → PlainFacts → List PlainRecord
+main_records query facts = records_of (fact_about facts (main_question query))
+
+-- the first facts, and more behind them
+abbrev pub Extends : PlainFacts → PlainFacts → Type 0
+Extends facts more = (rest : PlainFacts) × (more ≡ facts ++ rest)
+
+-- no question is answered twice
+abbrev pub AreDistinct : PlainFacts → Type 0
+AreDistinct [] = Unit {0}
+AreDistinct (e ∷ facts) = (fact_about facts e.0 ≡ None) × AreDistinct facts
+
+-- The facts of a query answer distinct questions, and they are few.
+pub record AreFacts (facts : PlainFacts) : Type 0 where
+  pub distinct : AreDistinct facts
+  pub few : length facts ≤ FACT_LIMIT

@@ -1,32 +1,43 @@
 //! What is known of several questions.
 
-ghost use Rattle.std.specs.Prelude.{◌≡◌, ◌↔◌, ◌<◌, [], ◌∷◌, ◌++◌, length, option_copied, IsSome, OnOk, IfErr};
-ghost use Rattle.std.specs.List.{find};
-ghost use Rattle.std.specs.Option.{option_to_list};
+ghost use Rattle.std.specs.Prelude.{◌≡◌, ◌↔◌, ◌<◌, ◌≤◌, [], ◌∷◌, ◌++◌, length, option_copied, None, IsSome, IfSome, MatchOption, OnOk, IfErr};
+ghost use Rattle.std.specs.Option.{option_map, option_to_list};
+ghost use Rattle.upstream_link.specs.Entries.{entries_of, entry_of, known_about};
 ghost use Rattle.upstream_link.specs.Fact as form;
-ghost use Rattle.upstream_link.specs.Facts.{fact_about};
+ghost use Rattle.upstream_link.specs.Facts.{AreFacts, fact_about, records_about};
+ghost use Rattle.upstream_link.specs.Known.{AreInOrder, HaveSameMembers};
 ghost use Rattle.upstream_link.specs.Question.{question_of};
+ghost use Rattle.upstream_link.specs.Servers.{servers_at};
 
 use crate::fact::Fact;
+use crate::known::Known;
+use crate::names::Names;
 use dns_message::Question;
 use dns_name::Name;
-use dns_record::class;
+use dns_record::{Record, class, rtype};
 use std::alloc::{AllocFailed, Global};
 use std::marker::Model;
 
-/// What is known: facts, each beside the question that it answers. Contracts see their list, in the order in which
-/// they came.
+/// How many facts are obtained for a query at most.
+pub const FACT_LIMIT: usize = 128;
+
+/// What is known: facts, each beside the question that it answers. No question is answered twice, and there are at most
+/// [`FACT_LIMIT`]. Contracts see their list, in the order in which they came.
 #[derive(Debug, Drop)]
 pub struct Facts {
-    facts: Vec<(Question, Fact)>,
+    alloc: Global,
+    facts: Vec<Known>,
 }
 
 impl Model for Facts {
-    ghost use Rattle.upstream_link.specs.Facts.{PlainFacts};
+    ghost use Rattle.upstream_link.specs.Entries.{entries_of};
+    ghost use Rattle.upstream_link.specs.Facts.{AreFacts, PlainFacts};
 
     ghost Value = { PlainFacts };
 
-    ghost view = { λ f. f.facts.items };
+    ghost view = { λ f. entries_of f.facts.items };
+
+    ghost invariant = { λ f. AreFacts (entries_of f.facts.items) };
 }
 
 impl Facts {
@@ -35,46 +46,105 @@ impl Facts {
         ensures { result ≡ [] }
     {
         Facts {
+            alloc,
             facts: Vec::new(alloc),
         }
     }
 
-    /// Puts a fact behind the others. An `Err` leaves them as they were, gives the question back and drops the fact.
+    /// How many facts there are, at most [`FACT_LIMIT`].
+    pub fn len(&self) -> usize
+        ensures count { result ≡ length self.now }
+        ensures limit { result ≤ FACT_LIMIT }
+    {
+        self.facts.len()
+    }
+
+    /// Puts a fact behind the others, of a question that none of them answers, where there is room for it. An `Err` leaves
+    /// them as they were, gives the question back and drops the fact.
     pub fn push(&mut self, question: Question, fact: Fact) -> Result<(), AllocFailed<Question>>
+        requires fresh { fact_about self.old question ≡ None }
+        requires room { length self.old < FACT_LIMIT }
         ensures ok { OnOk result (self.new ≡ self.old ++ (question, fact) ∷ []) }
         ensures err { IfErr result (λ refused. (refused.value ≡ question) × (self.new ≡ self.old)) }
     {
-        match self.facts.push((question, fact)) {
+        let known = Known::new(self.alloc, question, fact)?;
+        match self.facts.push(known) {
             Ok(()) => Ok(()),
             Err(refused) => {
-                let (question, _dropped) = refused.value;
+                let (question, _dropped) = refused.value.into_parts();
                 Err(AllocFailed { value: question })
             }
         }
     }
 
-    /// Takes the last fact out, with its question; `None` where nothing is known.
+    /// Takes the last fact out, with its question, which none of the others answers; `None` where nothing is known.
     pub fn pop(&mut self) -> Option<(Question, Fact)>
         ensures some { IsSome result ↔ (0 < length self.old) }
         ensures last { self.old ≡ self.new ++ option_to_list result }
+        ensures fresh { IfSome result (λ e. fact_about self.new e.0 ≡ None) }
+        ensures room { IfSome result (λ _. length self.new < FACT_LIMIT) }
     {
-        self.facts.pop()
+        let last = self.facts.pop();
+        parts_of(last)
     }
 
     /// What is known of the question of this name and type in class IN; names compare without case. Its time
-    /// is linear in the number of facts.
+    /// is linear in the number of facts, where names of other lengths are passed over at once.
     pub fn get(&self, name: &Name, qtype: u16) -> Option<&Fact>
         ensures { option_copied result ≡ fact_about self.now (question_of name.now qtype) }
     {
-        let found = self
-            .facts
-            .iter()
-            .find(|entry| is_about(&entry.0, name, qtype));
-        match found {
-            Some(entry) => Some(&entry.1),
+        match find_known(&self.facts, name, qtype) {
+            Some(known) => Some(known.fact()),
             None => None,
         }
     }
+
+    /// The records of the answer to the question of this name and type in class IN, as far as it is known.
+    pub fn records(&self, name: &Name, qtype: u16) -> &[Record]
+        ensures { result.now ≡ records_about self.now name.now qtype }
+    {
+        match self.get(name, qtype) {
+            Some(Fact::Answer(answer)) => answer.answers(),
+            Some(Fact::Broken(_)) | None => &[],
+        }
+    }
+
+    // What is kept of the facts.
+    pub(crate) fn as_slice(&self) -> &[Known]
+        ensures entries { entries_of result.now ≡ self.now }
+        ensures facts { AreFacts self.now }
+    {
+        self.facts.as_slice()
+    }
+
+    // The servers of exactly this name, in canonical order, each once, as they were read when the fact came.
+    pub(crate) fn servers_at(&self, owner: &Name) -> Option<&Names>
+        ensures { MatchOption result (servers_at self.now owner.now ≡ [])
+            (λ names. AreInOrder names.now × HaveSameMembers names.now (servers_at self.now owner.now)) }
+    {
+        match find_known(&self.facts, owner, rtype::NS) {
+            Some(known) => Some(known.servers()),
+            None => None,
+        }
+    }
+}
+
+// The question and the fact.
+fn parts_of(known: Option<Known>) -> Option<(Question, Fact)>
+    ensures { result ≡ option_map entry_of known }
+{
+    match known {
+        Some(known) => Some(known.into_parts()),
+        None => None,
+    }
+}
+
+// What is kept of the question of the name and type in class IN.
+fn find_known<'k>(all: &'k [Known], name: &Name, qtype: u16) -> Option<&'k Known>
+    ensures { option_copied result ≡ known_about all.now (question_of name.now qtype) }
+{
+    all.iter()
+        .find(|known| is_about(known.question(), name, qtype))
 }
 
 // Whether this is the question of the name and type in class IN.

@@ -1,12 +1,23 @@
 //! What is asked of the upstream, and what is learned from it.
 #![tactic(auto)]
 
+mod addresses;
+mod aliases;
 mod answer;
 mod asking;
 mod fact;
 mod facts;
+mod known;
+pub mod laws;
+mod name_servers;
+mod names;
+mod server_lists;
 
+pub use aliases::{CHAIN_LIMIT, alias_of, asks_alias, chain};
 pub use answer::Answer;
 pub use asking::{main_question, question_bytes};
 pub use fact::{Fact, Why, fact_of};
-pub use facts::Facts;
+pub use facts::{FACT_LIMIT, Facts};
+pub use name_servers::ancestors;
+pub use names::Names;
+pub use server_lists::{ServerLists, known_servers, server_addresses};

@@ -1,0 +1,22 @@
+//! Laws of facts. Each function is its clauses, and does nothing.
+
+ghost use Rattle.std.specs.Prelude.{◌≡◌, ℕ, IsTrue, List, Some};
+ghost use Rattle.dns_message.specs.declared.question.Question.{Question};
+ghost use Rattle.upstream_link.specs.declared.fact.Fact.{Fact};
+ghost use Rattle.upstream_link.specs.Facts.{Extends, PlainFacts, fact_about, is_known, records_about};
+ghost use Rattle.upstream_link.specs.Question.{question_of};
+ghost use Rattle.upstream_link.specs.Servers.{ancestors, servers};
+ghost use Rattle.std.specs.List.{list_all};
+
+/// What is known stays known, and stays the same, whatever facts come behind. So do the servers of a name once the NS
+/// questions of the name and of those above it are answered.
+pub fn what_is_known_stays_known()
+    ensures known { (facts more : PlainFacts) (question : Question) (fact : Fact) → Extends facts more →
+        fact_about facts question ≡ Some fact → fact_about more question ≡ Some fact }
+    ensures records { (facts more : PlainFacts) (name : List (List ℕ)) (qtype : ℕ) → Extends facts more →
+        IsTrue (is_known facts (question_of name qtype)) →
+        records_about more name qtype ≡ records_about facts name qtype }
+    ensures servers { (facts more : PlainFacts) (name : List (List ℕ)) → Extends facts more →
+        IsTrue (list_all (λ owner. is_known facts (question_of owner 2)) (ancestors name)) →
+        servers more name ≡ servers facts name }
+{}
