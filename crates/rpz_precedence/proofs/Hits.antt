@@ -8,7 +8,7 @@ use Rattle.std.specs.Prelude.{Contains, not}
 use Rattle.trigger_codec.specs.Bases.{IsTrigger}
 use Rattle.rpz_precedence.specs.Best.{AreHits, IsBest, PlainHit, best, is_first}
 use Rattle.rpz_precedence.specs.Rank.{PlainRank, precedes, rank_order}
-use Rattle.rpz_precedence.proofs.Orders.{rank_total, less_if}
+use Rattle.rpz_precedence.proofs.Orders.{rank_total, less_if, behind}
 
 -- ---- the laws of the order
 
@@ -17,6 +17,9 @@ transitive a b c h k = ap is_lt (rank_total.trans a b c (less_if (rank_order a b
 
 pub not_itself : (a : PlainRank) → precedes a a ≡ false
 not_itself a = ap is_lt (tied_itself rank_total a)
+
+pub not_before : (a b c : PlainRank) → precedes b a ≡ false → precedes c b ≡ false → precedes c a ≡ false
+not_before a b c h k = behind rank_total a b c h k
 
 -- ---- members of a list
 
@@ -43,7 +46,7 @@ both true true h k = refl
 both true false h k = k
 both false b h k = h
 
-both_first : (a b : Bool) → (a && b) ≡ true → a ≡ true
+pub both_first : (a b : Bool) → (a && b) ≡ true → a ≡ true
 both_first true b h = refl
 both_first false b h = h
 

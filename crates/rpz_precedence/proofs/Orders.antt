@@ -1,5 +1,5 @@
 -- The order of ranks is total.
-use Rattle.std.proofs.Common.{◌≡◌, ℕ, true, false, List, [], length, map, reverse, refl, sym, subst, true≢false}
+use Rattle.std.proofs.Common.{◌≡◌, ℕ, true, false, List, [], length, map, reverse, refl, sym, ap, ◌∙◌, subst, true≢false}
 use Rattle.std.specs.Char.{to_ascii_lowercase}
 use Rattle.std.specs.Cmp.{IsTotalOrder, then_total, on_total, back_total, bool_cmp_total, nat_cmp_total}
 use Rattle.std.specs.Cmp.Lexicographic.{lists_total, nat_list_cmp_total}
@@ -113,3 +113,19 @@ equal_if Equal turned is h k = refl
 equal_if Greater Less is h k = absurd (true≢false k)
 equal_if Greater Equal is h k = cc
 equal_if Greater Greater is h k = cc
+
+-- ---- what does not precede a value does not precede one that this value does not follow
+
+module _ {K : Type 0} {R : K → K → Ordering} (o : IsTotalOrder R) where
+  behind_less : (a b c : K) → R a b ≡ Less → is_lt (R c b) ≡ false → (order : Ordering) → R c a ≡ order → is_lt order ≡ false
+  behind_less a b c before k Less is = absurd (true≢false (ap is_lt (sym (o.trans c a b is before)) ∙ k))
+  behind_less a b c before k Equal is = refl
+  behind_less a b c before k Greater is = refl
+
+  behind_by : (a b c : K) → is_lt (R c b) ≡ false → (order : Ordering) → R b a ≡ order → is_lt order ≡ false → is_lt (R c a) ≡ false
+  behind_by a b c k Less is h = absurd (true≢false h)
+  behind_by a b c k Equal is h = ap is_lt (o.antisymm c a ∙ ap ordering_reverse (sym (o.congr b a c is)) ∙ sym (o.antisymm c b)) ∙ k
+  behind_by a b c k Greater is h = behind_less a b c (o.antisymm a b ∙ ap ordering_reverse is) k (R c a) refl
+
+  pub behind : (a b c : K) → is_lt (R b a) ≡ false → is_lt (R c b) ≡ false → is_lt (R c a) ≡ false
+  behind a b c h k = behind_by a b c k (R b a) refl h

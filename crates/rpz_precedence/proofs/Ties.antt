@@ -30,7 +30,7 @@ then_second Less s e = cc e
 then_second Equal s e = e
 then_second Greater s e = cc e
 
-same_number : (x y : ℕ) → nat_cmp x y ≡ Equal → x ≡ y
+pub same_number : (x y : ℕ) → nat_cmp x y ≡ Equal → x ≡ y
 same_number x y e = eqb-true x y (sym (unsigned_tied x y) ∙ ap is_eq e)
 
 same_wild : (a b : Bool) → bool_cmp a b ≡ Equal → a ≡ b
@@ -82,7 +82,7 @@ same_pattern apart p q is_p is_q e =
 
 -- ---- names in the canonical order
 
-lowered-reverse : (name : List (List ℕ)) → lowered (reverse name) ≡ reverse (lowered name)
+pub lowered-reverse : (name : List (List ℕ)) → lowered (reverse name) ≡ reverse (lowered name)
 lowered-reverse [] = refl
 lowered-reverse (label ∷ name) =
     let lower = λ (l : List ℕ). map to_ascii_lowercase l in
@@ -100,7 +100,7 @@ same_lowered (x ∷ a) (y ∷ b) e =
     let rest : lowered a ≡ lowered b = same_lowered a b (then_second (label_order x y) (slice_cmp label_order a b) e) in
     λ i. first i ∷ rest i
 
-same_base : (a b : List (List ℕ)) → lowered a ≡ a → lowered b ≡ b → canonical_order a b ≡ Equal → a ≡ b
+pub same_base : (a b : List (List ℕ)) → lowered a ≡ a → lowered b ≡ b → canonical_order a b ≡ Equal → a ≡ b
 same_base a b lower_a lower_b e =
     let turned : reverse (lowered a) ≡ reverse (lowered b) = sym (lowered-reverse a) ∙ same_lowered (reverse a) (reverse b) e ∙ lowered-reverse b in
     let same : lowered a ≡ lowered b = sym (reverse-reverse (lowered a)) ∙ ap (λ (l : List (List ℕ)). reverse l) turned ∙ reverse-reverse (lowered b) in

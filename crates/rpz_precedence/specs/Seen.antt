@@ -1,11 +1,9 @@
 -- What the code borrows, as plain values.
 use Rattle.trigger_codec.specs.declared.trigger.Trigger.{Trigger}
 use Rattle.trigger_codec.specs.declared.trigger.Trigger.TheVariants as triggers
-use Rattle.rpz_precedence.specs.declared.rank.TriggerRef.{TriggerRef}
-use Rattle.rpz_precedence.specs.declared.rank.TriggerRef.TheVariants.{ClientIp, Qname, ResponseIp, NsDname, NsIp}
-use Rattle.rpz_precedence.specs.declared.rank.Rank.{Rank}
+use Rattle.rpz_precedence.specs.declared.trigger_ref.TriggerRef.{TriggerRef}
+use Rattle.rpz_precedence.specs.declared.trigger_ref.TriggerRef.TheVariants.{ClientIp, Qname, ResponseIp, NsDname, NsIp}
 use Rattle.rpz_precedence.specs.declared.hit.Hit.{Hit}
-use Rattle.rpz_precedence.specs.Rank.{PlainRank}
 use Rattle.rpz_precedence.specs.Best.{PlainHit}
 
 abbrev pub trigger_seen : TriggerRef → Trigger
@@ -14,9 +12,6 @@ trigger_seen (Qname pattern) = triggers.Qname pattern.now
 trigger_seen (ResponseIp prefix) = triggers.ResponseIp prefix
 trigger_seen (NsDname pattern) = triggers.NsDname pattern.now
 trigger_seen (NsIp prefix) = triggers.NsIp prefix
-
-abbrev pub rank_seen : Rank → PlainRank
-rank_seen rank = record { position = rank.position; zone = rank.zone; trigger = trigger_seen rank.trigger }
 
 abbrev pub hit_seen : Hit → PlainHit
 hit_seen hit = record { rank = record { position = hit.position; zone = hit.zone; trigger = trigger_seen hit.trigger }; action = hit.action.now; soa = hit.soa.now }

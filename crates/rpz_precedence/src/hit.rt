@@ -1,6 +1,6 @@
 //! A rule that is hit.
 
-use crate::rank::TriggerRef;
+use crate::trigger_ref::TriggerRef;
 use action_codec::Action;
 use dns_record::Record;
 

@@ -5,8 +5,8 @@
 pub mod hit;
 pub mod laws;
 mod order;
-pub mod rank;
+pub mod trigger_ref;
 
 pub use hit::Hit;
 pub use order::{before, kind_place};
-pub use rank::{Rank, TriggerRef};
+pub use trigger_ref::TriggerRef;

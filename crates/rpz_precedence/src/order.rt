@@ -3,26 +3,27 @@
 ghost use Rattle.std.specs.Prelude.{◌≡◌};
 ghost use Rattle.qname_index.specs.Best.{pattern_order};
 ghost use Rattle.rpz_precedence.specs.Rank.{kind_number, place_order, precedes, rank_order, server_order, trigger_order};
-ghost use Rattle.rpz_precedence.specs.Seen.{rank_seen, trigger_seen};
+ghost use Rattle.rpz_precedence.specs.Seen.{hit_seen, trigger_seen};
 
-use crate::rank::{Rank, TriggerRef};
+use crate::hit::Hit;
+use crate::trigger_ref::TriggerRef;
 use dns_name::Pattern;
 use std::cmp::Ordering;
 
-/// Whether the rule of the first rank goes before that of the second (draft-vixie-dnsop-dns-rpz, section 5): the smaller
+/// Whether the rule of the first hit goes before that of the second (draft-vixie-dnsop-dns-rpz, section 5): the smaller
 /// position, then the earlier zone, then the kind of trigger, in the order of the variants of [`TriggerRef`]. Of one kind it
 /// is the longer prefix, then the smaller address; the exact pattern, then the longer one; and of patterns of names of
 /// servers the longer one, then the exact one, then the canonical order of their bases.
 ///
 /// It takes no memory, and its time is linear in the bytes of the patterns.
-pub fn before(a: &Rank, b: &Rank) -> bool
-    ensures { result ≡ precedes (rank_seen a.now) (rank_seen b.now) }
+pub fn before(a: &Hit, b: &Hit) -> bool
+    ensures { result ≡ precedes (hit_seen a.now).rank (hit_seen b.now).rank }
 {
     compare_ranks(a, b).is_lt()
 }
 
-fn compare_ranks(a: &Rank, b: &Rank) -> Ordering
-    ensures { result ≡ rank_order (rank_seen a.now) (rank_seen b.now) }
+fn compare_ranks(a: &Hit, b: &Hit) -> Ordering
+    ensures { result ≡ rank_order (hit_seen a.now).rank (hit_seen b.now).rank }
 {
     match a.position.cmp(&b.position) {
         Ordering::Equal => match a.zone.cmp(&b.zone) {

@@ -1,5 +1,5 @@
 use Rattle.rpz_precedence.specs.Rank.{rank_order}
-use Rattle.rpz_precedence.proofs.Hits.{transitive, not_itself}
+use Rattle.rpz_precedence.proofs.Hits.{transitive, not_itself, not_before}
 use Rattle.rpz_precedence.proofs.Orders.{rank_total, equal_if}
 use Rattle.rpz_precedence.proofs.Ties.{same_rank}
 use Rattle.rpz_precedence.proofs.laws.the_order_of_ranks_is_total.Goals as goal
@@ -12,3 +12,6 @@ returns-clause-transitive c = transitive
 
 pub returns-clause-not_itself : goal.returns-clause-not_itself
 returns-clause-not_itself c = not_itself
+
+pub returns-clause-not_before : goal.returns-clause-not_before
+returns-clause-not_before c = not_before

@@ -1,4 +1,4 @@
-//! Where a rule is hit.
+//! The trigger of a rule.
 
 use dns_name::Pattern;
 use ip_prefix::Prefix;
@@ -16,15 +16,4 @@ pub enum TriggerRef<'a> {
     NsDname(&'a Pattern),
     /// The address of a name server is in the prefix.
     NsIp(Prefix),
-}
-
-/// Where a rule is hit, which says whether it goes before another.
-#[derive(Clone, Copy)]
-pub struct Rank<'a> {
-    /// The position in the chain of aliases: 0 is the name of the query, and each alias is one more.
-    pub position: u32,
-    /// The number of the policy zone, from 1 on, in the order in which the zones are configured.
-    pub zone: u32,
-    /// The trigger of the rule.
-    pub trigger: TriggerRef<'a>,
 }
