@@ -1,43 +1,35 @@
--- Which rules are hit by a query, by what is known (draft-vixie-dnsop-dns-rpz, section 4).
-use Rattle.std.specs.Prelude.{Bool, false, List, [], map, filter, Option, Some, None}
+-- Which rules are hit at a position of the chain of aliases, by what is known (draft-vixie-dnsop-dns-rpz, section 4).
+use Rattle.std.specs.Prelude.{ℕ, Bool, ◌==◌, ◌&&◌, List, map, filter}
 use Rattle.std.specs.List.{list_any}
 use Rattle.dns_name.specs.Alike.{matches}
-use Rattle.dns_record.specs.Record.{PlainRecord}
 use Rattle.dns_message.specs.declared.request.Query.{Query}
-use Rattle.ip_prefix.specs.Prefix.{contains}
+use Rattle.ip_prefix.specs.Prefix.{PlainPrefix, contains}
 use Rattle.trigger_codec.specs.declared.trigger.Trigger.{Trigger}
 use Rattle.trigger_codec.specs.declared.trigger.Trigger.TheVariants.{ClientIp, Qname, ResponseIp, NsDname, NsIp}
 use Rattle.zone_index.specs.Addresses.{holds_within}
 use Rattle.rpz_precedence.specs.Best.{PlainHit}
-use Rattle.upstream_link.specs.declared.fact.Fact.{Fact}
-use Rattle.upstream_link.specs.declared.fact.Fact.TheVariants.{Answer, Broken}
-use Rattle.upstream_link.specs.Facts.{PlainFacts, fact_about}
-use Rattle.upstream_link.specs.Question.{main_question}
+use Rattle.upstream_link.specs.Facts.{PlainFacts, main_records}
+use Rattle.upstream_link.specs.Servers.{address_records, servers}
 use Rattle.policy_snapshot.specs.Rules.{PlainRule}
 
--- the records of an answer; none where there is no answer
-abbrev pub records_of : Option Fact → List PlainRecord
-records_of None = []
-records_of (Some (Broken why)) = []
-records_of (Some (Answer answer)) = answer.answers
+-- an address of the server is in the prefix
+abbrev pub has_address : PlainFacts → PlainPrefix → List (List ℕ) → Bool
+has_address facts prefix server = list_any (holds_within prefix server) (address_records facts server)
 
--- the answer to the query, as far as it is known
-abbrev pub main_records : Query → PlainFacts → List PlainRecord
-main_records query facts = records_of (fact_about facts (main_question query))
+-- The trigger is hit at a position of the chain, where this name stands: the client is in the prefix, which counts at the name
+-- of the query alone; the pattern is about the name; an address of the answer for this name is in the prefix; the pattern is
+-- about a server of the name; an address of a server of the name is in the prefix.
+abbrev pub is_hit : Query → PlainFacts → ℕ → List (List ℕ) → Trigger → Bool
+is_hit query facts position name (ClientIp prefix) = position == 0 && contains prefix query.client
+is_hit query facts position name (Qname pattern) = matches pattern name
+is_hit query facts position name (ResponseIp prefix) = list_any (holds_within prefix name) (main_records query facts)
+is_hit query facts position name (NsDname pattern) = list_any (matches pattern) (servers facts name)
+is_hit query facts position name (NsIp prefix) = list_any (has_address facts prefix) (servers facts name)
 
--- The trigger is hit: the client is in the prefix; the pattern is about the name of the query; an address of the answer
--- for this name is in the prefix. Name servers are not asked for yet, so that rules about them are not hit.
-abbrev pub is_hit : Query → PlainFacts → Trigger → Bool
-is_hit query facts (ClientIp prefix) = contains prefix query.client
-is_hit query facts (Qname pattern) = matches pattern query.question.name
-is_hit query facts (ResponseIp prefix) = list_any (holds_within prefix query.question.name) (main_records query facts)
-is_hit query facts (NsDname pattern) = false
-is_hit query facts (NsIp prefix) = false
+-- a rule that is hit at a position
+abbrev pub hit_at : ℕ → PlainRule → PlainHit
+hit_at position rule = record { rank = record { position = position; zone = rule.zone; trigger = rule.trigger }; action = rule.action; soa = rule.soa }
 
--- a rule that is hit at the name of the query, which is position 0
-abbrev pub hit_of : PlainRule → PlainHit
-hit_of rule = record { rank = record { position = 0; zone = rule.zone; trigger = rule.trigger }; action = rule.action; soa = rule.soa }
-
--- The hits of the rules.
-abbrev pub hits : List PlainRule → Query → PlainFacts → List PlainHit
-hits all query facts = map hit_of (filter (λ rule. is_hit query facts rule.trigger) all)
+-- The hits of the rules at a position, where this name stands.
+abbrev pub hits : List PlainRule → Query → PlainFacts → ℕ → List (List ℕ) → List PlainHit
+hits all query facts position name = map (hit_at position) (filter (λ rule. is_hit query facts position name rule.trigger) all)

@@ -3,4 +3,7 @@ pub mod Stands
 pub mod Rules
 pub mod Hits
 pub mod Next
+pub mod Settled
+pub mod Sight
 pub mod Lookup
+pub mod Asking

@@ -1,86 +1,231 @@
-//! Which rule decides, and what must be asked before it is known.
+//! Which rule decides at a position of the chain of aliases, and what must be asked before it is known.
 
-ghost use Rattle.std.specs.Prelude.{◌≡◌, option_map, IfOk};
+ghost use Rattle.std.specs.Prelude.{◌≡◌, ℕ, List, ◌||◌, All, ◌∷◌, [], None, false, map, option_map, IfOk, IsTrue};
 ghost use Rattle.dns_name.specs.Labels.{lowered};
 ghost use Rattle.rpz_precedence.specs.Best.{best};
 ghost use Rattle.rpz_precedence.specs.Seen.{hit_seen};
-ghost use Rattle.policy_snapshot.specs.Hits.{hits, main_records as records_of_main};
-ghost use Rattle.policy_snapshot.specs.Lookup.{answers_could_decide, has_answer_rules as has_answer_rules_in, zones_hit as hit_in_zones, zones_need};
+ghost use Rattle.trigger_codec.specs.declared.trigger.Kind.TheVariants as kinds;
+ghost use Rattle.upstream_link.specs.Known.{AreInOrder, AreListsOf, HaveSameMembers};
+ghost use Rattle.upstream_link.specs.Servers as names;
+ghost use Rattle.upstream_link.specs.Question as questions;
+ghost use Rattle.policy_snapshot.specs.Hits.{hits};
+ghost use Rattle.policy_snapshot.specs.Lookup as form;
+ghost use Rattle.policy_snapshot.specs.Next as next;
 ghost use Rattle.policy_snapshot.specs.Next.{pending};
 ghost use Rattle.policy_snapshot.specs.Rules.{rules};
+ghost use Rattle.policy_snapshot.specs.Settled.{IsSettled};
+ghost use Rattle.policy_snapshot.specs.Sight.{sight_seen};
 
+use crate::laws::nothing_unasked_could_matter;
 use crate::lookup::zone_hit;
+use crate::questions::{is_known, unknown_address, unknown_owner};
+use crate::sight::Sight;
 use crate::snapshot::Snapshot;
 use dns_message::{Query, Question};
 use dns_name::Name;
-use dns_record::Record;
-use rpz_precedence::laws::the_best_hit_is_the_one_that_nothing_precedes;
+use dns_name::laws::case_does_not_matter;
+use ip_prefix::Addr;
+use rpz_precedence::laws::{
+    an_index_is_in_order_of_precedence, the_best_hit_is_the_one_that_nothing_precedes,
+    the_order_of_ranks_is_total,
+};
 use rpz_precedence::{Hit, kind_place};
 use std::alloc::{AllocError, Global};
 use trigger_codec::Kind;
-use upstream_link::{Fact, Facts, main_question};
+use upstream_link::{Facts, ServerLists, known_servers, main_question, server_addresses};
 use zone_index::Zone;
 use zone_index::laws::{a_rule_does_what_its_rows_do, an_index_has_the_rules_of_its_zone};
 
-// The place of response-ip in the order of kinds.
-const ANSWER_KIND: u8 = 2;
-
 impl Snapshot {
-    /// The hit that no other hit precedes, by what is known. It takes the memory of one name. Its time is that of some
-    /// look-ups in each zone up to that of the hit.
+    /// The hit that no other hit precedes at a position of the chain of aliases, where this name stands, by what is known. Its
+    /// time is that of some look-ups in each zone up to that of the hit; where some zone has rules about name servers, also that
+    /// of looking at the known NS records of the name and those above it, and at the addresses of their targets.
     pub fn best(
         &self,
         alloc: Global,
         query: &Query,
         facts: &Facts,
+        position: u32,
+        name: &Name,
     ) -> Result<Option<Hit<'_>>, AllocError>
         ensures { IfOk result (λ hit. option_map hit_seen hit
-            ≡ best (hits (rules self.now.zones) query.now facts.now)) }
+            ≡ best (hits (rules self.now.zones) query.now facts.now position name.now)) }
     {
         a_rule_does_what_its_rows_do();
         an_index_has_the_rules_of_its_zone();
         the_best_hit_is_the_one_that_nothing_precedes();
+        the_order_of_ranks_is_total();
+        an_index_is_in_order_of_precedence();
+        case_does_not_matter();
         // what its clause says is wanted here: that the rows of the zones are rows
         let _zones = self.zones();
-        let name = query.question.name.lower(alloc)?;
-        Ok(self.first_hit(query, &name, main_records(query, facts)))
+        let lower = name.lower(alloc)?;
+        let servers = self.servers_for_rules(alloc, facts, name)?;
+        let addresses = self.addresses_for_rules(alloc, facts, &servers)?;
+        let sight = Sight {
+            position,
+            client: query.client,
+            name,
+            lower: &lower,
+            records: facts.records(&query.question.name, query.question.qtype),
+            servers: servers.as_slice(),
+            addresses: addresses.as_slice(),
+        };
+        Ok(self.first_hit(&sight))
     }
 
-    /// The question that must be asked before it is known which rule decides, where `hit` is the best hit by what is known.
-    /// `None` where nothing that isn't known could matter.
+    /// The question that must be asked at a position of the chain of aliases, where this name stands, before it is known which
+    /// rule decides there; `hit` is the best hit there by what is known. `None` where nothing that isn't known could matter.
     pub fn pending(
+        &self,
+        alloc: Global,
+        query: &Query,
+        facts: &Facts,
+        name: &Name,
+        hit: &Option<Hit<'_>>,
+    ) -> Result<Option<Question>, AllocError>
+        ensures question { IfOk result (λ question. question
+            ≡ pending (rules self.now.zones) query.now facts.now name.now (option_map hit_seen hit.now)) }
+        ensures settled { IfOk result (λ question. (position : ℕ) → question ≡ None →
+            option_map hit_seen hit.now ≡ best (hits (rules self.now.zones) query.now facts.now position name.now) →
+            IsSettled (rules self.now.zones) query.now facts.now position name.now) }
+    {
+        nothing_unasked_could_matter();
+        // what its clause says is wanted here: that the rows of the zones are rows
+        let _zones = self.zones();
+        self.next_question(alloc, query, facts, name, hit)
+    }
+
+    // The question of `pending`.
+    fn next_question(
+        &self,
+        alloc: Global,
+        query: &Query,
+        facts: &Facts,
+        name: &Name,
+        hit: &Option<Hit<'_>>,
+    ) -> Result<Option<Question>, AllocError>
+        ensures { IfOk result (λ question. question
+            ≡ pending (rules self.now.zones) query.now facts.now name.now (option_map hit_seen hit.now)) }
+    {
+        an_index_has_the_rules_of_its_zone();
+        // what its clause says is wanted here: that the rows of the zones are rows
+        let _zones = self.zones();
+        let main = self.pending_answer(query, facts, hit)?;
+        if main.is_some() {
+            return Ok(main);
+        }
+        let owner = self.pending_servers(alloc, facts, name, hit)?;
+        if owner.is_some() {
+            return Ok(owner);
+        }
+        self.pending_addresses(alloc, facts, name, hit)
+    }
+
+    // The question of the query, if a rule that could decide needs its answer, which isn't known.
+    fn pending_answer(
         &self,
         query: &Query,
         facts: &Facts,
         hit: &Option<Hit<'_>>,
     ) -> Result<Option<Question>, AllocError>
         ensures { IfOk result (λ question. question
-            ≡ pending (rules self.now.zones) query.now facts.now (option_map hit_seen hit.now)) }
+            ≡ next.if_needed (form.zones_need kinds.ResponseIp 1 (option_map hit_seen hit.now) self.now.zones)
+            (next.first_unknown facts.now (questions.main_question query.now ∷ []))) }
     {
-        a_rule_does_what_its_rows_do();
-        an_index_has_the_rules_of_its_zone();
-        // what its clause says is wanted here: that the rows of the zones are rows
-        let _zones = self.zones();
-        if facts
-            .get(&query.question.name, query.question.qtype)
-            .is_some()
-            || !self.needs_answer(hit)
+        if !self.needs(Kind::ResponseIp, hit)
+            || is_known(facts, &query.question.name, query.question.qtype)
         {
             return Ok(None);
         }
         Ok(Some(main_question(query)?))
     }
 
-    // The best hit of the first zone that has one, for a query whose name in lower case is `name` and whose answer has these
-    // records.
-    fn first_hit(&self, query: &Query, name: &Name, records: &[Record]) -> Option<Hit<'_>>
-        requires { name.now ≡ lowered query.now.question.name }
-        ensures { option_map hit_seen result ≡ hit_in_zones 1 query.now records.now self.now.zones }
+    // The first NS question whose answer isn't known, if a rule that could decide needs the servers.
+    fn pending_servers(
+        &self,
+        alloc: Global,
+        facts: &Facts,
+        name: &Name,
+        hit: &Option<Hit<'_>>,
+    ) -> Result<Option<Question>, AllocError>
+        ensures { IfOk result (λ question. question ≡ next.if_needed
+            (form.zones_need kinds.NsDname 1 (option_map hit_seen hit.now) self.now.zones
+            || form.zones_need kinds.NsIp 1 (option_map hit_seen hit.now) self.now.zones)
+            (next.first_unknown facts.now (next.server_questions name.now))) }
+    {
+        if self.needs(Kind::NsDname, hit) || self.needs(Kind::NsIp, hit) {
+            unknown_owner(alloc, facts, name)
+        } else {
+            Ok(None)
+        }
+    }
+
+    // The first question about an address of a server, if a rule that could decide needs these.
+    fn pending_addresses(
+        &self,
+        alloc: Global,
+        facts: &Facts,
+        name: &Name,
+        hit: &Option<Hit<'_>>,
+    ) -> Result<Option<Question>, AllocError>
+        ensures { IfOk result (λ question. question
+            ≡ next.if_needed (form.zones_need kinds.NsIp 1 (option_map hit_seen hit.now) self.now.zones)
+            (next.unknown_address facts.now name.now)) }
+    {
+        if self.needs(Kind::NsIp, hit) {
+            unknown_address(alloc, facts, name)
+        } else {
+            Ok(None)
+        }
+    }
+
+    // The servers of the name, if some rule is about these or their addresses; none otherwise.
+    fn servers_for_rules<'f>(
+        &self,
+        alloc: Global,
+        facts: &'f Facts,
+        name: &Name,
+    ) -> Result<ServerLists<'f>, AllocError>
+        ensures { IfOk result (λ lists. form.AreListsIf (form.zones_need kinds.NsDname 1 None self.now.zones
+            || form.zones_need kinds.NsIp 1 None self.now.zones) lists (names.servers facts.now name.now)) }
+    {
+        if self.needs(Kind::NsDname, &None) || self.needs(Kind::NsIp, &None) {
+            known_servers(alloc, facts, name)
+        } else {
+            Ok(ServerLists::new(alloc))
+        }
+    }
+
+    // The addresses of these servers, if some rule is about these; none otherwise.
+    fn addresses_for_rules(
+        &self,
+        alloc: Global,
+        facts: &Facts,
+        lists: &ServerLists<'_>,
+    ) -> Result<Vec<Addr>, AllocError>
+        ensures some { IfOk result (λ all. IsTrue (form.zones_need kinds.NsIp 1 None self.now.zones) →
+            (servers : List (List (List ℕ))) → AreListsOf lists.now servers →
+            HaveSameMembers all.items (names.addresses_of facts.now servers)) }
+        ensures none { IfOk result (λ all. form.zones_need kinds.NsIp 1 None self.now.zones ≡ false → all.items ≡ []) }
+    {
+        if self.needs(Kind::NsIp, &None) {
+            server_addresses(alloc, facts, lists)
+        } else {
+            Ok(Vec::new(alloc))
+        }
+    }
+
+    // The best hit of the first zone that has one.
+    fn first_hit(&self, sight: &Sight<'_>) -> Option<Hit<'_>>
+        requires name { sight.now.lower.now ≡ lowered sight.now.name.now }
+        requires servers { All AreInOrder (map (λ list. list.now) sight.now.servers.now) }
+        ensures { option_map hit_seen result ≡ form.zones_hit 1 (sight_seen sight.now) self.now.zones }
     {
         let mut number = 0;
         for zone in self.zones() {
             number += 1;
-            let hit = zone_hit(number, zone, query, name, records);
+            let hit = zone_hit(number, zone, sight);
             if hit.is_some() {
                 return hit;
             }
@@ -88,14 +233,14 @@ impl Snapshot {
         None
     }
 
-    // Whether some rule needs the answer that could decide in place of the hit.
-    fn needs_answer(&self, hit: &Option<Hit<'_>>) -> bool
-        ensures { result ≡ zones_need 1 (option_map hit_seen hit.now) self.now.zones }
+    // Whether some zone has rules of this kind that could decide in place of the hit.
+    fn needs(&self, kind: Kind, hit: &Option<Hit<'_>>) -> bool
+        ensures { result ≡ form.zones_need kind 1 (option_map hit_seen hit.now) self.now.zones }
     {
         let mut number = 0;
         for zone in self.zones() {
             number += 1;
-            if has_answer_rules(zone) && could_decide(number, hit) {
+            if has_kind(zone, kind) && could_decide(kind, number, hit) {
                 return true;
             }
         }
@@ -103,34 +248,37 @@ impl Snapshot {
     }
 }
 
-// Whether a rule about addresses of answers in the zone of this number could decide in place of the hit.
-fn could_decide(number: u32, hit: &Option<Hit<'_>>) -> bool
-    ensures { result ≡ answers_could_decide number (option_map hit_seen hit.now) }
+// Whether a rule of this kind in the zone of this number could decide in place of the hit.
+fn could_decide(kind: Kind, number: u32, hit: &Option<Hit<'_>>) -> bool
+    ensures { result ≡ form.kind_could_decide kind number (option_map hit_seen hit.now) }
 {
     match hit {
         None => true,
         Some(hit) => {
-            number < hit.zone || number == hit.zone && kind_place(&hit.trigger) >= ANSWER_KIND
+            number < hit.zone || number == hit.zone && place_of(kind) <= kind_place(&hit.trigger)
         }
     }
 }
 
-// Whether the zone has rules about addresses of answers.
-fn has_answer_rules(zone: &Zone) -> bool
-    ensures { result ≡ has_answer_rules_in zone.now.origin zone.now.content }
+// The place of the kind in the order of kinds.
+fn place_of(kind: Kind) -> u8
+    ensures { result ≡ form.place_of_kind kind }
 {
-    match zone.index() {
-        None => false,
-        Some(index) => index.rules().has(Kind::ResponseIp),
+    match kind {
+        Kind::ClientIp => 0,
+        Kind::Qname => 1,
+        Kind::ResponseIp => 2,
+        Kind::NsDname => 3,
+        Kind::NsIp => 4,
     }
 }
 
-// The records of the answer to the query, as far as it is known.
-fn main_records<'f>(query: &Query, facts: &'f Facts) -> &'f [Record]
-    ensures { result.now ≡ records_of_main query.now facts.now }
+// Whether the zone has rules of this kind.
+fn has_kind(zone: &Zone, kind: Kind) -> bool
+    ensures { result ≡ form.has_kind_in kind zone.now.origin zone.now.content }
 {
-    match facts.get(&query.question.name, query.question.qtype) {
-        Some(Fact::Answer(answer)) => answer.answers(),
-        Some(Fact::Broken(_)) | None => &[],
+    match zone.index() {
+        None => false,
+        Some(index) => index.rules().has(kind),
     }
 }

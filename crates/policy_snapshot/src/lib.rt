@@ -4,6 +4,8 @@
 mod deciding;
 pub mod laws;
 mod lookup;
+mod questions;
+mod sight;
 mod snapshot;
 
 pub use snapshot::Snapshot;

@@ -1,8 +1,0 @@
-use Rattle.std.proofs.Common.{map, option_map}
-use Rattle.std.specs.Arc.{arc_value}
-use Rattle.rpz_precedence.specs.Seen.{hit_seen}
-use Rattle.policy_snapshot.proofs.ZoneLoops.{SameNeed}
-use Rattle.policy_snapshot.proofs.snapshot.Snapshot.needs_answer.Given as goal
-
-abbrev pub invariant-loop-zone : goal.invariant-loop-zone
-invariant-loop-zone l = SameNeed l.number l.zone-index (option_map hit_seen l.hit) (map arc_value l.zone-items)

@@ -1,0 +1,23 @@
+//! What rules are looked up by at a position of the chain of aliases.
+
+use dns_name::Name;
+use dns_record::Record;
+use ip_prefix::Addr;
+use upstream_link::Names;
+
+/// What rules are looked up by at a position of the chain of aliases.
+#[derive(Drop)]
+pub(crate) struct Sight<'a> {
+    pub(crate) position: u32,
+    pub(crate) client: Addr,
+    /// The name at the position.
+    pub(crate) name: &'a Name,
+    /// The same in lower case.
+    pub(crate) lower: &'a Name,
+    /// The records of the answer to the query.
+    pub(crate) records: &'a [Record],
+    /// The servers of the name.
+    pub(crate) servers: &'a [&'a Names],
+    /// The addresses of the servers.
+    pub(crate) addresses: &'a [Addr],
+}
