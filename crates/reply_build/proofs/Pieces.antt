@@ -1,8 +1,10 @@
 -- Replies that are written piece by piece.
 use Rattle.std.proofs.Common.{◌≡◌, ℕ, ◌+◌, Bool, true, false, cond, List, [], ◌∷◌, ◌++◌, length, map, filter, drop, get_or, Some, refl, sym, ap, ◌∙◌, append_assoc, arith}
 use Rattle.std.specs.Prelude.{◌<◌, ◌≤◌}
-use Rattle.std.proofs.lemmas.List.{append-nil, length-map, at_drop_more, drop_all}
+use Rattle.std.proofs.lemmas.List.{append-nil, length-append, length-map, at_drop_more, drop_all}
+use Rattle.std.proofs.lemmas.List.Concat.{flat_map-append}
 use Rattle.dns_record.specs.Record.{PlainRecord, record_octets}
+use Rattle.dns_message.specs.declared.header.Header.{Header}
 use Rattle.dns_message.specs.declared.request.Query.{Query}
 use Rattle.dns_message.specs.Limit.{octets_within, spelling_within}
 use Rattle.dns_message.specs.Request.{reply_edns}
@@ -14,7 +16,8 @@ use Rattle.reply_build.specs.declared.draft_outcome.DraftOutcome.TheVariants.{Ne
 use Rattle.reply_build.specs.Draft.{draft_octets, draft_of, draft_outcome}
 use Rattle.reply_build.specs.declared.said.Said.TheVariants.{Reply}
 use Rattle.reply_build.specs.declared.turn.Turn.TheVariants.{Said}
-use Rattle.reply_build.specs.Reply.{Outcome, needs, gives, silent, outcome_turn, Sections, reply_header, reply_of, local_record, is_asked, local_answer, sections}
+use Rattle.reply_build.specs.Reply.{Outcome, needs, gives, silent, outcome_turn, Place, Sections, reply_header, reply_of, local_record, alias_record, is_asked, denial, local_answer, sections}
+use Rattle.reply_build.specs.Start.{rule_start, rule_sections, alias_reply}
 
 no_records : (octets : List ℕ) → octets ++ records_octets [] ≡ octets
 unfolding records_octets
@@ -24,44 +27,87 @@ first_record : (r : PlainRecord) (rs : List PlainRecord) → records_octets (r �
 unfolding records_octets
 first_record r rs = refl
 
-pub local_pieces : (query : Query) (rows : List PlainLocal) (soa : PlainRecord) (k : ℕ) (a b c : List ℕ)
-    → k ≡ 1 + opt_count (reply_edns 0 query.edns)
-    → a ≡ [] ++ start_octets (reply_header false 0 query) (Some query.question) (length (filter (is_asked query.question.qtype) rows)) 0 k
-    → b ≡ a ++ records_octets (map (local_record query.question.name) (filter (is_asked query.question.qtype) rows))
-    → c ≡ b ++ records_octets (soa ∷ [])
-    → c ≡ draft_octets query (local_answer query rows soa)
-local_pieces query rows soa k a b c ek ea eb ec =
-    let asked = filter (is_asked query.question.qtype) rows in
-    let answer = map (local_record query.question.name) asked in
-    let h = reply_header false 0 query in
-    let n = 1 + opt_count (reply_edns 0 query.edns) in
-    let start : a ≡ start_octets h (Some query.question) (length answer) 0 n =
-    ea ∙ ap (λ (m : ℕ). start_octets h (Some query.question) m 0 k) (sym (length-map asked (local_record query.question.name)))
-    ∙ ap (λ (m : ℕ). start_octets h (Some query.question) (length answer) 0 m) ek in
-    ec
-    ∙ ap (λ (l : List ℕ). l ++ records_octets (soa ∷ [])) (eb ∙ ap (λ (l : List ℕ). l ++ records_octets answer) start ∙ sym (no_records (start_octets h (Some query.question) (length answer) 0 n ++ records_octets answer)))
+both_records : (records more : List PlainRecord) → records_octets (records ++ more) ≡ records_octets records ++ records_octets more
+unfolding records_octets
+both_records records more = flat_map-append record_octets records more
 
-pub alias_pieces : (rcode : ℕ) (query : Query) (alias soa : PlainRecord) (answers authority : List PlainRecord) (k : ℕ) (a b c d e : List ℕ)
-    → k ≡ 1 + opt_count (reply_edns 0 query.edns)
-    → a ≡ [] ++ start_octets (reply_header false rcode query) (Some query.question) (length answers + 1) (length authority) k
-    → b ≡ a ++ record_octets alias
+-- the start of a reply by a rule, and its answers
+with_answers : (h : Header) (query : Query) (place : Place) (answers : List PlainRecord) (authorities : ℕ)
+    → rule_start h query place (length answers) authorities ++ records_octets answers ≡ start_octets h (Some query.question) (length (place.kept ++ answers)) authorities (1 + opt_count (reply_edns 0 query.edns)) ++ records_octets (place.kept ++ answers)
+with_answers h query place answers authorities =
+    let start = λ (n : ℕ). start_octets h (Some query.question) n authorities (1 + opt_count (reply_edns 0 query.edns)) in
+    append_assoc (start (length place.kept + length answers)) (records_octets place.kept) (records_octets answers)
+    ∙ ap (λ (l : List ℕ). start (length place.kept + length answers) ++ l) (sym (both_records place.kept answers))
+    ∙ ap (λ (n : ℕ). start n ++ records_octets (place.kept ++ answers)) (sym (length-append place.kept answers))
+
+abbrev draft : Header → List ℕ → Draft
+draft h octets = record { header = h; octets = octets }
+
+-- a reply by a rule but for its OPT record
+abbrev rule_octets : Header → Query → Place → List PlainRecord → List PlainRecord → List ℕ
+rule_octets h query place answers authority =
+    ((start_octets h (Some query.question) (length (place.kept ++ answers)) (length authority) (1 + opt_count (reply_edns 0 query.edns))
+    ++ records_octets (place.kept ++ answers)) ++ records_octets authority) ++ records_octets (place.soa ∷ [])
+
+-- a reply by a rule that is written section by section
+rule_pieces : (rcode : ℕ) (query : Query) (place : Place) (answers authority : List PlainRecord) (h : Header) (a b c d : List ℕ)
+    → h ≡ reply_header false rcode query
+    → a ≡ rule_start h query place (length answers) (length authority)
+    → b ≡ a ++ records_octets answers
+    → c ≡ b ++ records_octets authority
+    → d ≡ c ++ records_octets (place.soa ∷ [])
+    → draft h d ≡ draft_of query (rule_sections rcode place answers authority)
+rule_pieces rcode query place answers authority h a b c d eh ea eb ec ed =
+    let octets : d ≡ rule_octets h query place answers authority =
+    ed
+    ∙ ap (λ (l : List ℕ). l ++ records_octets (place.soa ∷ []))
+    (ec ∙ ap (λ (l : List ℕ). l ++ records_octets authority)
+    (eb ∙ ap (λ (l : List ℕ). l ++ records_octets answers) ea
+    ∙ with_answers h query place answers (length authority))) in
+    ap (draft h) octets
+    ∙ ap (λ (g : Header). draft g (rule_octets g query place answers authority)) eh
+
+pub denial_pieces : (rcode : ℕ) (query : Query) (place : Place) (h : Header) (a b : List ℕ)
+    → h ≡ reply_header false rcode query
+    → a ≡ rule_start h query place 0 0
+    → b ≡ a ++ records_octets (place.soa ∷ [])
+    → draft h b ≡ draft_of query (denial rcode place)
+denial_pieces rcode query place h a b eh ea eb =
+    rule_pieces rcode query place [] [] h a a a b eh ea (sym (no_records a)) (sym (no_records a)) eb
+    ∙ ap (λ (l : List PlainRecord). draft_of query (sections rcode l [] (place.soa ∷ []))) (append-nil place.kept)
+
+pub local_pieces : (query : Query) (rows : List PlainLocal) (place : Place) (h : Header) (a b c : List ℕ) (n : ℕ)
+    → h ≡ reply_header false 0 query
+    → n ≡ length (filter (is_asked query.question.qtype) rows)
+    → a ≡ rule_start h query place n 0
+    → b ≡ a ++ records_octets (map (local_record place.name) (filter (is_asked query.question.qtype) rows))
+    → c ≡ b ++ records_octets (place.soa ∷ [])
+    → draft h c ≡ draft_of query (local_answer query rows place)
+local_pieces query rows place h a b c n eh en ea eb ec =
+    let asked = filter (is_asked query.question.qtype) rows in
+    let answers = map (local_record place.name) asked in
+    let start : a ≡ rule_start h query place (length answers) 0 =
+    ea ∙ ap (λ (m : ℕ). rule_start h query place m 0) (en ∙ sym (length-map asked (local_record place.name))) in
+    rule_pieces 0 query place answers [] h a b b c eh start eb (sym (no_records b)) ec
+
+pub alias_pieces : (rcode : ℕ) (query : Query) (place : Place) (ttl : ℕ) (target : List (List ℕ)) (answers authority : List PlainRecord) (h : Header) (a b c d e : List ℕ)
+    → h ≡ reply_header false rcode query
+    → a ≡ rule_start h query place (length answers + 1) (length authority)
+    → b ≡ a ++ record_octets (alias_record place.name ttl target)
     → c ≡ b ++ records_octets answers
     → d ≡ c ++ records_octets authority
-    → e ≡ d ++ records_octets (soa ∷ [])
-    → e ≡ draft_octets query (sections rcode (alias ∷ answers) authority (soa ∷ []))
-alias_pieces rcode query alias soa answers authority k a b c d e ek ea eb ec ed ee =
-    let h = reply_header false rcode query in
-    let n = 1 + opt_count (reply_edns 0 query.edns) in
-    let start = start_octets h (Some query.question) (length (alias ∷ answers)) (length authority) n in
+    → e ≡ d ++ records_octets (place.soa ∷ [])
+    → draft h e ≡ draft_of query (alias_reply rcode place ttl target answers authority)
+alias_pieces rcode query place ttl target answers authority h a b c d e eh ea eb ec ed ee =
+    let alias = alias_record place.name ttl target in
     let one : length answers + 1 ≡ length (alias ∷ answers) = omega arith in
-    let begins : a ≡ start = ea ∙ ap (λ (m : ℕ). start_octets h (Some query.question) m (length authority) k) one
-    ∙ ap (λ (m : ℕ). start_octets h (Some query.question) (length (alias ∷ answers)) (length authority) m) ek in
-    let all : c ≡ start ++ records_octets (alias ∷ answers) =
-    ec ∙ ap (λ (l : List ℕ). l ++ records_octets answers) (eb ∙ ap (λ (l : List ℕ). l ++ record_octets alias) begins)
-    ∙ append_assoc start (record_octets alias) (records_octets answers)
-    ∙ ap (λ (l : List ℕ). start ++ l) (sym (first_record alias answers)) in
-    ee
-    ∙ ap (λ (l : List ℕ). l ++ records_octets (soa ∷ [])) (ed ∙ ap (λ (l : List ℕ). l ++ records_octets authority) all)
+    let start : a ≡ rule_start h query place (length (alias ∷ answers)) (length authority) =
+    ea ∙ ap (λ (m : ℕ). rule_start h query place m (length authority)) one in
+    let all : c ≡ a ++ records_octets (alias ∷ answers) =
+    ec ∙ ap (λ (l : List ℕ). l ++ records_octets answers) eb
+    ∙ append_assoc a (record_octets alias) (records_octets answers)
+    ∙ ap (λ (l : List ℕ). a ++ l) (sym (first_record alias answers)) in
+    rule_pieces rcode query place (alias ∷ answers) authority h a c d e eh start all ed ee
 
 -- a reply with its OPT record
 whole_reply : (query : Query) (s : Sections) → draft_octets query s ++ opt_octets (reply_edns 0 query.edns) ≡ spelling (reply_of query s)

@@ -2,3 +2,5 @@ pub mod Verdict
 pub mod Target
 pub mod Reply
 pub mod Draft
+pub mod Seen
+pub mod Start

@@ -1,6 +1,6 @@
 -- The reply to a query, by what is decided of it and what is known, or the question whose answer it needs
 -- (draft-vixie-dnsop-dns-rpz, section 3).
-use Rattle.std.specs.Prelude.{ℕ, Bool, true, false, ◌==◌, ◌||◌, if◌then◌else◌, List, [], ◌∷◌, map, filter, Option, Some, None}
+use Rattle.std.specs.Prelude.{ℕ, Bool, true, false, ◌==◌, ◌||◌, if◌then◌else◌, List, [], ◌∷◌, ◌++◌, map, filter, Option, Some, None}
 use Rattle.std.specs.Option.{option_to_list}
 use Rattle.dns_name.specs.Labels.{name_octets}
 use Rattle.dns_record.specs.Record.{PlainRecord}
@@ -18,13 +18,14 @@ use Rattle.action_codec.specs.declared.action.Action.TheVariants.{NxDomain, NoDa
 use Rattle.upstream_link.specs.Kept.{PlainAnswer}
 use Rattle.upstream_link.specs.declared.fact.Fact.{Fact}
 use Rattle.upstream_link.specs.declared.fact.Fact.TheVariants.{Answer, Broken}
-use Rattle.upstream_link.specs.Facts.{PlainFacts, fact_about}
+use Rattle.upstream_link.specs.Chain.{asks_alias, followed}
+use Rattle.upstream_link.specs.Facts.{PlainFacts, fact_about, main_records}
 use Rattle.upstream_link.specs.Question.{question_of, main_question}
 use Rattle.reply_build.specs.declared.said.Said.TheVariants.{Reply, Silent}
 use Rattle.reply_build.specs.declared.turn.Turn.{Turn}
 use Rattle.reply_build.specs.declared.turn.Turn.TheVariants.{Ask, Said}
-use Rattle.reply_build.specs.Target.{alias_in, asks_alias, target_of}
-use Rattle.reply_build.specs.Verdict.{PlainVerdict, passes, hits}
+use Rattle.reply_build.specs.Target.{alias_in, target_of}
+use Rattle.reply_build.specs.Verdict.{PlainVerdict, passes, fails, hits}
 
 -- a response that keeps the ID and RD of the query (RFC 1035, section 4.1.1)
 abbrev pub reply_header : Bool → ℕ → Query → Header
@@ -56,10 +57,17 @@ sections rcode answer authority additional = record { tc = false; rcode = rcode;
 abbrev pub server_failure : Sections
 server_failure = sections 2 [] [] []
 
+-- Where a rule decides: the aliases that led to its name, which the answer section begins with; the name; and the SOA record of
+-- the rule's zone.
+pub record Place : Type 0 where
+  pub kept : List PlainRecord
+  pub name : List (List ℕ)
+  pub soa : PlainRecord
+
 -- no answer by the policy, with the SOA record of its zone: rcode 3 where the name doesn't exist (section 3.1), and 0
 -- where it has no records of the type (section 3.2)
-abbrev pub denial : ℕ → PlainRecord → Sections
-denial rcode soa = sections rcode [] [] (soa ∷ [])
+abbrev pub denial : ℕ → Place → Sections
+denial rcode place = sections rcode place.kept [] (place.soa ∷ [])
 
 -- a truncated reply with the question alone, so that the client asks again over TCP (section 3.5; RFC 1035, section 4.2.1)
 abbrev pub truncation : Sections
@@ -97,39 +105,41 @@ local_record owner row = record { owner = owner; rtype = row.rtype; class = 1; t
 abbrev pub is_asked : ℕ → PlainLocal → Bool
 is_asked qtype row = qtype == 255 || row.rtype == qtype
 
--- the rows that are asked for, whose owner is the name as it was asked, and the SOA record of the zone (section 3.6)
-abbrev pub local_answer : Query → List PlainLocal → PlainRecord → Sections
-local_answer query rows soa = sections 0 (map (local_record query.question.name) (filter (is_asked query.question.qtype) rows)) [] (soa ∷ [])
+-- the rows that are asked for, whose owner is the name as it was asked or as the alias before it spells it, and the SOA record of
+-- the zone (section 3.6)
+abbrev pub local_answer : Query → List PlainLocal → Place → Sections
+local_answer query rows place =
+    sections 0 (place.kept ++ map (local_record place.name) (filter (is_asked query.question.qtype) rows)) [] (place.soa ∷ [])
 
--- the alias of the name that was asked for, to its target
-abbrev pub alias_record : Query → ℕ → List (List ℕ) → PlainRecord
-alias_record query ttl target = record { owner = query.question.name; rtype = 5; class = 1; ttl = ttl; rdata = name_octets target }
+-- the alias of a name, to its target
+abbrev pub alias_record : List (List ℕ) → ℕ → List (List ℕ) → PlainRecord
+alias_record owner ttl target = record { owner = owner; rtype = 5; class = 1; ttl = ttl; rdata = name_octets target }
 
 -- an alias and the answer of the upstream about its target: its rcode, its answers, and its SOA in the authority section
-abbrev pub alias_sections : PlainRecord → PlainRecord → PlainAnswer → Sections
-alias_sections alias soa answer = sections answer.rcode (alias ∷ answer.answers) (soa_list answer) (soa ∷ [])
+abbrev pub alias_sections : Place → PlainRecord → PlainAnswer → Sections
+alias_sections place alias answer = sections answer.rcode (place.kept ++ alias ∷ answer.answers) (soa_list answer) (place.soa ∷ [])
 
 -- the alias to a target of which this is known
-abbrev pub alias_outcome : Query → ℕ → List (List ℕ) → PlainRecord → Option Fact → Outcome
-alias_outcome query ttl target soa None = needs (question_of target query.question.qtype)
-alias_outcome query ttl target soa (Some (Broken why)) = gives server_failure
-alias_outcome query ttl target soa (Some (Answer answer)) = gives (alias_sections (alias_record query ttl target) soa answer)
+abbrev pub alias_outcome : Query → ℕ → List (List ℕ) → Place → Option Fact → Outcome
+alias_outcome query ttl target place None = needs (question_of target query.question.qtype)
+alias_outcome query ttl target place (Some (Broken why)) = gives server_failure
+alias_outcome query ttl target place (Some (Answer answer)) = gives (alias_sections place (alias_record place.name ttl target) answer)
 
 -- the alias to this target, which is None where it is longer than a name may be; the alias alone where the alias itself is
 -- asked for
-abbrev pub target_outcome : Query → ℕ → PlainRecord → PlainFacts → Option (List (List ℕ)) → Outcome
-target_outcome query ttl soa facts None = gives server_failure
-target_outcome query ttl soa facts (Some target) =
-    if asks_alias query.question.qtype then gives (sections 0 (alias_record query ttl target ∷ []) [] (soa ∷ []))
-    else alias_outcome query ttl target soa (fact_about facts (question_of target query.question.qtype))
+abbrev pub target_outcome : Query → ℕ → Place → PlainFacts → Option (List (List ℕ)) → Outcome
+target_outcome query ttl place facts None = gives server_failure
+target_outcome query ttl place facts (Some target) =
+    if asks_alias query.question.qtype then gives (sections 0 (place.kept ++ alias_record place.name ttl target ∷ []) [] (place.soa ∷ []))
+    else alias_outcome query ttl target place (fact_about facts (question_of target query.question.qtype))
 
-abbrev pub by_alias : Query → List PlainLocal → PlainRecord → PlainFacts → Option PlainLocal → Outcome
-by_alias query rows soa facts None = gives (local_answer query rows soa)
-by_alias query rows soa facts (Some row) = target_outcome query row.ttl soa facts (target_of query.question.name row.rdata)
+abbrev pub by_alias : Query → List PlainLocal → Place → PlainFacts → Option PlainLocal → Outcome
+by_alias query rows place facts None = gives (local_answer query rows place)
+by_alias query rows place facts (Some row) = target_outcome query row.ttl place facts (target_of place.name row.rdata)
 
 -- local data, or the alias that it is
-abbrev pub local_outcome : Query → List PlainLocal → PlainRecord → PlainFacts → Outcome
-local_outcome query rows soa facts = by_alias query rows soa facts (alias_in rows)
+abbrev pub local_outcome : Query → List PlainLocal → Place → PlainFacts → Outcome
+local_outcome query rows place facts = by_alias query rows place facts (alias_in rows)
 
 abbrev pub over_tcp : Transport → Bool
 over_tcp Udp = false
@@ -140,17 +150,22 @@ abbrev pub tcp_only_outcome : Query → PlainFacts → Outcome
 tcp_only_outcome query facts = if over_tcp query.transport then main_outcome query facts else gives truncation
 
 -- what a rule's action comes to; nothing is said for DROP (section 3.4)
-abbrev pub by_action : Query → PlainFacts → PlainRecord → Action → Outcome
-by_action query facts soa NxDomain = gives (denial 3 soa)
-by_action query facts soa NoData = gives (denial 0 soa)
-by_action query facts soa PassThru = main_outcome query facts
-by_action query facts soa Drop = silent
-by_action query facts soa TcpOnly = tcp_only_outcome query facts
-by_action query facts soa (Local rows) = local_outcome query rows soa facts
+abbrev pub by_action : Query → PlainFacts → Place → Action → Outcome
+by_action query facts place NxDomain = gives (denial 3 place)
+by_action query facts place NoData = gives (denial 0 place)
+by_action query facts place PassThru = main_outcome query facts
+by_action query facts place Drop = silent
+by_action query facts place TcpOnly = tcp_only_outcome query facts
+by_action query facts place (Local rows) = local_outcome query rows place facts
+
+-- where a rule decides that is hit behind these names: the aliases are those of the answer to the query
+abbrev pub place_of : Query → PlainFacts → PlainRecord → List (List (List ℕ)) → List (List ℕ) → Place
+place_of query facts soa before name = record { kept = followed (main_records query facts) before; name = name; soa = soa }
 
 abbrev pub by_verdict : Query → PlainVerdict → PlainFacts → Outcome
 by_verdict query passes facts = main_outcome query facts
-by_verdict query (hits action soa) facts = by_action query facts soa action
+by_verdict query fails facts = gives server_failure
+by_verdict query (hits action soa before name) facts = by_action query facts (place_of query facts soa before name) action
 
 -- the question is asked, or the reply is sent, in its truncated form where it is longer than the limit
 abbrev pub outcome_turn : ℕ → Query → Outcome → Turn

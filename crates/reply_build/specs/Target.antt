@@ -1,5 +1,5 @@
 -- The alias of a rule (draft-vixie-dnsop-dns-rpz, section 3.6).
-use Rattle.std.specs.Prelude.{ℕ, Bool, ◌==◌, ◌||◌, if◌then◌else◌, List, [], ◌∷◌, Option, Some, None, Result, Ok, Err}
+use Rattle.std.specs.Prelude.{ℕ, ◌==◌, if◌then◌else◌, List, [], ◌∷◌, Option, Some, None, Result, Ok, Err}
 use Rattle.dns_name.specs.Join.{join_outcome}
 use Rattle.dns_name.specs.Reading.{Outcome, name_at}
 use Rattle.dns_name.specs.declared.fault.TooLong.{TooLong}
@@ -11,10 +11,6 @@ abbrev pub alias_in : List PlainLocal → Option PlainLocal
 alias_in [] = None
 alias_in (row ∷ []) = if row.rtype == 5 then Some row else None
 alias_in (row ∷ other ∷ rows) = None
-
--- the alias itself is asked for: the type is CNAME or ANY
-abbrev pub asks_alias : ℕ → Bool
-asks_alias qtype = qtype == 5 || qtype == 255
 
 abbrev pub if_ok : Result (List (List ℕ)) TooLong → Option (List (List ℕ))
 if_ok (Ok name) = Some name

@@ -1,15 +1,19 @@
 -- What is decided of a query.
+use Rattle.std.specs.Prelude.{ℕ, List}
 use Rattle.dns_record.specs.Record.{PlainRecord}
 use Rattle.action_codec.specs.declared.action.Action.{Action}
 use Rattle.reply_build.specs.declared.verdict.Verdict.{Verdict}
-use Rattle.reply_build.specs.declared.verdict.Verdict.TheVariants.{Pass, Hit}
+use Rattle.reply_build.specs.declared.verdict.Verdict.TheVariants.{Pass, Fail, Hit}
 
--- No rule is about it, or this is done by the rule that comes first, of the zone with this SOA record.
+-- No rule is about it; there is no answer, whatever the upstream has; or this is done by the rule that decides, of the zone with
+-- this SOA record, behind these names of the chain of aliases, at this name.
 pub data PlainVerdict : Type 0 where
   passes : PlainVerdict
-  hits : Action → PlainRecord → PlainVerdict
+  fails : PlainVerdict
+  hits : Action → PlainRecord → List (List (List ℕ)) → List (List ℕ) → PlainVerdict
 
 -- what the code holds by reference
 abbrev pub verdict_of : Verdict → PlainVerdict
 verdict_of Pass = passes
-verdict_of (Hit action soa) = hits action.now soa.now
+verdict_of Fail = fails
+verdict_of (Hit action soa before name) = hits action.now soa.now before.now name.now

@@ -4,17 +4,22 @@ ghost use Rattle.std.specs.Prelude.{◌≡◌, ◌≤◌, IfOk};
 ghost use Rattle.reply_build.specs.Draft.{draft_outcome};
 ghost use Rattle.reply_build.specs.Reply as form;
 ghost use Rattle.reply_build.specs.Reply.{reply};
+ghost use Rattle.reply_build.specs.Seen.{place_seen};
 ghost use Rattle.reply_build.specs.Verdict.{verdict_of};
+ghost use Rattle.upstream_link.specs.Chain.{followed};
+ghost use Rattle.upstream_link.specs.Facts.{main_records};
 
 use crate::draft::finish;
 use crate::draft_outcome::DraftOutcome;
 use crate::local::local_outcome;
-use crate::reply::{denial, main_outcome, truncation};
+use crate::place::PlaceRef;
+use crate::reply::{denial, main_outcome, server_failure, truncation};
 use crate::said::Said;
 use crate::turn::Turn;
 use crate::verdict::Verdict;
 use action_codec::Action;
 use dns_message::{GREATEST_LIMIT, LEAST_LIMIT, Query};
+use dns_name::Name;
 use dns_record::Record;
 use ip_prefix::Transport;
 use std::alloc::{AllocError, Global};
@@ -54,8 +59,33 @@ fn by_verdict(
 {
     match verdict {
         Verdict::Pass => main_outcome(alloc, query, facts),
-        Verdict::Hit { action, soa } => by_action(alloc, query, facts, soa, action),
+        Verdict::Fail => Ok(DraftOutcome::Gives(server_failure(alloc, query)?)),
+        Verdict::Hit {
+            action,
+            soa,
+            before,
+            name,
+        } => {
+            let place = PlaceRef {
+                records: records_behind(query, facts, before),
+                before,
+                name,
+                soa,
+            };
+            by_action(alloc, query, facts, &place, action)
+        }
     }
+}
+
+// The records in which the aliases of these names stand: those of the answer to the query. Where there are no names, it
+// isn't looked for.
+fn records_behind<'f>(query: &Query, facts: &'f Facts, before: &[Name]) -> &'f [Record]
+    ensures { followed result.now before.now ≡ followed (main_records query.now facts.now) before.now }
+{
+    if before.is_empty() {
+        return &[];
+    }
+    facts.records(&query.question.name, query.question.qtype)
 }
 
 // What a rule's action comes to.
@@ -63,19 +93,19 @@ fn by_action(
     alloc: Global,
     query: &Query,
     facts: &Facts,
-    soa: &Record,
+    place: &PlaceRef<'_>,
     action: &Action,
 ) -> Result<DraftOutcome, AllocError>
     ensures { IfOk result (λ outcome. outcome
-        ≡ draft_outcome query.now (form.by_action query.now facts.now soa.now action.now)) }
+        ≡ draft_outcome query.now (form.by_action query.now facts.now (place_seen place.now) action.now)) }
 {
     match action {
-        Action::NxDomain => Ok(DraftOutcome::Gives(denial(alloc, 3, query, soa)?)),
-        Action::NoData => Ok(DraftOutcome::Gives(denial(alloc, 0, query, soa)?)),
+        Action::NxDomain => Ok(DraftOutcome::Gives(denial(alloc, 3, query, place)?)),
+        Action::NoData => Ok(DraftOutcome::Gives(denial(alloc, 0, query, place)?)),
         Action::PassThru => main_outcome(alloc, query, facts),
         Action::Drop => Ok(DraftOutcome::Silent),
         Action::TcpOnly => tcp_only_outcome(alloc, query, facts),
-        Action::Local(rows) => local_outcome(alloc, query, rows.as_slice(), soa, facts),
+        Action::Local(rows) => local_outcome(alloc, query, rows.as_slice(), place, facts),
     }
 }
 

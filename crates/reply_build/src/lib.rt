@@ -6,6 +6,7 @@ mod building;
 mod draft;
 mod draft_outcome;
 mod local;
+mod place;
 mod reply;
 mod said;
 mod target;

@@ -1,35 +1,39 @@
 //! Replies with local data (draft-vixie-dnsop-dns-rpz, section 3.6).
 
-ghost use Rattle.std.specs.Prelude.{◌≡◌, ◌∷◌, [], ◌++◌, length, map, filter, option_copied, IfOk, OnOk};
+ghost use Rattle.std.specs.Prelude.{◌≡◌, ◌^◌, ◌<◌, ◌∷◌, [], ◌++◌, length, map, filter, option_copied, IfOk, OnOk};
 ghost use Rattle.dns_record.specs.Record.{record_octets};
 ghost use Rattle.dns_message.specs.Spelling.{records_octets};
 ghost use Rattle.reply_build.specs.Draft.{draft_of, draft_outcome};
 ghost use Rattle.reply_build.specs.Reply as form;
 ghost use Rattle.reply_build.specs.Reply.{alias_record, local_record};
+ghost use Rattle.reply_build.specs.Seen.{place_seen};
+ghost use Rattle.reply_build.specs.Start.{alias_reply};
 ghost use Rattle.upstream_link.specs.Question.{question_of as question_about};
 
-use crate::draft::{Draft, opt_count};
+use crate::draft::Draft;
 use crate::draft_outcome::DraftOutcome;
-use crate::reply::{reply_header, server_failure, soa_slice};
-use crate::target::{ANY, alias_in, asks_alias, target_of};
+use crate::place::PlaceRef;
+use crate::reply::{begin, reply_header, server_failure, soa_slice};
+use crate::target::{alias_in, target_of};
 use action_codec::LocalRow;
-use dns_message::{Query, Question, write_records, write_start};
+use dns_message::{Query, Question, write_records};
 use dns_name::{Name, Octets};
 use dns_record::{Record, class, rtype, write_record};
 use std::alloc::{AllocError, Global};
 use std::slice;
-use upstream_link::{Answer, Fact, Facts};
+use upstream_link::{Answer, Fact, Facts, asks_alias};
 
 // Whether the row has the type that is asked for.
 fn is_asked(qtype: u16, row: &LocalRow) -> bool
     ensures { result ≡ form.is_asked qtype row.now }
 {
-    qtype == ANY || row.rtype() == qtype
+    qtype == rtype::ANY || row.rtype() == qtype
 }
 
 // How many rows have the type that is asked for.
 fn count_asked(qtype: u16, rows: &[LocalRow]) -> usize
-    ensures { result ≡ length (filter (form.is_asked qtype) rows.now) }
+    ensures count { result ≡ length (filter (form.is_asked qtype) rows.now) }
+    ensures few { result < 2 ^ 62 }
 {
     rows.iter().filter(|row| is_asked(qtype, row)).count()
 }
@@ -75,54 +79,36 @@ fn write_asked(
     Ok(())
 }
 
-// The rows that are asked for, and the SOA record of the zone.
-#[tactic(auto, using(crate::proofs::Pieces::local_pieces))]
+// The rows that are asked for behind the aliases that led to the place, and the SOA record of the zone.
 fn local_draft(
     alloc: Global,
     query: &Query,
     rows: &[LocalRow],
-    soa: &Record,
+    place: &PlaceRef<'_>,
 ) -> Result<Draft, AllocError>
     ensures { IfOk result (λ draft. draft
-        ≡ draft_of query.now (form.local_answer query.now rows.now soa.now)) }
+        ≡ draft_of query.now (form.local_answer query.now rows.now (place_seen place.now))) }
 {
     let header = reply_header(false, 0, query);
     let qtype = query.question.qtype;
     let count = count_asked(qtype, rows);
-    let mut out = Octets::with_capacity(alloc, 512)?;
-    let additional = 1 + opt_count(query);
-    write_start(
-        &mut out,
-        &header,
-        Some(&query.question),
-        count,
-        0,
-        additional,
-    )?;
-    write_asked(&mut out, &query.question.name, qtype, rows)?;
-    write_records(&mut out, slice::from_ref(soa))?;
+    let mut out = begin(alloc, &header, query, place, count, 0)?;
+    write_asked(&mut out, place.name, qtype, rows)?;
+    write_records(&mut out, slice::from_ref(place.soa))?;
     Ok(Draft {
         header,
         octets: out,
     })
 }
 
-// Writes the alias of the name that was asked for at the end.
-fn write_alias(out: &mut Octets, query: &Query, ttl: u32, target: &Name) -> Result<(), AllocError>
-    ensures { OnOk result (out.new ≡ out.old ++ record_octets (alias_record query.now ttl target.now)) }
+// Writes the alias of a name at the end.
+fn write_alias(out: &mut Octets, owner: &Name, ttl: u32, target: &Name) -> Result<(), AllocError>
+    ensures { OnOk result (out.new ≡ out.old ++ record_octets (alias_record owner.now ttl target.now)) }
 {
-    write_record(
-        out,
-        &query.question.name,
-        rtype::CNAME,
-        class::IN,
-        ttl,
-        target.octets(),
-    )
+    write_record(out, owner, rtype::CNAME, class::IN, ttl, target.octets())
 }
 
-// An alias, with these answers behind it.
-#[tactic(auto, using(crate::proofs::Pieces::alias_pieces))]
+// An alias behind those that led to the place, with these answers behind it.
 fn alias_draft(
     alloc: Global,
     rcode: u8,
@@ -131,26 +117,18 @@ fn alias_draft(
     target: &Name,
     answers: &[Record],
     authority: &[Record],
-    soa: &Record,
+    place: &PlaceRef<'_>,
 ) -> Result<Draft, AllocError>
     ensures { IfOk result (λ draft. draft
-        ≡ draft_of query.now (form.sections rcode (alias_record query.now ttl target.now ∷ answers.now) authority.now (soa.now ∷ []))) }
+        ≡ draft_of query.now (alias_reply rcode (place_seen place.now) ttl target.now answers.now authority.now)) }
 {
     let header = reply_header(false, rcode, query);
     let count = answers.len() + 1;
-    let mut out = Octets::with_capacity(alloc, 512)?;
-    write_start(
-        &mut out,
-        &header,
-        Some(&query.question),
-        count,
-        authority.len(),
-        1 + opt_count(query),
-    )?;
-    write_alias(&mut out, query, ttl, target)?;
+    let mut out = begin(alloc, &header, query, place, count, authority.len())?;
+    write_alias(&mut out, place.name, ttl, target)?;
     write_records(&mut out, answers)?;
     write_records(&mut out, authority)?;
-    write_records(&mut out, slice::from_ref(soa))?;
+    write_records(&mut out, slice::from_ref(place.soa))?;
     Ok(Draft {
         header,
         octets: out,
@@ -163,11 +141,11 @@ fn alias_answer_draft(
     query: &Query,
     ttl: u32,
     target: &Name,
-    soa: &Record,
+    place: &PlaceRef<'_>,
     answer: &Answer,
 ) -> Result<Draft, AllocError>
     ensures { IfOk result (λ draft. draft
-        ≡ draft_of query.now (form.alias_sections (alias_record query.now ttl target.now) soa.now answer.now)) }
+        ≡ draft_of query.now (form.alias_sections (place_seen place.now) (alias_record place.now.name.now ttl target.now) answer.now)) }
 {
     alias_draft(
         alloc,
@@ -177,7 +155,7 @@ fn alias_answer_draft(
         target,
         answer.answers(),
         soa_slice(answer),
-        soa,
+        place,
     )
 }
 
@@ -198,17 +176,17 @@ fn alias_outcome(
     query: &Query,
     ttl: u32,
     target: Name,
-    soa: &Record,
+    place: &PlaceRef<'_>,
     fact: Option<&Fact>,
 ) -> Result<DraftOutcome, AllocError>
     ensures { IfOk result (λ outcome. outcome
-        ≡ draft_outcome query.now (form.alias_outcome query.now ttl target soa.now (option_copied fact.entry))) }
+        ≡ draft_outcome query.now (form.alias_outcome query.now ttl target (place_seen place.now) (option_copied fact.entry))) }
 {
     match fact {
         None => Ok(DraftOutcome::Needs(question_of(target, query.question.qtype))),
         Some(Fact::Broken(_)) => Ok(DraftOutcome::Gives(server_failure(alloc, query)?)),
         Some(Fact::Answer(answer)) => {
-            let draft = alias_answer_draft(alloc, query, ttl, &target, soa, answer)?;
+            let draft = alias_answer_draft(alloc, query, ttl, &target, place, answer)?;
             Ok(DraftOutcome::Gives(draft))
         }
     }
@@ -219,22 +197,22 @@ fn target_outcome(
     alloc: Global,
     query: &Query,
     ttl: u32,
-    soa: &Record,
+    place: &PlaceRef<'_>,
     facts: &Facts,
     target: Option<Name>,
 ) -> Result<DraftOutcome, AllocError>
     ensures { IfOk result (λ outcome. outcome
-        ≡ draft_outcome query.now (form.target_outcome query.now ttl soa.now facts.now target)) }
+        ≡ draft_outcome query.now (form.target_outcome query.now ttl (place_seen place.now) facts.now target)) }
 {
     let Some(target) = target else {
         return Ok(DraftOutcome::Gives(server_failure(alloc, query)?));
     };
     if asks_alias(query.question.qtype) {
-        let draft = alias_draft(alloc, 0, query, ttl, &target, &[], &[], soa)?;
+        let draft = alias_draft(alloc, 0, query, ttl, &target, &[], &[], place)?;
         return Ok(DraftOutcome::Gives(draft));
     }
     let fact = facts.get(&target, query.question.qtype);
-    alias_outcome(alloc, query, ttl, target, soa, fact)
+    alias_outcome(alloc, query, ttl, target, place, fact)
 }
 
 /// Local data, or the alias that it is.
@@ -242,17 +220,17 @@ pub fn local_outcome(
     alloc: Global,
     query: &Query,
     rows: &[LocalRow],
-    soa: &Record,
+    place: &PlaceRef<'_>,
     facts: &Facts,
 ) -> Result<DraftOutcome, AllocError>
     ensures { IfOk result (λ outcome. outcome
-        ≡ draft_outcome query.now (form.local_outcome query.now rows.now soa.now facts.now)) }
+        ≡ draft_outcome query.now (form.local_outcome query.now rows.now (place_seen place.now) facts.now)) }
 {
     match alias_in(rows) {
-        None => Ok(DraftOutcome::Gives(local_draft(alloc, query, rows, soa)?)),
+        None => Ok(DraftOutcome::Gives(local_draft(alloc, query, rows, place)?)),
         Some(row) => {
-            let target = target_of(alloc, &query.question.name, row.rdata())?;
-            target_outcome(alloc, query, row.ttl(), soa, facts, target)
+            let target = target_of(alloc, place.name, row.rdata())?;
+            target_outcome(alloc, query, row.ttl(), place, facts, target)
         }
     }
 }

@@ -1,12 +1,15 @@
 //! Replies of records that are at hand.
 
-ghost use Rattle.std.specs.Prelude.{◌≡◌, option_copied, IfOk};
+ghost use Rattle.std.specs.Prelude.{◌≡◌, ◌^◌, ◌<◌, option_copied, IfOk};
 ghost use Rattle.reply_build.specs.Draft.{draft_of, draft_outcome};
 ghost use Rattle.reply_build.specs.Reply as form;
+ghost use Rattle.reply_build.specs.Seen.{place_seen};
+ghost use Rattle.reply_build.specs.Start.{rule_start};
 ghost use Rattle.upstream_link.specs.Question.{main_question as question_about};
 
 use crate::draft::{Draft, opt_count};
 use crate::draft_outcome::DraftOutcome;
+use crate::place::{PlaceRef, count_kept, write_kept};
 use dns_message::{Header, Query, write_records, write_start};
 use dns_name::Octets;
 use dns_record::Record;
@@ -59,11 +62,49 @@ fn sections_draft(
     Ok(Draft { header, octets })
 }
 
-/// There is no answer by the policy: the name doesn't exist (rcode 3), or has no records of the type (rcode 0).
-pub fn denial(alloc: Global, rcode: u8, query: &Query, soa: &Record) -> Result<Draft, AllocError>
-    ensures { IfOk result (λ draft. draft ≡ draft_of query.now (form.denial rcode soa.now)) }
+/// The start of a reply by a rule, up to the aliases that led to the place. So many answers and authorities follow, and
+/// then the SOA record of the zone and the OPT record.
+#[tactic(auto, using(crate::proofs::Followed::count_followed))]
+pub fn begin(
+    alloc: Global,
+    header: &Header,
+    query: &Query,
+    place: &PlaceRef<'_>,
+    answers: usize,
+    authorities: usize,
+) -> Result<Octets, AllocError>
+    requires { answers < 2 ^ 63 }
+    ensures { IfOk result (λ out. out
+        ≡ rule_start header.now query.now (place_seen place.now) answers authorities) }
 {
-    sections_draft(alloc, false, rcode, query, &[], &[], slice::from_ref(soa))
+    let kept = count_kept(place.records, place.before);
+    let mut out = Octets::with_capacity(alloc, 512)?;
+    write_start(
+        &mut out,
+        header,
+        Some(&query.question),
+        kept + answers,
+        authorities,
+        1 + opt_count(query),
+    )?;
+    write_kept(&mut out, place.records, place.before)?;
+    Ok(out)
+}
+
+/// There is no answer by the policy: the name doesn't exist (rcode 3), or has no records of the type (rcode 0).
+pub fn denial(
+    alloc: Global,
+    rcode: u8,
+    query: &Query,
+    place: &PlaceRef<'_>,
+) -> Result<Draft, AllocError>
+    ensures { IfOk result (λ draft. draft
+        ≡ draft_of query.now (form.denial rcode (place_seen place.now))) }
+{
+    let header = reply_header(false, rcode, query);
+    let mut octets = begin(alloc, &header, query, place, 0, 0)?;
+    write_records(&mut octets, slice::from_ref(place.soa))?;
+    Ok(Draft { header, octets })
 }
 
 /// The client is to ask again over TCP.

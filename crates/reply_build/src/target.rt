@@ -2,15 +2,12 @@
 
 ghost use Rattle.std.specs.Prelude.{◌≡◌, List, [], ◌∷◌, Option, option_copied, IfOk};
 ghost use Rattle.dns_name.specs.Reading.{name_at};
-ghost use Rattle.reply_build.specs.Target.{alias_in as alias_among, asks_alias as is_for_alias, target_by as target_form, target_of as target_named};
+ghost use Rattle.reply_build.specs.Target.{alias_in as alias_among, target_by as target_form, target_of as target_named};
 
 use action_codec::LocalRow;
 use dns_name::{JoinError, Name, NameError};
 use dns_record::rtype;
 use std::alloc::{AllocError, Global};
-
-/// The type ANY of a question: all records (RFC 1035, section 3.2.3).
-pub const ANY: u16 = 255;
 
 /// The row, if local data is one CNAME row.
 pub fn alias_in(rows: &[LocalRow]) -> Option<&LocalRow>
@@ -20,13 +17,6 @@ pub fn alias_in(rows: &[LocalRow]) -> Option<&LocalRow>
         [row] if row.rtype() == rtype::CNAME => Some(row),
         _ => None,
     }
-}
-
-/// Whether a question of this type asks for an alias itself.
-pub fn asks_alias(qtype: u16) -> bool
-    ensures { result ≡ is_for_alias qtype }
-{
-    qtype == rtype::CNAME || qtype == ANY
 }
 
 /// The name that an alias leads to, of this data; the name that is answered for stands in for an asterisk. `None`

@@ -1,6 +1,7 @@
 //! What is decided of a query.
 
 use action_codec::Action;
+use dns_name::Name;
 use dns_record::Record;
 
 /// What is decided of a query.
@@ -8,11 +9,17 @@ use dns_record::Record;
 pub enum Verdict<'a> {
     /// No rule is about it.
     Pass,
+    /// There is no answer, whatever the upstream has.
+    Fail,
     /// A rule is about it.
     Hit {
         /// What the rule does.
         action: &'a Action,
         /// The SOA record of the rule's zone, with the zone's origin as its owner.
         soa: &'a Record,
+        /// The names of the chain of aliases before the one at which the rule is hit.
+        before: &'a [Name],
+        /// The name at which the rule is hit: that of the query, or the target of an alias, as it is spelled there.
+        name: &'a Name,
     },
 }

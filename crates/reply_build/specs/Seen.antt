@@ -1,0 +1,7 @@
+-- What the code borrows, as plain values.
+use Rattle.upstream_link.specs.Chain.{followed}
+use Rattle.reply_build.specs.declared.place.PlaceRef.{PlaceRef}
+use Rattle.reply_build.specs.Reply.{Place}
+
+abbrev pub place_seen : PlaceRef → Place
+place_seen place = record { kept = followed place.records.now place.before.now; name = place.name.now; soa = place.soa.now }

@@ -1,0 +1,66 @@
+//! Where a rule decides, and the aliases that led there.
+
+ghost use Rattle.std.specs.Prelude.{◌≡◌, ◌^◌, ◌<◌, ◌++◌, length, filter, OnOk};
+ghost use Rattle.std.specs.Option.{option_to_list};
+ghost use Rattle.dns_message.specs.Spelling.{records_octets};
+ghost use Rattle.upstream_link.specs.Chain as chains;
+ghost use Rattle.upstream_link.specs.Chain.{followed};
+ghost use Rattle.reply_build.specs.Start as start;
+
+use dns_message::write_records;
+use dns_name::{Name, Octets};
+use dns_record::Record;
+use std::alloc::AllocError;
+use std::slice;
+use upstream_link::alias_of;
+
+/// Where a rule decides.
+#[derive(Clone, Copy)]
+pub struct PlaceRef<'a> {
+    /// The records that aliases are looked up in: those of the answer to the query.
+    pub records: &'a [Record],
+    /// The names of the chain before the rule's; a reply begins with their aliases.
+    pub before: &'a [Name],
+    /// The name at which the rule is hit.
+    pub name: &'a Name,
+    /// The SOA record of the rule's zone.
+    pub soa: &'a Record,
+}
+
+// Whether the records have an alias of this name.
+fn has_alias(records: &[Record], name: &Name) -> bool
+    ensures { result ≡ start.has_alias records.now name.now }
+{
+    alias_of(records, name).is_some()
+}
+
+/// How many of these names have an alias among the records.
+pub fn count_kept(records: &[Record], before: &[Name]) -> usize
+    ensures count { result ≡ length (filter (start.has_alias records.now) before.now) }
+    ensures few { result < 2 ^ 62 }
+{
+    before
+        .iter()
+        .filter(|name| has_alias(records, name))
+        .count()
+}
+
+// Writes the alias of the name at the end, if the records have one.
+fn write_alias_of(out: &mut Octets, records: &[Record], name: &Name) -> Result<(), AllocError>
+    ensures { OnOk result (out.new ≡ out.old ++ records_octets (option_to_list (chains.alias_of records.now name.now))) }
+{
+    match alias_of(records, name) {
+        None => Ok(()),
+        Some(alias) => write_records(out, slice::from_ref(alias)),
+    }
+}
+
+/// Writes the aliases of these names at the end that the records have.
+pub fn write_kept(out: &mut Octets, records: &[Record], before: &[Name]) -> Result<(), AllocError>
+    ensures { OnOk result (out.new ≡ out.old ++ records_octets (followed records.now before.now)) }
+{
+    for name in before {
+        write_alias_of(out, records, name)?;
+    }
+    Ok(())
+}
