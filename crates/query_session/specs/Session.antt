@@ -1,5 +1,5 @@
 -- How one query is answered, turn by turn.
-use Rattle.std.specs.Prelude.{[], ◌∷◌, ◌++◌, Option, Some, None}
+use Rattle.std.specs.Prelude.{◌≡◌, ◌<◌, nat_lt, if◌then◌else◌, [], ◌∷◌, ◌++◌, length, Option, Some, None, IfSome}
 use Rattle.dns_message.specs.declared.question.Question.{Question}
 use Rattle.dns_message.specs.declared.request.Incoming.{Incoming}
 use Rattle.dns_message.specs.declared.request.Incoming.TheVariants.{Silent, Refuse, Query as Asks}
@@ -7,34 +7,40 @@ use Rattle.dns_message.specs.declared.request.Query.{Query}
 use Rattle.dns_message.specs.declared.limit.TheConstants.{LEAST_LIMIT}
 use Rattle.dns_message.specs.Limit.{reply_limit, spelling_within}
 use Rattle.upstream_link.specs.declared.fact.Fact.{Fact}
-use Rattle.upstream_link.specs.Facts.{PlainFacts}
+use Rattle.upstream_link.specs.declared.facts.TheConstants.{FACT_LIMIT}
+use Rattle.upstream_link.specs.Facts.{PlainFacts, fact_about}
 use Rattle.reply_build.specs.declared.said.Said.TheVariants as said
 use Rattle.reply_build.specs.declared.turn.Turn.{Turn}
 use Rattle.reply_build.specs.declared.turn.Turn.TheVariants.{Ask, Said}
 use Rattle.reply_build.specs.Reply.{reply}
-use Rattle.reply_build.specs.Verdict.{PlainVerdict, passes, hits}
-use Rattle.rpz_precedence.specs.Best.{PlainHit}
-use Rattle.policy_snapshot.specs.Next.{Next, ask, decided_by, no_hit, next}
+use Rattle.reply_build.specs.Verdict.{PlainVerdict, passes, fails, hits}
+use Rattle.policy_snapshot.specs.Next.{Next, ask, decided_by, no_hit, chain_too_long, next}
 use Rattle.policy_snapshot.specs.Policy.{PlainPolicy}
 use Rattle.query_session.specs.State.{SessionState}
 
--- what is decided by the best hit, where nothing is pending
-abbrev pub hit_verdict : Option PlainHit → PlainVerdict
-hit_verdict None = passes
-hit_verdict (Some hit) = hits hit.action hit.soa
+-- the reply to a verdict, or the question that it needs
+abbrev pub verdict_turn : Query → PlainFacts → PlainVerdict → Turn
+verdict_turn query facts verdict = reply (reply_limit query) query verdict facts
 
--- a rule that decides is answered by, and where none is hit the answer passes, once all is known that the reply needs
+-- a rule that decides is answered by, and where none is hit the answer passes, once all is known that the reply needs; there is
+-- no answer where the chain of aliases is too long
 abbrev pub turn_by_next : Query → PlainFacts → Next → Turn
 turn_by_next query facts (ask question) = Ask question
-turn_by_next query facts (decided_by hit) = reply (reply_limit query) query (hits hit.action hit.soa) facts
-turn_by_next query facts no_hit = reply (reply_limit query) query passes facts
+turn_by_next query facts (decided_by before name hit) = verdict_turn query facts (hits hit.action hit.soa before name)
+turn_by_next query facts no_hit = verdict_turn query facts passes
+turn_by_next query facts chain_too_long = verdict_turn query facts fails
+
+-- a question is asked while fewer than FACT_LIMIT facts are known; there is no answer where one more is needed
+abbrev pub within_limit : Query → PlainFacts → Turn → Turn
+within_limit query facts (Said s) = Said s
+within_limit query facts (Ask question) = if nat_lt (length facts) FACT_LIMIT then Ask question else verdict_turn query facts fails
 
 -- What is done about a message under a policy, by what is known. A refusal has at most the question and the OPT record, and
 -- keeps to the least limit.
 abbrev pub turn_by : PlainPolicy → Incoming → PlainFacts → Turn
 turn_by policy Silent facts = Said said.Silent
 turn_by policy (Refuse message) facts = Said (said.Reply (spelling_within LEAST_LIMIT message))
-turn_by policy (Asks query) facts = turn_by_next query facts (next policy query facts)
+turn_by policy (Asks query) facts = within_limit query facts (turn_by_next query facts (next policy query facts))
 
 -- what a session does at this point
 abbrev pub turn_of : SessionState → Turn
@@ -64,3 +70,7 @@ after_fact session fact = record { policy = session.policy; incoming = session.i
 -- waiting for the answer to a question, with these facts
 abbrev pub awaiting : SessionState → PlainFacts → Question → SessionState
 awaiting session facts question = record { policy = session.policy; incoming = session.incoming; facts = facts; asked = Some question }
+
+-- What a session has asked for isn't known yet, and there is room for it.
+abbrev pub AsksAnew : PlainFacts → Option Question → Type 0
+AsksAnew facts asked = IfSome asked (λ question. (fact_about facts question ≡ None) × (length facts < FACT_LIMIT))

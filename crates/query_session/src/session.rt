@@ -1,27 +1,24 @@
 //! A session: one message of a client, from its coming to what is said.
 
-ghost use Rattle.std.specs.Prelude.{◌≡◌, ◌∷◌, [], ◌++◌, Some, IfOk, IsSome, OnOk, OnErr, option_copied, option_map, is_some};
+ghost use Rattle.std.specs.Prelude.{◌≡◌, ◌∷◌, [], ◌++◌, Some, IfOk, IsSome, OnOk, OnErr, option_copied, is_some};
 ghost use Rattle.dns_message.specs.declared.question.Question as questions;
 ghost use Rattle.dns_message.specs.Request.{incoming_of};
-ghost use Rattle.policy_snapshot.specs.Next.{next};
-ghost use Rattle.reply_build.specs.Verdict.{verdict_of as verdict_seen};
-ghost use Rattle.rpz_precedence.specs.Seen.{hit_seen};
 ghost use Rattle.upstream_link.specs.declared.fact.Fact as facts;
 ghost use Rattle.upstream_link.specs.Facts.{PlainFacts};
-ghost use Rattle.query_session.specs.Session.{after_fact, after_turn, awaiting, new_session, hit_verdict, question_in as asks, turn_by_next, turn_of};
+ghost use Rattle.query_session.specs.Session.{after_fact, after_turn, awaiting, new_session, question_in as asks, turn_of};
 
-use dns_message::{Incoming, LEAST_LIMIT, Query, Question, classify, reply_limit, write_message};
+use crate::turns::turn_about;
+use dns_message::{Incoming, LEAST_LIMIT, Question, classify, write_message};
 use ip_prefix::{Addr, Transport};
 use policy_snapshot::Snapshot;
-use reply_build::{Said, Turn, Verdict, build};
-use rpz_precedence::Hit;
+use reply_build::{Said, Turn};
 use std::alloc::{AllocError, Global};
 use std::marker::Model;
 use std::sync::Arc;
 use upstream_link::{Fact, Facts};
 
-/// What is done with one message of a client, under the policy that held when it came. Contracts see that policy,
-/// the query, what is known, and what was asked.
+/// What is done with one message of a client, under the policy that held when it came. What it has asked for isn't known
+/// yet. Contracts see the policy, the query, what is known, and what was asked.
 #[derive(Drop)]
 pub struct Session {
     alloc: Global,
@@ -32,11 +29,14 @@ pub struct Session {
 }
 
 impl Model for Session {
+    ghost use Rattle.query_session.specs.Session.{AsksAnew};
     ghost use Rattle.query_session.specs.State.{SessionState};
 
     ghost Value = { SessionState };
 
     ghost view = { λ s. record { policy = s.policy.value.zones; incoming = s.incoming; facts = s.facts; asked = s.asked } };
+
+    ghost invariant = { λ s. AsksAnew s.facts s.asked };
 }
 
 impl Session {
@@ -149,35 +149,4 @@ fn copied(question: &Question) -> Result<Question, AllocError>
         qtype: question.qtype,
         qclass: question.qclass,
     })
-}
-
-// What is done about a query.
-fn turn_about(
-    alloc: Global,
-    policy: &Snapshot,
-    query: &Query,
-    facts: &Facts,
-) -> Result<Turn, AllocError>
-    ensures { IfOk result (λ turn. turn ≡ turn_by_next query.now facts.now (next policy.now.zones query.now facts.now)) }
-{
-    match policy.best(alloc, query, facts) {
-        Err(error) => Err(error),
-        Ok(hit) => match policy.pending(query, facts, &hit)? {
-            Some(question) => Ok(Turn::Ask(question)),
-            None => build(alloc, query, verdict_of(&hit), facts, reply_limit(query)),
-        },
-    }
-}
-
-// What is decided by the best hit.
-fn verdict_of<'a>(hit: &Option<Hit<'a>>) -> Verdict<'a>
-    ensures { verdict_seen result ≡ hit_verdict (option_map hit_seen hit.now) }
-{
-    match hit {
-        None => Verdict::Pass,
-        Some(hit) => Verdict::Hit {
-            action: hit.action,
-            soa: hit.soa,
-        },
-    }
 }

@@ -1,0 +1,130 @@
+//! What is done about a query at a point, by what is known.
+
+ghost use Rattle.std.specs.Prelude.{◌≡◌, ◌≤◌, length, take, drop, option_map, IfOk};
+ghost use Rattle.policy_snapshot.specs.Next.{next, next_along, next_at, next_behind};
+ghost use Rattle.policy_snapshot.specs.Rules.{rules};
+ghost use Rattle.query_session.specs.Session.{turn_by_next, within_limit};
+ghost use Rattle.upstream_link.specs.Facts.{fact_about};
+ghost use Rattle.upstream_link.specs.Question as questions;
+ghost use Rattle.upstream_link.specs.declared.aliases.TheConstants as limits;
+
+use dns_message::{Query, reply_limit};
+use dns_name::Name;
+use policy_snapshot::Snapshot;
+use reply_build::{Turn, Verdict, build};
+use std::alloc::{AllocError, Global};
+use upstream_link::{FACT_LIMIT, Facts, chain, main_question};
+
+/// What is done about a query.
+pub(crate) fn turn_about(
+    alloc: Global,
+    policy: &Snapshot,
+    query: &Query,
+    facts: &Facts,
+) -> Result<Turn, AllocError>
+    ensures { IfOk result (λ turn. turn
+        ≡ within_limit query.now facts.now
+        (turn_by_next query.now facts.now (next policy.now.zones query.now facts.now))) }
+{
+    match unlimited_turn(alloc, policy, query, facts)? {
+        Turn::Said(said) => Ok(Turn::Said(said)),
+        Turn::Ask(question) => {
+            if facts.len() < FACT_LIMIT {
+                Ok(Turn::Ask(question))
+            } else {
+                build(alloc, query, Verdict::Fail, facts, reply_limit(query))
+            }
+        }
+    }
+}
+
+// What is done about a query, however many facts are known.
+fn unlimited_turn(
+    alloc: Global,
+    policy: &Snapshot,
+    query: &Query,
+    facts: &Facts,
+) -> Result<Turn, AllocError>
+    ensures { IfOk result (λ turn. turn
+        ≡ turn_by_next query.now facts.now (next policy.now.zones query.now facts.now)) }
+{
+    match turn_at(alloc, policy, query, facts, &[], &query.question.name)? {
+        Some(turn) => Ok(turn),
+        None => turn_behind(alloc, policy, query, facts),
+    }
+}
+
+// What is done at a name of the chain of aliases, behind these names; `None` where nothing is pending there and no rule
+// is hit.
+fn turn_at(
+    alloc: Global,
+    policy: &Snapshot,
+    query: &Query,
+    facts: &Facts,
+    before: &[Name],
+    name: &Name,
+) -> Result<Option<Turn>, AllocError>
+    requires { length before.now ≤ limits.CHAIN_LIMIT }
+    ensures { IfOk result (λ turn. turn ≡ option_map (turn_by_next query.now facts.now)
+        (next_at (rules policy.now.zones) query.now facts.now before.now name.now)) }
+{
+    match policy.best(alloc, query, facts, before.len() as u32, name) {
+        Err(error) => Err(error),
+        Ok(hit) => match policy.pending(alloc, query, facts, name, &hit)? {
+            Some(question) => Ok(Some(Turn::Ask(question))),
+            None => match &hit {
+                None => Ok(None),
+                Some(hit) => {
+                    let verdict = Verdict::Hit {
+                        action: hit.action,
+                        soa: hit.soa,
+                        before,
+                        name,
+                    };
+                    Ok(Some(build(alloc, query, verdict, facts, reply_limit(query))?))
+                }
+            },
+        },
+    }
+}
+
+// What is done where no rule is hit at the name of the query.
+fn turn_behind(
+    alloc: Global,
+    policy: &Snapshot,
+    query: &Query,
+    facts: &Facts,
+) -> Result<Turn, AllocError>
+    ensures { IfOk result (λ turn. turn ≡ turn_by_next query.now facts.now
+        (next_behind (rules policy.now.zones) query.now facts.now
+        (fact_about facts.now (questions.main_question query.now)))) }
+{
+    match facts.get(&query.question.name, query.question.qtype) {
+        None => Ok(Turn::Ask(main_question(query)?)),
+        Some(fact) => match chain(alloc, &query.question, fact)? {
+            None => build(alloc, query, Verdict::Fail, facts, reply_limit(query)),
+            Some(names) => turn_along(alloc, policy, query, facts, names.as_slice()),
+        },
+    }
+}
+
+// What is done along the names of a chain, behind the first of them.
+fn turn_along(
+    alloc: Global,
+    policy: &Snapshot,
+    query: &Query,
+    facts: &Facts,
+    names: &[Name],
+) -> Result<Turn, AllocError>
+    requires { length names.now ≤ limits.CHAIN_LIMIT }
+    ensures { IfOk result (λ turn. turn ≡ turn_by_next query.now facts.now
+        (next_along (rules policy.now.zones) query.now facts.now
+        (take 1 names.now) (drop 1 names.now))) }
+{
+    for place in 1..names.len() {
+        if let Some(turn) = turn_at(alloc, policy, query, facts, &names[..place], &names[place])? {
+            return Ok(turn);
+        }
+    }
+    build(alloc, query, Verdict::Pass, facts, reply_limit(query))
+}
