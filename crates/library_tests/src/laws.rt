@@ -9,8 +9,10 @@ fn laws_do_nothing() {
     dns_message::laws::a_message_is_read_as_it_is_spelled();
     dns_record::laws::data_in_lower_case_have_the_same_parts();
     trigger_codec::laws::a_trigger_is_read_back();
-    rpz_precedence::laws::an_index_is_in_order_of_precedence();
     policy_snapshot::laws::a_policy_takes_transfers_one_by_one();
+    query_session::laws::a_reply_stands();
+    query_session::laws::at_most_128_facts_bring_a_reply();
+    query_session::laws::a_failure_has_a_cause();
     script_codec::laws::a_line_is_within_its_state();
     rpz_core::laws::an_event_is_refused_by_its_state();
     rpz_core::laws::an_event_has_one_output();

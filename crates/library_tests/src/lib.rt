@@ -14,8 +14,6 @@ mod laws;
 #[cfg(test)]
 mod names;
 #[cfg(test)]
-mod precedence;
-#[cfg(test)]
 mod prefixes;
 #[cfg(test)]
 mod records;
