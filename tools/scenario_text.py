@@ -14,6 +14,7 @@ from dns_text import (
 )
 
 TTL = 60  # of the rows of a transfer that say none
+RANGE = re.compile(r"\{(\d+)\.\.(\d+)\}")
 ZONE_OUTPUTS = ("taken", "current", "refused")
 OUTPUTS = (*ZONE_OUTPUTS, "ask", "reply", "silent")
 
@@ -230,8 +231,7 @@ class Reader:
             else:
                 raise Refused(f"not understood: {' '.join(words)}")
         if stream is None and serial is not None:
-            rows = [row for line in block for row in each_of(line)]
-            records = [soa_line(serial), *rows, soa_line(serial)]
+            records = [soa_line(serial), *block, soa_line(serial)]
             size = -(-len(records) // count)
             parts = [("", records[at:at + size]) for at in range(0, len(records), size)]
             stream = stream_of(parts, zone, compressed)
@@ -299,8 +299,7 @@ def line_of(text):
     feed = b"\n"
     if text.endswith("\\"):
         text, feed = text[:-1], b""
-    text = re.sub(r"\{(.*?)\}\*(\d+)", lambda match: match[1] * int(match[2]), text)
-    return re.sub(rb"\\x([0-9a-f]{2})", lambda match: bytes.fromhex(match[1].decode()), text.encode()) + feed
+    return re.sub(rb"\\x([0-9a-f]{2})", lambda match: bytes.fromhex(match[1].decode()), repeated(text).encode()) + feed
 
 
 def take_client(words):
@@ -312,11 +311,16 @@ def take_client(words):
 
 
 def each_of(text):
-    """The texts that a text with `{1..3}` stands for: one for each number."""
-    numbers = re.search(r"\{(\d+)\.\.(\d+)\}", text)
-    if not numbers:
-        return [text]
-    return [text.replace(numbers[0], str(number)) for number in range(int(numbers[1]), int(numbers[2]) + 1)]
+    """The texts that a text with `{1..3}` stands for: one for each number. Several of these go along with one another."""
+    counts = {int(last) + 1 - int(first) for first, last in RANGE.findall(text)} or {1}
+    if len(counts) > 1 or min(counts) < 1:
+        raise Refused(f"no numbers, or not equally many: {text}")
+    return [repeated(RANGE.sub(lambda match: str(int(match[1]) + turn), text)) for turn in range(*counts)]
+
+
+def repeated(text):
+    """`{a.}*3` is `a.a.a.`."""
+    return re.sub(r"\{([^{}]*)\}\*(\d+)", lambda match: match[1] * int(match[2]), text)
 
 
 def messages_of(block):

@@ -114,22 +114,32 @@ def read_line(scenario, place, text):
     return step.block
 
 
+def turns_of(step):
+    """The text of a step and the texts that are expected of it, once for each number of the ranges in these."""
+    texts = [step.text, *(text for text, _ in step.expected)]
+    return [texts] if step.text.startswith("line") else [one.split("\n") for one in each_of("\n".join(texts))]
+
+
+def rows_of(block):
+    return [row for line in block for row in each_of(line)]
+
+
 def cases_of(scenario, captures):
     reader, script, transcript, status = Reader(captures), b"", "", "0"
     for step in scenario.steps:
         try:
-            texts = [step.text] if step.text.startswith("line") else each_of(step.text)
-            steps = ([b""] if not text else reader.step(step.worker, text, step.block) for text in texts)
-            for line in (line for lines in steps for line in lines):
+            block, blocks = rows_of(step.block), [rows_of(block) for _, block in step.expected]
+            steps = ((outputs, reader.step(step.worker, text, block) if text else [b""]) for text, *outputs in turns_of(step))
+            for outputs, line in ((outputs, line) for outputs, lines in steps for line in lines):
                 script += line
-                for text, block in step.expected:
+                for text, rows in zip(outputs, blocks):
                     refused = re.fullmatch(r"line (\d+) is refused: (\w+)", text)
                     if refused:
                         status = f"3 rpz: line {refused[1]}: {refused[2]}"
                     elif text in STATUSES:
                         status = STATUSES[text]
                     else:
-                        transcript += reader.output(step.worker, text, block)
+                        transcript += reader.output(step.worker, text, rows)
         except (Refused, ValueError, IndexError, KeyError) as error:
             raise Refused(f"{step.place}: {error!r}") from None
     for piece in scenario.pieces:
