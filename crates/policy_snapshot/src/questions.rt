@@ -110,7 +110,7 @@ fn address_question(facts: &Facts, server: &Name) -> Result<Question, AllocError
 pub(crate) fn is_known(facts: &Facts, name: &Name, qtype: u16) -> bool
     ensures { result ≡ known.is_known facts.now (questions.question_of name.now qtype) }
 {
-    facts.get(name, qtype).is_some()
+    facts.knows(name, qtype)
 }
 
 // The question of this name and type.

@@ -26,7 +26,7 @@ fact_in_entry found = option_map (λ e. e.1) found
 
 -- ---- distinct questions
 
-same_question-sym : (a b : Question) → same_question a b ≡ same_question b a
+pub same_question-sym : (a b : Question) → same_question a b ≡ same_question b a
 same_question-sym a b i = (lists_equiv nat_list_eq_equiv).symm (lowered a.name) (lowered b.name) i && (nat_eq_equiv.symm a.qtype b.qtype i && nat_eq_equiv.symm a.qclass b.qclass i)
 
 -- where nothing is known, the first fact is about another question

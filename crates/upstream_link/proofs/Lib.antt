@@ -7,3 +7,4 @@ pub mod Members
 pub mod Found
 pub mod Searches
 pub mod Listed
+pub mod Near

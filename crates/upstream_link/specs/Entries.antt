@@ -1,5 +1,5 @@
 -- How what is kept beside facts is seen, and looked up.
-use Rattle.std.specs.Prelude.{ℕ, ◌==◌, ◌&&◌, ◌||◌, Bool, if◌then◌else◌, List, [], map, Option, Some}
+use Rattle.std.specs.Prelude.{ℕ, ◌==◌, ◌&&◌, ◌||◌, Bool, true, false, if◌then◌else◌, List, [], ◌∷◌, map, Option, Some}
 use Rattle.std.specs.List.{find, list_any}
 use Rattle.ip_prefix.specs.declared.Addr.{Addr}
 use Rattle.dns_message.specs.declared.question.Question.{Question}
@@ -33,3 +33,8 @@ is_listed lists name = list_any (λ list. has_name list name) lists
 abbrev pub addresses_by : List (List (List (List ℕ))) → PlainKnown → List Addr
 addresses_by lists known =
     if asks_addresses known.question && is_listed lists known.question.name then addresses_in known.question.name (records_of (Some known.fact)) else []
+
+-- there is an element
+abbrev pub has_some : {X : Type 0} → List X → Bool
+has_some [] = false
+has_some (x ∷ xs) = true

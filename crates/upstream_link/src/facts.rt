@@ -1,13 +1,14 @@
 //! What is known of several questions.
 
-ghost use Rattle.std.specs.Prelude.{◌≡◌, ◌↔◌, ◌<◌, ◌≤◌, [], ◌∷◌, ◌++◌, length, option_copied, None, IsSome, IfSome, MatchOption, OnOk, IfErr};
+ghost use Rattle.std.specs.Prelude.{◌≡◌, ◌↔◌, ◌<◌, ◌≤◌, ℕ, List, [], ◌∷◌, ◌++◌, length, option_copied, None, Some, false, IsSome, IfSome, MatchOption, OnOk, IfErr};
+ghost use Rattle.std.specs.List.{list_any};
 ghost use Rattle.std.specs.Option.{option_map, option_to_list};
-ghost use Rattle.upstream_link.specs.Entries.{entries_of, entry_of, known_about};
+ghost use Rattle.upstream_link.specs.Entries.{entries_of, entry_of, has_some, known_about};
 ghost use Rattle.upstream_link.specs.Fact as form;
-ghost use Rattle.upstream_link.specs.Facts.{AreFacts, fact_about, records_about};
-ghost use Rattle.upstream_link.specs.Known.{AreInOrder, HaveSameMembers};
+ghost use Rattle.upstream_link.specs.Facts.{AreFacts, fact_about, is_known, records_about};
+ghost use Rattle.upstream_link.specs.Known.{AreInOrder, HaveSameMembers, named_servers};
 ghost use Rattle.upstream_link.specs.Question.{question_of};
-ghost use Rattle.upstream_link.specs.Servers.{servers_at};
+ghost use Rattle.upstream_link.specs.Servers.{servers, servers_at};
 
 use crate::fact::Fact;
 use crate::known::Known;
@@ -99,6 +100,13 @@ impl Facts {
         }
     }
 
+    /// Whether the question of this name and type in class IN is answered.
+    pub fn knows(&self, name: &Name, qtype: u16) -> bool
+        ensures { result ≡ is_known self.now (question_of name.now qtype) }
+    {
+        is_among(&self.facts, name, qtype)
+    }
+
     /// The records of the answer to the question of this name and type in class IN, as far as it is known.
     pub fn records(&self, name: &Name, qtype: u16) -> &[Record]
         ensures { result.now ≡ records_about self.now name.now qtype }
@@ -117,12 +125,20 @@ impl Facts {
         self.facts.as_slice()
     }
 
-    // The servers of exactly this name, in canonical order, each once, as they were read when the fact came.
-    pub(crate) fn servers_at(&self, owner: &Name) -> Option<&Names>
+    // Whether some fact names a server.
+    pub(crate) fn has_servers(&self) -> bool
+        ensures { result ≡ false → (name : List (List ℕ)) → servers self.now name ≡ [] }
+    {
+        have_servers(&self.facts)
+    }
+
+    // The servers of exactly this name, in canonical order, each once, as they were read when the fact came. The fact is
+    // looked for at this place and the next one first, where that of the next of several names mostly stands.
+    pub(crate) fn servers_at(&self, near: usize, owner: &Name) -> Option<&Names>
         ensures { MatchOption result (servers_at self.now owner.now ≡ [])
             (λ names. AreInOrder names.now × HaveSameMembers names.now (servers_at self.now owner.now)) }
     {
-        match find_known(&self.facts, owner, rtype::NS) {
+        match find_near(&self.facts, near, owner, rtype::NS) {
             Some(known) => Some(known.servers()),
             None => None,
         }
@@ -145,6 +161,51 @@ fn find_known<'k>(all: &'k [Known], name: &Name, qtype: u16) -> Option<&'k Known
 {
     all.iter()
         .find(|known| is_about(known.question(), name, qtype))
+}
+
+// Whether something is kept of the question of the name and type in class IN.
+fn is_among(all: &[Known], name: &Name, qtype: u16) -> bool
+    ensures { result ≡ list_any (λ k. form.same_question k.question (question_of name.now qtype)) all.now }
+{
+    all.iter()
+        .any(|known| is_about(known.question(), name, qtype))
+}
+
+// Whether some fact names a server.
+fn have_servers(all: &[Known]) -> bool
+    ensures { result ≡ list_any (λ k. has_some (named_servers k.question k.fact)) all.now }
+{
+    all.iter().any(|known| known.has_servers())
+}
+
+// The same, which is looked for at this place and the next one first.
+fn find_near<'k>(all: &'k [Known], near: usize, name: &Name, qtype: u16) -> Option<&'k Known>
+    requires { AreFacts (entries_of all.now) }
+    ensures { option_copied result ≡ known_about all.now (question_of name.now qtype) }
+{
+    match found_at(all, near, name, qtype) {
+        Some(known) => Some(known),
+        None => match found_at(all, near.saturating_add(1), name, qtype) {
+            Some(known) => Some(known),
+            None => find_known(all, name, qtype),
+        },
+    }
+}
+
+// What is kept at a place, if it is about the question of the name and type in class IN.
+fn found_at<'k>(all: &'k [Known], place: usize, name: &Name, qtype: u16) -> Option<&'k Known>
+    requires { AreFacts (entries_of all.now) }
+    ensures { IfSome result (λ known. Some known.now ≡ known_about all.now (question_of name.now qtype)) }
+{
+    if place >= all.len() {
+        return None;
+    }
+    let known = &all[place];
+    if is_about(known.question(), name, qtype) {
+        Some(known)
+    } else {
+        None
+    }
 }
 
 // Whether this is the question of the name and type in class IN.

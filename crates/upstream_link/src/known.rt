@@ -1,6 +1,7 @@
 //! A fact beside its question.
 
 ghost use Rattle.std.specs.Prelude.{◌≡◌, IfOk, IfErr};
+ghost use Rattle.upstream_link.specs.Entries.{has_some};
 ghost use Rattle.upstream_link.specs.Known.{AreInOrder, HaveSameMembers, named_servers};
 
 use crate::fact::Fact;
@@ -71,6 +72,13 @@ impl Known {
         ensures { result.now ≡ self.now.fact }
     {
         &self.fact
+    }
+
+    /// Whether the fact names a server.
+    pub(crate) fn has_servers(&self) -> bool
+        ensures { result ≡ has_some (named_servers self.now.question self.now.fact) }
+    {
+        self.servers.len() > 0
     }
 
     /// The servers.

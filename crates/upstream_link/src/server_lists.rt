@@ -63,6 +63,9 @@ pub fn known_servers<'f>(
 ) -> Result<ServerLists<'f>, AllocError>
     ensures { IfOk result (λ lists. AreListsOf lists (servers facts.now name.now)) }
 {
+    if !facts.has_servers() {
+        return Ok(ServerLists::new(alloc));
+    }
     let owners = ancestors(alloc, name)?;
     let mut lists = ServerLists::new(alloc);
     for owner in owners.as_slice() {
@@ -80,7 +83,7 @@ fn push_list<'f>(
     ensures { OnOk result ((names : List (List (List ℕ))) → AreListsOf lists.old names →
         AreListsOf lists.new (names ++ servers_at facts.now owner.now)) }
 {
-    match facts.servers_at(owner) {
+    match facts.servers_at(lists.lists.len(), owner) {
         Some(list) => {
             lists.push(list)?;
             Ok(())
