@@ -20,6 +20,7 @@ measured by turns with the new one's.
 
 import argparse
 import os
+import resource
 import struct
 import subprocess
 import tempfile
@@ -140,11 +141,11 @@ CASES = (
 
 def used(program, path):
     """The processor time of a run."""
-    before = os.times()
+    before = resource.getrusage(resource.RUSAGE_CHILDREN)
     with open(path, "rb") as script:
         subprocess.run([program, "replay"], stdin=script, stdout=subprocess.DEVNULL, check=True)
-    after = os.times()
-    return (after.children_user + after.children_system) - (before.children_user + before.children_system)
+    after = resource.getrusage(resource.RUSAGE_CHILDREN)
+    return (after.ru_utime + after.ru_stime) - (before.ru_utime + before.ru_stime)
 
 
 def main():
