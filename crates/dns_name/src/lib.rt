@@ -3,6 +3,7 @@
 //! A name is one buffer that holds it as it is written in a message. Contracts see the list of its labels.
 #![tactic(auto)]
 
+mod alike;
 mod cursor;
 mod fault;
 mod item;

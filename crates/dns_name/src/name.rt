@@ -5,6 +5,7 @@ ghost use Rattle.dns_name.specs.Labels.{IsName, name_octets, lowered, EndsWith};
 ghost use Rattle.dns_name.specs.Alike.{same_name, ends_with};
 ghost use Rattle.dns_name.specs.Wire.{labels_in, IsWire};
 
+use crate::alike::are_alike;
 use crate::cursor::Labels;
 use crate::octets::Octets;
 use std::alloc::{AllocError, Global};
@@ -102,7 +103,7 @@ impl Name {
         ensures letters { IsTrue result ↔ (lowered self.now ≡ lowered other.now) }
         ensures test { result ≡ same_name self.now other.now }
     {
-        self.octets().eq_ignore_ascii_case(other.octets())
+        are_alike(self.octets(), other.octets())
     }
 
     /// Whether the name is the other or lies below it: its last labels are the other's. The case of
@@ -116,6 +117,6 @@ impl Name {
         while labels.octets().len() > zone.len() {
             let _label = labels.next_label();
         }
-        labels.octets().eq_ignore_ascii_case(zone)
+        are_alike(labels.octets(), zone)
     }
 }

@@ -116,6 +116,9 @@ impl<V> NameMap<V> {
     {
         names_of_equal_octets_are_equal();
         names_that_are_alike();
+        if self.entries.is_empty() {
+            return None;
+        }
         let mut labels = name.labels();
         let mut left = name.label_count();
         let octets = labels.octets();

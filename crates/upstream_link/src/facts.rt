@@ -212,5 +212,5 @@ fn found_at<'k>(all: &'k [Known], place: usize, name: &Name, qtype: u16) -> Opti
 fn is_about(question: &Question, name: &Name, qtype: u16) -> bool
     ensures { result ≡ form.same_question question.now (question_of name.now qtype) }
 {
-    question.name.is_same(name) && question.qtype == qtype && question.qclass == class::IN
+    question.qtype == qtype && question.qclass == class::IN && question.name.is_same(name)
 }
