@@ -1,6 +1,6 @@
 //! Rows of zones.
 
-ghost use Rattle.std.specs.Prelude.{◌≡◌, IfOk};
+ghost use Rattle.std.specs.Prelude.{◌≡◌, ◌++◌, length, take, IfOk, OnOk};
 ghost use Rattle.dns_record.specs.Row.{IsRow, row_of, identity as row_identity};
 
 use crate::lowering::lower_data;
@@ -17,7 +17,7 @@ pub struct Row {
     owner: Name,
     rtype: u16,
     ttl: u32,
-    rdata: Octets,
+    rdata: Vec<u8>,
 }
 
 impl Model for Row {
@@ -25,9 +25,23 @@ impl Model for Row {
 
     ghost Value = { PlainRow };
 
-    ghost view = { λ r. record { owner = r.owner; rtype = r.rtype; ttl = r.ttl; rdata = r.rdata } };
+    ghost view = { λ r. record { owner = r.owner; rtype = r.rtype; ttl = r.ttl; rdata = r.rdata.items } };
 
-    ghost invariant = { λ r. IsRow (record { owner = r.owner; rtype = r.rtype; ttl = r.ttl; rdata = r.rdata }) };
+    ghost invariant = { λ r. IsRow (record { owner = r.owner; rtype = r.rtype; ttl = r.ttl; rdata = r.rdata.items }) };
+}
+
+/// A copy is the row. It takes an allocation each for the owner and the data.
+impl Clone for Row {
+    ghost is_clone = { λ row copy. copy ≡ row };
+
+    fn clone(&self) -> Result<Row, AllocError> {
+        Ok(Row {
+            owner: self.owner.clone()?,
+            rtype: self.rtype,
+            ttl: self.ttl,
+            rdata: self.rdata.clone()?,
+        })
+    }
 }
 
 impl Row {
@@ -43,7 +57,7 @@ impl Row {
             owner,
             rtype: rr.rtype(),
             ttl: rr.ttl(),
-            rdata,
+            rdata: rdata.into_vec(),
         })
     }
 
@@ -78,16 +92,24 @@ impl Row {
     }
 
     /// The identity of the row: its owner, type and data, as they are written.
-    #[tactic(auto, unfolding(crate::specs::Row::identity))]
     pub fn identity(&self, alloc: Global) -> Result<Vec<u8>, AllocError>
         ensures { IfOk result (λ key. key.items ≡ row_identity self.now) }
     {
-        let owner = self.owner.octets();
-        let rdata = self.rdata.as_slice();
-        let mut key = Octets::with_capacity(alloc, owner.len() + 2 + rdata.len())?;
-        key.append(owner)?;
-        push_u16(&mut key, self.rtype)?;
-        key.append(rdata)?;
+        let room = self.owner.octets().len() + 2 + self.rdata.len();
+        let mut key = Octets::with_capacity(alloc, room)?;
+        self.write_identity(&mut key)?;
         Ok(key.into_vec())
+    }
+
+    /// Writes the identity of the row at the end. An `Err` leaves what was written before, and maybe a part of the identity
+    /// behind it.
+    #[tactic(auto, unfolding(crate::specs::Row::identity), using(crate::proofs::Writing::joined_three))]
+    pub fn write_identity(&self, out: &mut Octets) -> Result<(), AllocError>
+        ensures ok { OnOk result (out.new ≡ out.old ++ row_identity self.now) }
+        ensures begins { take (length out.old) out.new ≡ out.old }
+    {
+        out.append(self.owner.octets())?;
+        push_u16(out, self.rtype)?;
+        out.append(self.rdata.as_slice())
     }
 }

@@ -26,6 +26,24 @@ pub struct Soa {
     pub ttl: u32,
 }
 
+/// A copy is what the SOA says. It takes an allocation for each of the two names.
+impl Clone for Soa {
+    ghost is_clone = { λ soa copy. copy ≡ soa };
+
+    fn clone(&self) -> Result<Soa, AllocError> {
+        Ok(Soa {
+            mname: self.mname.clone()?,
+            rname: self.rname.clone()?,
+            serial: self.serial,
+            refresh: self.refresh,
+            retry: self.retry,
+            expire: self.expire,
+            minimum: self.minimum,
+            ttl: self.ttl,
+        })
+    }
+}
+
 impl Soa {
     ghost use Rattle.dns_record.specs.Record.{IsData};
     ghost use Rattle.dns_record.specs.Soa.{soa_octets, soa_record};
