@@ -1,6 +1,5 @@
 -- Rows without repeats are the first of each identity, in order.
 use Rattle.std.proofs.Common.{◌≡◌, ◌≢◌, ℕ, zero, suc, ◌<◌, ◌≤◌, Bool, true, false, ◌||◌, List, [], ◌∷◌, ◌++◌, length, get_or, ◌↔◌, ◌⊎◌, ⊎_elim, inl, inr, Some, refl, sym, ap, ◌∙◌, subst, append_assoc, length-append, arith, nat_lt, if◌then◌else◌, Ok, Err, Result}
-use Rattle.std.specs.Prelude.{IfOk}
 use Rattle.std.specs.List.{Contains, list_any}
 use Rattle.std.specs.Prelude.{fold}
 use Rattle.std.specs.Str.{bytes_eq}
@@ -15,15 +14,13 @@ use Rattle.std.proofs.lemmas.Slice.Eq.{bytes_eq-Decides}
 use Rattle.dns_name.specs.Reading.{◌>>=◌}
 use Rattle.dns_record.specs.declared.soa.Soa.{Soa}
 use Rattle.zone_rows.specs.declared.fault.ApplyFault.{ApplyFault}
-use Rattle.zone_rows.specs.declared.transfer.Transfer.{Transfer}
 use Rattle.zone_rows.specs.declared.transfer.Transfer.TheVariants.{Whole}
-use Rattle.zone_rows.specs.declared.fault.ApplyError.{ApplyError}
 use Rattle.zone_rows.specs.declared.zone.PlainZone.{PlainZone}
 use Rattle.zone_rows.specs.declared.zone.TheConstants.{ROW_LIMIT}
 use Rattle.zone_rows.specs.Distinct.{AreDistinct, IsFirst, Precedes, HasDistinctRows}
 use Rattle.zone_rows.specs.Repeats.{has_row, with_row, without_repeats}
 use Rattle.dns_record.specs.Row.{PlainRow, AreAlike, identity}
-use Rattle.zone_rows.specs.Zone.{Gives, newer_soa, fewer_rows, apply_outcome_within, apply_outcome}
+use Rattle.zone_rows.specs.Zone.{newer_soa, fewer_rows, apply_outcome_within, apply_outcome}
 
 -- a test of identities that fails, and one that holds
 differ : (row other : PlainRow) → bytes_eq (identity row) (identity other) ≡ false → identity other ≢ identity row
@@ -40,7 +37,7 @@ none_by first rows row d others true t e k h = absurd cc
 none_by first rows row d others false t e zero h = differ row first t
 none_by first rows row d others false t e (suc k) h = others e k (omega (arith, h))
 
-none_has : (rows : List PlainRow) (row d : PlainRow) → has_row rows row ≡ false → (k : ℕ) → k < length rows → identity (get_or rows k d) ≢ identity row
+pub none_has : (rows : List PlainRow) (row d : PlainRow) → has_row rows row ≡ false → (k : ℕ) → k < length rows → identity (get_or rows k d) ≢ identity row
 none_has [] row d e k h = absurd (omega (arith, h))
 none_has (first ∷ rows) row d e k h = none_by first rows row d (none_has rows row d) (bytes_eq (identity row) (identity first)) refl e k h
 
@@ -272,12 +269,8 @@ chosen : (b : Bool) (kept rows : List PlainRow) (fault : ApplyFault) → AreDist
 chosen true kept rows fault distinct e = let same : kept ≡ rows = cc in subst AreDistinct same distinct
 chosen false kept rows fault distinct e = absurd cc
 
-pub applied_distinct : (zone after : PlainZone) (transfer : Transfer) → apply_outcome zone transfer ≡ Ok after → HasDistinctRows after
+pub whole_distinct : (zone after : PlainZone) (soa : Soa) (rows : List PlainRow) → apply_outcome zone (Whole soa rows) ≡ Ok after → HasDistinctRows after
 unfolding apply_outcome_within
-applied_distinct zone after (Whole soa rows) e =
+whole_distinct zone after soa rows e =
     made_distinct zone.origin (newer_soa zone.content soa) (fewer_rows ROW_LIMIT (without_repeats rows)) after
     (λ kept h. chosen _ (without_repeats rows) kept _ (kept_distinct rows) h) e
-
-pub outcome_distinct : (result : Result PlainZone ApplyError) (zone : PlainZone) (transfer : Transfer) → Gives result (apply_outcome zone transfer) → IfOk result HasDistinctRows
-outcome_distinct (Ok after) zone transfer gives = applied_distinct zone after transfer gives
-outcome_distinct (Err error) zone transfer gives = tt

@@ -1,3 +1,10 @@
 pub mod Keys
 pub mod Repeats
 pub mod Firsts
+pub mod KeyMarks
+pub mod LiveRows
+pub mod DraftSteps
+pub mod Naming
+pub mod Pushing
+pub mod StepRows
+pub mod OneAfterAnother

@@ -1,6 +1,8 @@
 -- Rows of which no two have one identity.
 use Rattle.std.specs.Prelude.{◌≡◌, ◌≢◌, ◌<◌, ℕ, List, length, AllPairs, IfSome}
 use Rattle.std.specs.List.{slice_index_or}
+use Rattle.zone_rows.specs.declared.transfer.Transfer.{Transfer}
+use Rattle.zone_rows.specs.declared.transfer.Transfer.TheVariants.{Whole, Steps}
 use Rattle.zone_rows.specs.declared.zone.PlainZone.{PlainZone}
 use Rattle.dns_record.specs.Row.{PlainRow, identity}
 
@@ -27,3 +29,9 @@ pub record Precedes (rows : List PlainRow) (row other : PlainRow) : Type 0 where
 -- no two rows of the zone, if it is loaded, have one identity
 abbrev pub HasDistinctRows : PlainZone → Type 0
 HasDistinctRows zone = IfSome zone.content (λ content. AreDistinct content.rows)
+
+-- what makes the rows of the zone distinct after a transfer: nothing where it is whole, that they are distinct before where it
+-- has steps
+abbrev pub BeginsDistinct : PlainZone → Transfer → Type 0
+BeginsDistinct zone (Whole soa rows) = Unit {0}
+BeginsDistinct zone (Steps steps) = HasDistinctRows zone

@@ -3,3 +3,7 @@ pub mod Repeats
 pub mod Zone
 pub mod Distinct
 pub mod Content
+pub mod Steps
+pub mod Stepping
+pub mod Marks
+pub mod Drafts

@@ -8,11 +8,12 @@ use Rattle.zone_rows.specs.declared.fault.ApplyFault.TheVariants.{SerialNotNewer
 use Rattle.zone_rows.specs.declared.fault.ApplyError.{ApplyError}
 use Rattle.zone_rows.specs.declared.fault.ApplyError.TheVariants as errors
 use Rattle.zone_rows.specs.declared.transfer.Transfer.{Transfer}
-use Rattle.zone_rows.specs.declared.transfer.Transfer.TheVariants.{Whole}
+use Rattle.zone_rows.specs.declared.transfer.Transfer.TheVariants.{Whole, Steps}
 use Rattle.zone_rows.specs.declared.zone.Content.{Content}
 use Rattle.zone_rows.specs.declared.zone.PlainZone.{PlainZone}
 use Rattle.zone_rows.specs.declared.zone.TheConstants.{ROW_LIMIT}
 use Rattle.zone_rows.specs.Repeats.{without_repeats}
+use Rattle.zone_rows.specs.Steps.{steps_outcome}
 use Rattle.dns_record.specs.Row.{PlainRow}
 
 -- the SOA of a transfer, which is to be newer than that of what is loaded (RFC 1982, section 3.2)
@@ -30,6 +31,9 @@ apply_outcome_within bound zone (Whole soa rows) = do
   newer ← newer_soa zone.content soa
   kept ← fewer_rows bound (without_repeats rows)
   Ok (record { origin = zone.origin; content = Some (record { soa = newer; rows = kept }) })
+apply_outcome_within bound zone (Steps steps) = do
+  content ← steps_outcome bound zone.content steps
+  Ok (record { origin = zone.origin; content = Some content })
 
 -- the zone after a transfer, where it may have fewer rows than the limit, or the first fault
 abbrev pub apply_outcome : PlainZone → Transfer → Result PlainZone ApplyFault

@@ -11,6 +11,13 @@ pub enum ApplyFault {
     /// The zone is loaded, and the serial of the transfer (`theirs`) isn't newer than that of the zone
     /// (`ours`), by RFC 1982.
     SerialNotNewer { ours: u32, theirs: u32 },
+    /// An incremental transfer begins at another version (`found`) than that of the zone (`expected`). A zone with nothing
+    /// loaded has 0 for its own, and an incremental transfer without a step the zone's own for both.
+    Gap { expected: u32, found: u32 },
+    /// A step takes out a row that isn't there; steps and rows are numbered from 1 on.
+    DeleteAbsent { step: u32, row: u32 },
+    /// A step puts in a row that is there already; steps and rows are numbered from 1 on.
+    AddPresent { step: u32, row: u32 },
     /// The zone would have so many rows or more, repeats not counted.
     TooManyRows { at: u32 },
 }

@@ -1,15 +1,20 @@
 //! Lists of rows, whole transfers of zones, and what a zone is after a transfer.
 #![tactic(auto)]
 
+mod draft;
 mod fault;
 mod key_set;
 pub mod laws;
+mod marks;
 mod rows;
+mod stepping;
+mod steps;
 mod transfer;
 mod zone;
 
 pub use fault::{ApplyError, ApplyFault};
 pub use key_set::KeySet;
 pub use rows::Rows;
+pub use steps::{Step, Steps};
 pub use transfer::Transfer;
 pub use zone::{Content, PlainZone, ROW_LIMIT, ZONE_LIMIT};

@@ -2,9 +2,11 @@
 
 ghost use Rattle.std.specs.Prelude.{◌≡◌, option_copied, IfOk};
 ghost use Rattle.zone_rows.specs.Zone.{Gives, newer_soa, fewer_rows, apply_outcome, apply_outcome_within};
+ghost use Rattle.zone_rows.specs.Stepping.{whole_outcome};
 
 use crate::fault::{ApplyError, ApplyFault};
 use crate::rows::Rows;
+use crate::stepping::stepped;
 use crate::transfer::Transfer;
 use dns_name::Name;
 use dns_record::{Soa, serial_newer};
@@ -32,13 +34,15 @@ pub struct Content {
 }
 
 impl PlainZone {
-    ghost use Rattle.zone_rows.specs.Distinct.{HasDistinctRows};
+    ghost use Rattle.zone_rows.specs.Distinct.{BeginsDistinct, HasDistinctRows};
 
-    /// The zone after a transfer, its rows without repeats. A loaded zone takes no transfer whose serial
-    /// isn't newer than its own, and no zone has 16,777,216 rows or more.
+    /// The zone after a transfer. A loaded zone takes no whole transfer whose serial isn't newer than its own, and
+    /// has the rows of one that it takes without repeats. Steps are taken by a loaded zone alone, from its own
+    /// serial on. No zone has 16,777,216 rows or more. Steps take the time of copying the rows of the zone, with two look-ups
+    /// for each of them and a few for each row that the steps name, among as many keys as they name rows.
     pub fn apply(&self, alloc: Global, transfer: Transfer) -> Result<PlainZone, ApplyError>
         ensures outcome { Gives result (apply_outcome self.now transfer) }
-        ensures distinct { IfOk result HasDistinctRows }
+        ensures distinct { BeginsDistinct self.now transfer → IfOk result HasDistinctRows }
     {
         self.apply_within(alloc, transfer, ROW_LIMIT)
     }
@@ -53,14 +57,30 @@ impl PlainZone {
     ) -> Result<PlainZone, ApplyError>
         ensures { Gives result (apply_outcome_within bound self.now transfer) }
     {
-        let Transfer::Whole { soa, rows } = transfer;
-        let soa = newer(self.content.as_ref(), soa)?;
-        let rows = fewer(rows.without_repeats(alloc)?, bound)?;
+        let content = match transfer {
+            Transfer::Whole { soa, rows } => whole(alloc, self.content.as_ref(), soa, rows, bound)?,
+            Transfer::Steps(steps) => stepped(alloc, self.content.as_ref(), steps, bound)?,
+        };
         Ok(PlainZone {
             origin: self.origin.clone()?,
-            content: Some(Content { soa, rows }),
+            content: Some(content),
         })
     }
+}
+
+// What a zone holds after a whole transfer.
+fn whole(
+    alloc: Global,
+    content: Option<&Content>,
+    soa: Soa,
+    rows: Rows,
+    bound: u32,
+) -> Result<Content, ApplyError>
+    ensures { Gives result (whole_outcome bound (option_copied content.entry) soa rows) }
+{
+    let soa = newer(content, soa)?;
+    let rows = fewer(rows.without_repeats(alloc)?, bound)?;
+    Ok(Content { soa, rows })
 }
 
 // The SOA of a transfer, which is to be newer than that of what is loaded.

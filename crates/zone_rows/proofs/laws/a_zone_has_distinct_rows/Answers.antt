@@ -1,4 +1,4 @@
-use Rattle.zone_rows.proofs.Firsts.{applied_distinct}
+use Rattle.zone_rows.proofs.StepRows.{applied_distinct}
 use Rattle.zone_rows.proofs.laws.a_zone_has_distinct_rows.Goals as goal
 
 pub returns : goal.returns

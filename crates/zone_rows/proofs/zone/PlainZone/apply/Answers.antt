@@ -1,4 +1,4 @@
-use Rattle.zone_rows.proofs.Firsts.{outcome_distinct}
+use Rattle.zone_rows.proofs.StepRows.{outcome_distinct}
 use Rattle.zone_rows.proofs.zone.PlainZone.apply.Goals as goal
 
 pub returns-clause-distinct : goal.returns-clause-distinct
