@@ -1,9 +1,10 @@
--- What a zone with its index stands for, and that the index agrees with its rows.
+-- What a zone with its index stands for: the index agrees with its rows, and no two rows have one identity.
 use Rattle.std.specs.Prelude.{◌≡◌, ℕ, All, List, Option, Some, None}
 use Rattle.dns_record.specs.Row.{IsRow}
 use Rattle.dns_record.specs.Soa.{soa_record}
 use Rattle.trigger_codec.specs.declared.trigger.Trigger.{Trigger}
 use Rattle.zone_rows.specs.declared.zone.Content.{Content}
+use Rattle.zone_rows.specs.Distinct.{HasDistinctRows}
 use Rattle.action_codec.specs.Action.{action_by}
 use Rattle.action_codec.specs.declared.action.Action.{Action}
 use Rattle.zone_index.specs.Listed.{rows_of}
@@ -29,3 +30,4 @@ HasRows (Some content) = All IsRow content.rows
 pub record IsIndexed (inside : Inside) : Type 0 where
   pub index : inside.index ≡ index_of inside.zone.origin inside.zone.content
   pub rows : HasRows inside.zone.content
+  pub distinct : HasDistinctRows inside.zone

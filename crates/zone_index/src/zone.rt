@@ -2,6 +2,7 @@
 
 ghost use Rattle.std.specs.Prelude.{◌≡◌, option_copied, IfOk};
 ghost use Rattle.zone_rows.specs.Content.{content_count, content_serial, unloaded};
+ghost use Rattle.zone_rows.specs.Distinct.{HasDistinctRows};
 ghost use Rattle.zone_rows.specs.Zone.{Gives, apply_outcome};
 ghost use Rattle.zone_index.specs.Indexed.{HasRows, content_rule, index_of};
 
@@ -97,7 +98,8 @@ impl Zone {
         }
     }
 
-    /// The zone after a transfer, with an index of its own, or why it can't take it. This zone stays as it is.
+    /// The zone after a transfer, whole or in steps, with an index of its own, or why it can't take it. After steps, too, the
+    /// index is that of a rebuild from all rows: see [`Zone::index`]. This zone stays as it is.
     pub fn apply(&self, alloc: Global, transfer: Transfer) -> Result<Zone, ApplyError>
         ensures { Gives result (apply_outcome self.now transfer) }
     {
@@ -107,10 +109,11 @@ impl Zone {
     }
 
     /// The index of what is loaded; `None` where nothing is. Its clauses also say that the rows are rows, which
-    /// the laws of rules want.
+    /// the laws of rules want, and that no two of them have one identity.
     pub fn index(&self) -> Option<&Index>
         ensures index { option_copied result ≡ index_of self.now.origin self.now.content }
         ensures rows { HasRows self.now.content }
+        ensures distinct { HasDistinctRows self.now }
     {
         self.index.as_ref()
     }
