@@ -9,11 +9,13 @@ use Rattle.dns_record.specs.Row.{PlainRow}
 use Rattle.dns_name.specs.Reading.{◌>>=◌}
 use Rattle.zone_rows.specs.declared.fault.ApplyFault.{ApplyFault}
 use Rattle.zone_rows.specs.declared.transfer.Transfer.{Transfer}
-use Rattle.zone_rows.specs.declared.transfer.Transfer.TheVariants.{Whole}
+use Rattle.zone_rows.specs.declared.transfer.Transfer.TheVariants.{Whole, Steps}
+use Rattle.zone_rows.specs.declared.zone.Content.{Content}
 use Rattle.zone_rows.specs.declared.zone.PlainZone.{PlainZone}
 use Rattle.zone_rows.specs.declared.zone.TheConstants.{ROW_LIMIT}
 use Rattle.zone_rows.specs.Content.{unloaded}
 use Rattle.zone_rows.specs.Repeats.{without_repeats}
+use Rattle.zone_rows.specs.Steps.{steps_outcome}
 use Rattle.zone_rows.specs.Zone.{newer_soa, fewer_rows, apply_outcome, apply_outcome_within}
 use Rattle.zone_index.specs.Indexed.{HasRows}
 use Rattle.policy_snapshot.specs.Policy.{PlainPolicy, Entry, zone_at, zone_by, zone_after, with_zone_after, policy_with, policy_after}
@@ -32,10 +34,15 @@ origin_if zone next (Ok soa) (Ok rows) e = let same : record { origin = zone.ori
 origin_if zone next (Ok soa) (Err fault) e = absurd cc
 origin_if zone next (Err fault) rows e = absurd cc
 
+origin_with : (zone next : PlainZone) (content : Result Content ApplyFault) → (content >>= λ now. Ok (record { origin = zone.origin; content = Some now })) ≡ Ok next → next.origin ≡ zone.origin
+origin_with zone next (Ok content) e = let same : record { origin = zone.origin; content = Some content } ≡ next = cc in sym (ap (λ (z : PlainZone). z.origin) same)
+origin_with zone next (Err fault) e = absurd cc
+
 -- a transfer leaves the zone's origin
 pub origin_stays : (zone next : PlainZone) (transfer : Transfer) → apply_outcome zone transfer ≡ Ok next → next.origin ≡ zone.origin
 unfolding apply_outcome_within
 origin_stays zone next (Whole soa rows) e = origin_if zone next (newer_soa zone.content soa) (fewer_rows ROW_LIMIT (without_repeats rows)) e
+origin_stays zone next (Steps steps) e = origin_with zone next (steps_outcome ROW_LIMIT zone.content steps) e
 
 origins_set : (zones : List PlainZone) (place : ℕ) (zone next : PlainZone) → slice_get zones place ≡ Some zone → next.origin ≡ zone.origin → origins_of (slice_set zones place next) ≡ origins_of zones
 origins_set [] place zone next found same = absurd cc

@@ -15,9 +15,9 @@ use std::sync::Arc;
 use zone_index::Zone;
 use zone_rows::{ApplyError, Transfer};
 
-/// The ordered zones of a policy as they are after a list of accepted transfers, each whole. Nothing changes it: a transfer
-/// makes a new snapshot, which shares the zones that the transfer doesn't change. Contracts see the zones as plain ones, and how
-/// many transfers were accepted, up to 2^64 - 1.
+/// The ordered zones of a policy as they are after a list of accepted transfers, each whole or in steps. Nothing changes it: a
+/// transfer makes a new snapshot, which shares the zones that the transfer doesn't change. Contracts see the zones as plain
+/// ones, and how many transfers were accepted, up to 2^64 - 1.
 #[derive(Drop)]
 pub struct Snapshot {
     // The first of them is zone 1.
@@ -88,8 +88,8 @@ impl Snapshot {
         }
     }
 
-    /// The policy after one more transfer of the zone of this number, or why the zone can't take it. The other zones are
-    /// shared, and this snapshot stays as it is. Its time is that of building one zone.
+    /// The policy after one more transfer of the zone of this number, whole or in steps, or why the zone can't take it. The
+    /// other zones are shared, and this snapshot stays as it is. Its time is that of building one zone.
     pub fn apply(
         &self,
         alloc: Global,
