@@ -1,7 +1,5 @@
-pub mod Ends
-pub mod Zones
-pub mod Standing
-pub mod Counting
-pub mod Feeding
-pub mod Streams
-pub mod Own
+pub mod OneMore
+pub mod StepBlocks
+pub mod OpenSteps
+pub mod SoaEnds
+pub mod Unclosed

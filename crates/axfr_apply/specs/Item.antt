@@ -1,23 +1,28 @@
 -- What a stream of messages is made of: of each message its head, and then its answer records.
-use Rattle.std.specs.Prelude.{ℕ, List, [], ◌∷◌, map, Result, Ok, Err}
+use Rattle.std.specs.Prelude.{ℕ, ◌==◌, Bool, List, [], ◌∷◌, length, map, Result, Ok, Err}
 use Rattle.std.specs.List.{flat_map}
 use Rattle.dns_record.specs.Record.{PlainRecord}
 use Rattle.dns_message.specs.declared.fault.MessageFault.{MessageFault}
 use Rattle.dns_message.specs.declared.message.Message.{Message}
 use Rattle.dns_message.specs.Reading.{message_of}
 
+-- the head of a message, which is these octets; or an answer record, and whether it is the only one of its message
 pub data Item : Type 0 where
   head : List ℕ → Item
-  answer : PlainRecord → Item
+  answer : Bool → PlainRecord → Item
 
 -- the answer records of a message; none where it can't be read
 abbrev pub answers_in : Result Message MessageFault → List PlainRecord
 answers_in (Ok m) = m.answer
 answers_in (Err fault) = []
 
+-- answer records of one message
+abbrev pub answers : List PlainRecord → List Item
+answers rs = map (answer (length rs == 1)) rs
+
 -- the items of a message
 abbrev pub items_of : List ℕ → List Item
-items_of octets = head octets ∷ map answer (answers_in (message_of octets))
+items_of octets = head octets ∷ answers (answers_in (message_of octets))
 
 -- the items of messages, one after another
 unfoldable pub items : List (List ℕ) → List Item
@@ -25,7 +30,7 @@ items messages = flat_map items_of messages
 
 abbrev pub records_of : Item → List PlainRecord
 records_of (head octets) = []
-records_of (answer r) = r ∷ []
+records_of (answer alone r) = r ∷ []
 
 -- the records among the items
 unfoldable pub records : List Item → List PlainRecord

@@ -1,6 +1,7 @@
 pub mod Item
+pub mod Block
 pub mod Reading
-pub mod Progress
-pub mod Feeding
+pub mod Checks
 pub mod Becomes
-pub mod Stream
+pub mod Stepping
+pub mod Gathered

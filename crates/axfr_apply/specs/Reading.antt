@@ -1,25 +1,24 @@
--- What a list of messages is as the transfer of a whole zone (RFC 5936, section 2.2). It is read off the places
--- of the SOA records in the one list of all items: the first begins the zone and the second closes it.
-use Rattle.std.specs.Prelude.{ℕ, ◌+◌, ◌==◌, nat_lt, nat_le, Bool, not, ◌&&◌, if◌then◌else◌, List, [], ◌∷◌, ◌++◌, length, map, Option, Some, None, option_map, is_some, Result, Ok, Err}
-use Rattle.std.specs.Result.{result_ok}
-use Rattle.std.specs.List.{list_any, filter_map}
+-- What a list of messages is as a transfer: of the whole zone (RFC 5936, section 2.2), of what changed in it, or neither where
+-- we are current (RFC 1995, section 4). It is read off the one list of all items.
+use Rattle.std.specs.Prelude.{ℕ, ◌+◌, ◌==◌, nat_le, Bool, not, ◌&&◌, ◌||◌, if◌then◌else◌, List, [], ◌∷◌, ◌++◌, length, Option, Some, None, option_map, is_some, Result, Ok, Err}
 use Rattle.std.specs.Option.{option_or}
 use Rattle.dns_name.specs.Alike.{same_name, ends_with}
 use Rattle.dns_record.specs.declared.soa.Soa.{Soa}
 use Rattle.dns_record.specs.Record.{PlainRecord}
 use Rattle.dns_record.specs.Serial.{is_newer}
-use Rattle.dns_record.specs.Soa.{soa_in}
 use Rattle.dns_message.specs.declared.fault.MessageFault.{MessageFault}
 use Rattle.dns_message.specs.declared.message.Message.{Message}
 use Rattle.dns_message.specs.declared.question.Question.{Question}
 use Rattle.dns_message.specs.Reading.{message_of}
-use Rattle.zone_rows.specs.declared.transfer.Transfer.TheVariants.{Whole}
-use Rattle.dns_record.specs.Row.{row_of}
+use Rattle.zone_rows.specs.declared.transfer.Transfer.{Transfer}
 use Rattle.axfr_apply.specs.declared.asked.Asked.{Asked}
+use Rattle.axfr_apply.specs.declared.asked.Wanted.{Wanted}
+use Rattle.axfr_apply.specs.declared.asked.Wanted.TheVariants as wants
 use Rattle.axfr_apply.specs.declared.fault.TransferFault.{TransferFault}
-use Rattle.axfr_apply.specs.declared.fault.TransferFault.TheVariants.{BadMessage, WrongId, NotResponse, Truncated, Rcode, WrongQuestion, NoLeadingSoa, WrongClass, OutOfZone, WrongSoaOwner, SoaDiffers, SerialNotNewer, TrailingRecord, TooManyRecords}
+use Rattle.axfr_apply.specs.declared.fault.TransferFault.TheVariants.{BadMessage, WrongId, NotResponse, Truncated, Rcode, WrongQuestion, NoLeadingSoa, WrongClass, OutOfZone, WrongSoaOwner, SoaDiffers, Gap, SerialNotNewer, TrailingRecord, TooManyRecords}
 use Rattle.axfr_apply.specs.declared.taken.Taken.{Taken}
 use Rattle.axfr_apply.specs.declared.taken.Taken.TheVariants.{Current, New}
+use Rattle.axfr_apply.specs.Block.{Block, blocks, is_empty, is_incremental, is_soa, soa_held, transfer_of}
 use Rattle.axfr_apply.specs.Item.{Item, items, records}
 use Rattle.axfr_apply.specs.Item as item
 
@@ -27,14 +26,24 @@ use Rattle.axfr_apply.specs.Item as item
 abbrev pub Outcome : Type 0
 Outcome = Result Taken TransferFault
 
--- the question for the whole zone
-abbrev pub asks_for : List (List ℕ) → Question → Bool
-asks_for origin q = same_name q.name origin && (q.qclass == 1 && q.qtype == 252)
+-- how an item ends a transfer: we are current, at this serial; or a fault
+abbrev pub End : Type 0
+End = Result ℕ TransferFault
+
+-- The types of the question: the whole zone is asked for by AXFR; what is newer by IXFR, and may come as an answer to AXFR
+-- too.
+abbrev pub asks_type : Wanted → ℕ → Bool
+asks_type (wants.Whole have) qtype = qtype == 252
+asks_type (wants.Newer have) qtype = qtype == 251 || qtype == 252
+
+-- the question for the zone
+abbrev pub asks_for : Asked → Question → Bool
+asks_for asked q = same_name q.name asked.origin && (q.qclass == 1 && asks_type asked.wanted q.qtype)
 
 -- the first message has the question, later ones have it or none
 abbrev pub question_fits : Asked → Bool → Option Question → Bool
 question_fits asked is_first None = not is_first
-question_fits asked is_first (Some q) = asks_for asked.origin q
+question_fits asked is_first (Some q) = asks_for asked q
 
 -- the first thing that is wrong with the head of a message
 abbrev pub head_fault : Asked → Bool → Message → Option TransferFault
@@ -50,17 +59,6 @@ abbrev pub message_fault : Asked → Bool → Result Message MessageFault → Op
 message_fault asked is_first (Ok m) = head_fault asked is_first m
 message_fault asked is_first (Err fault) = Some BadMessage
 
--- the SOA that a record holds, if it is a SOA record
-abbrev pub soa_held : PlainRecord → Option Soa
-soa_held r = if r.rtype == 6 then result_ok (soa_in r.ttl r.rdata) else None
-
-abbrev pub is_soa : PlainRecord → Bool
-is_soa r = is_some (soa_held r)
-
--- the SOAs that the records hold, in their order
-unfoldable pub soas : List PlainRecord → List Soa
-soas rs = filter_map soa_held rs
-
 -- A record is of class IN. A SOA record belongs to the zone's name, and another one to that name or to one below it.
 abbrev pub place_fault : List (List ℕ) → Bool → PlainRecord → Option TransferFault
 place_fault origin holds_soa r =
@@ -68,63 +66,95 @@ place_fault origin holds_soa r =
     else (if holds_soa then (if same_name r.owner origin then None else Some WrongSoaOwner)
     else (if ends_with r.owner origin then None else Some OutOfZone))
 
--- The first SOA has the serial that we have, or a newer one (RFC 1982, section 3.2).
-abbrev pub first_soa_end : Option ℕ → ℕ → Option Outcome
-first_soa_end None theirs = None
-first_soa_end (Some ours) theirs =
-    if theirs == ours then Some (Ok (Current theirs))
-    else (if is_newer ours theirs then None
-    else Some (Err (SerialNotNewer ours theirs)))
+-- a serial is to be newer than the one before it (RFC 1982, section 3.2)
+abbrev pub forward_fault : ℕ → ℕ → Option TransferFault
+forward_fault ours theirs = if is_newer ours theirs then None else Some (SerialNotNewer ours theirs)
 
--- a SOA behind these: the second has the serial of the first
-abbrev pub soa_end : Option ℕ → List Soa → Soa → Option Outcome
-soa_end have [] soa = first_soa_end have soa.serial
-soa_end have (first ∷ others) soa = if soa.serial == first.serial then None else Some (Err (SoaDiffers first.serial soa.serial))
+-- The first SOA tells the newest serial. We are current where it is ours; and, where what is newer was asked for, where it isn't
+-- newer and the SOA stands alone in its message. Any other serial is to be newer than ours.
+abbrev pub first_soa_end : Wanted → Bool → ℕ → Option End
+first_soa_end (wants.Whole None) alone theirs = None
+first_soa_end (wants.Whole (Some ours)) alone theirs = if theirs == ours then Some (Ok theirs) else option_map Err (forward_fault ours theirs)
+first_soa_end (wants.Newer ours) alone theirs =
+    if theirs == ours || (alone && not (is_newer ours theirs)) then Some (Ok theirs) else option_map Err (forward_fault ours theirs)
 
-abbrev pub end_at_place : Option ℕ → List Soa → Option Soa → Option TransferFault → Option Outcome
-end_at_place have before soa (Some fault) = Some (Err fault)
-end_at_place have before None None = None
-end_at_place have before (Some soa) None = soa_end have before soa
+-- the SOA that closes a transfer has the serial of the first
+abbrev pub close_fault : ℕ → ℕ → Option TransferFault
+close_fault newest found = if found == newest then None else Some (SoaDiffers newest found)
 
--- how a record ends the transfer, by the SOAs before it, whether it is the first record, the SOA that it holds, and
--- what is wrong with its class and owner
-abbrev pub record_end : Option ℕ → List Soa → Bool → Option Soa → Option TransferFault → Option Outcome
-record_end have before is_first soa fault =
-    if nat_lt 1 (length before) then Some (Err TrailingRecord)
-    else (if is_first && not (is_some soa) then Some (Err NoLeadingSoa)
-    else end_at_place have before soa fault)
+-- the SOA that begins a step has this serial
+abbrev pub begin_fault : ℕ → ℕ → Option TransferFault
+begin_fault expected found = if found == expected then None else Some (Gap expected found)
 
--- how an answer record ends the transfer, behind these records
-abbrev pub answer_end : Asked → List PlainRecord → PlainRecord → Option Outcome
-answer_end asked before r = record_end asked.have (soas before) (length before == 0) (soa_held r) (place_fault asked.origin (is_soa r) r)
+-- a SOA behind a step to the version `new` closes the transfer where that is the newest, and begins the next step otherwise
+abbrev pub behind_step_fault : ℕ → ℕ → ℕ → Option TransferFault
+behind_step_fault newest new found = if new == newest then close_fault newest found else begin_fault new found
 
-abbrev pub item_end : Asked → List Item → Item → Option Outcome
+-- the first step begins at our version, where what is newer was asked for; else there is none, and the SOA closes the transfer
+abbrev pub first_step_fault : Wanted → ℕ → ℕ → Option TransferFault
+first_step_fault (wants.Whole have) newest found = close_fault newest found
+first_step_fault (wants.Newer have) newest found = begin_fault have found
+
+-- What is wrong with a SOA of an incremental transfer, behind the first SOA and these blocks: the first step begins at our
+-- version; each step goes forward; and each but the first begins where the one before it ended.
+abbrev pub step_soa_fault : Wanted → ℕ → List Block → ℕ → Option TransferFault
+step_soa_fault wanted newest [] found = first_step_fault wanted newest found
+step_soa_fault wanted newest (old ∷ []) found = forward_fault old.soa.serial found
+step_soa_fault wanted newest (old ∷ new ∷ []) found = behind_step_fault newest new.soa.serial found
+step_soa_fault wanted newest (old ∷ new ∷ next ∷ others) found = step_soa_fault wanted newest (next ∷ others) found
+
+abbrev pub begins : Soa → Block
+begins soa = record { soa = soa; rows = [] }
+
+-- what is wrong with a SOA behind others: it may be one of an incremental transfer
+abbrev pub later_soa_fault : Wanted → Block → List Block → Soa → Option TransferFault
+later_soa_fault wanted first others soa =
+    if is_incremental (first ∷ (others ++ begins soa ∷ [])) then step_soa_fault wanted first.soa.serial others soa.serial
+    else close_fault first.soa.serial soa.serial
+
+-- how a SOA ends the transfer, behind these blocks
+abbrev pub soa_end : Wanted → Bool → List Block → Soa → Option End
+soa_end wanted alone [] soa = first_soa_end wanted alone soa.serial
+soa_end wanted alone (first ∷ others) soa = option_map Err (later_soa_fault wanted first others soa)
+
+-- a fault of the record's class or owner, and else what follows
+abbrev pub place_or : Option TransferFault → Option End → Option End
+place_or None other = other
+place_or (Some fault) other = Some (Err fault)
+
+-- how a record ends an open transfer, by the SOA that it holds and what is wrong with its class and owner: the first holds one
+abbrev pub open_end : Wanted → Bool → List Block → Option Soa → Option TransferFault → Option End
+open_end wanted alone bs None fault = if is_empty bs then Some (Err NoLeadingSoa) else place_or fault None
+open_end wanted alone bs (Some soa) fault = place_or fault (soa_end wanted alone bs soa)
+
+-- how a record ends the transfer, behind these blocks: behind the SOA that closes it there is none
+abbrev pub record_end : Wanted → Bool → List Block → Option Soa → Option TransferFault → Option End
+record_end wanted alone bs soa fault = if is_some (transfer_of bs) then Some (Err TrailingRecord) else open_end wanted alone bs soa fault
+
+-- how an answer record ends the transfer, behind these blocks
+abbrev pub answer_end : Asked → Bool → List Block → PlainRecord → Option End
+answer_end asked alone bs r = record_end asked.wanted alone bs (soa_held r) (place_fault asked.origin (is_soa r) r)
+
+abbrev pub item_end : Asked → List Item → Item → Option End
 item_end asked before (item.head octets) = option_map Err (message_fault asked (length before == 0) (message_of octets))
-item_end asked before (item.answer r) = answer_end asked (records before) r
+item_end asked before (item.answer alone r) = answer_end asked alone (blocks (records before)) r
 
 -- How an item ends the transfer, behind these items; None where it doesn't. The item of the number `most` is one too many.
-abbrev pub end_by : Asked → List Item → Item → Option Outcome
+abbrev pub end_by : Asked → List Item → Item → Option End
 end_by asked before it = if nat_le asked.most (length before + 1) then Some (Err (TooManyRecords asked.most)) else item_end asked before it
 
 -- how the first of the items that ends the transfer does so, where they stand behind those before
-unfoldable pub first_end : Asked → List Item → List Item → Option Outcome
+unfoldable pub first_end : Asked → List Item → List Item → Option End
 first_end asked before [] = None
 first_end asked before (it ∷ others) = option_or (end_by asked before it) (first_end asked (before ++ it ∷ []) others)
 
--- the records before the first that holds a SOA
-abbrev pub until_soa : List PlainRecord → List PlainRecord
-until_soa [] = []
-until_soa (r ∷ rs) = if is_soa r then [] else r ∷ until_soa rs
+abbrev pub ended : End → Outcome
+ended (Ok theirs) = Ok (Current theirs)
+ended (Err fault) = Err fault
 
-abbrev pub whole_of : Option Soa → List PlainRecord → Option Outcome
-whole_of None others = None
-whole_of (Some soa) others = if list_any is_soa others then Some (Ok (New (Whole soa (map row_of (until_soa others))))) else None
+abbrev pub taken : Transfer → Outcome
+taken transfer = Ok (New transfer)
 
--- the whole zone: the first SOA, and the records between it and the second as rows; None where there is no second
-unfoldable pub whole_zone : List PlainRecord → Option Outcome
-whole_zone [] = None
-whole_zone (first ∷ others) = whole_of (soa_held first) others
-
--- how these messages end the transfer: by the first item that does, else by the second SOA; None where they don't
+-- how these messages end the transfer: by the first item that does, else by the SOA that closes it; None where they don't
 unfoldable pub outcome_of : Asked → List (List ℕ) → Option Outcome
-outcome_of asked messages = option_or (first_end asked [] (items messages)) (whole_zone (records (items messages)))
+outcome_of asked messages = option_or (option_map ended (first_end asked [] (items messages))) (option_map taken (transfer_of (blocks (records (items messages)))))

@@ -39,11 +39,15 @@ pub enum TransferFault {
     OutOfZone,
     /// A SOA belongs to another name than the zone's.
     WrongSoaOwner,
-    /// The second SOA, which closes the zone, has another serial than the first.
+    /// The SOA that closes the transfer has another serial (`last`) than the first.
     SoaDiffers { first: u32, last: u32 },
-    /// The serial of the zone (`theirs`) is neither the one that we have (`ours`) nor newer (RFC 1982).
+    /// A step of an incremental transfer begins at another serial (`found`) than the one that we have, or than the one at which
+    /// the step before it ended (`expected`).
+    Gap { expected: u32, found: u32 },
+    /// A serial (`theirs`) isn't newer than the one before it (`ours`, RFC 1982): that of the zone is neither ours nor newer, or a
+    /// step doesn't go forward.
     SerialNotNewer { ours: u32, theirs: u32 },
-    /// A record stands behind the second SOA, in the same message, whatever else is wrong with it.
+    /// A record stands behind the SOA that closes the transfer, in the same message, whatever else is wrong with it.
     TrailingRecord,
     /// There are too many messages and records: this is the number of the last, counted together from 1.
     TooManyRecords { at: u32 },

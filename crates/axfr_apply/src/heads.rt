@@ -1,21 +1,32 @@
 //! The head of a message of a transfer.
 
 ghost use Rattle.std.specs.Prelude.{◌≡◌, option_copied};
-ghost use Rattle.axfr_apply.specs.Progress.{Gives, checked_message};
+ghost use Rattle.axfr_apply.specs.Checks.{Gives, checked_message};
 ghost use Rattle.axfr_apply.specs.Reading as form;
 
-use crate::asked::Asked;
+use crate::asked::{Asked, Wanted};
 use crate::fault::{TransferError, TransferFault};
 use dns_message::{Message, Question, read_message};
-use dns_name::Name;
 use dns_record::{class, rtype};
 use std::alloc::Global;
 
-// Whether this is the question for the whole zone.
-fn asks_for(origin: &Name, question: &Question) -> bool
-    ensures { result ≡ form.asks_for origin.now question.now }
+// Whether this is the type of a question by which this is asked for.
+fn asks_type(wanted: Wanted, qtype: u16) -> bool
+    ensures { result ≡ form.asks_type wanted qtype }
 {
-    question.name.is_same(origin) && question.qclass == class::IN && question.qtype == rtype::AXFR
+    match wanted {
+        Wanted::Whole { .. } => qtype == rtype::AXFR,
+        Wanted::Newer { .. } => qtype == rtype::IXFR || qtype == rtype::AXFR,
+    }
+}
+
+// Whether this is the question for the zone.
+fn asks_for(asked: &Asked, question: &Question) -> bool
+    ensures { result ≡ form.asks_for asked.now question.now }
+{
+    question.name.is_same(&asked.origin)
+        && question.qclass == class::IN
+        && asks_type(asked.wanted, question.qtype)
 }
 
 // Whether the first message has the question, or a later one has it or none.
@@ -24,7 +35,7 @@ fn question_fits(asked: &Asked, is_first: bool, question: Option<&Question>) -> 
 {
     match question {
         None => !is_first,
-        Some(question) => asks_for(&asked.origin, question),
+        Some(question) => asks_for(asked, question),
     }
 }
 

@@ -1,7 +1,7 @@
 //! Which records a zone may have.
 
 ghost use Rattle.std.specs.Prelude.{◌≡◌, Ok, OnOk};
-ghost use Rattle.axfr_apply.specs.Progress.{fault_or};
+ghost use Rattle.axfr_apply.specs.Checks.{fault_or};
 ghost use Rattle.axfr_apply.specs.Reading.{place_fault};
 
 use crate::fault::TransferFault;

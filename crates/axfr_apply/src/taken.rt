@@ -5,19 +5,8 @@ use zone_rows::Transfer;
 /// What a transfer gave.
 #[derive(Debug, Drop)]
 pub enum Taken {
-    /// The zone has the serial that we have.
+    /// We have what the primary has: its serial is this.
     Current { theirs: u32 },
-    /// The zone as it is now.
+    /// What the primary has is newer.
     New(Transfer),
-}
-
-/// What a message did to a transfer.
-#[derive(Debug, Drop)]
-pub enum Fed {
-    /// More messages are to come.
-    More,
-    /// The zone has the serial that we have.
-    Current { theirs: u32 },
-    /// The zone is whole.
-    Done(Transfer),
 }

@@ -1,0 +1,4 @@
+pub mod Progress
+pub mod Feeding
+pub mod Stream
+pub mod Request

@@ -1,0 +1,64 @@
+//! Requests for a zone.
+
+ghost use Rattle.std.specs.Prelude.{◌≡◌, IfOk};
+ghost use Rattle.dns_message.specs.Spelling.{spelling};
+ghost use Rattle.ixfr_apply.specs.Request.{newer_request, request_message, whole_request};
+
+use dns_message::{Header, Question, write_parts};
+use dns_name::{Name, Octets};
+use dns_record::{Record, Soa, class, rtype};
+use std::alloc::{AllocError, Global};
+
+/// The bytes of a request of this ID for all of a zone (AXFR, RFC 5936, section 2.1): its question alone.
+pub fn request(alloc: Global, id: u16, origin: &Name) -> Result<Octets, AllocError>
+    ensures { IfOk result (λ octets. octets ≡ spelling (whole_request id origin.now)) }
+{
+    written(alloc, id, origin, rtype::AXFR, &[])
+}
+
+/// The bytes of a request of this ID for what is newer of a zone than our version, whose SOA this is (IXFR, RFC 1995, section
+/// 3): its question, and the SOA record of our version as authority.
+pub fn request_newer(alloc: Global, id: u16, origin: &Name, soa: &Soa) -> Result<Octets, AllocError>
+    ensures { IfOk result (λ octets. octets ≡ spelling (newer_request id origin.now soa.now)) }
+{
+    let ours = [soa.record(alloc, origin.clone()?)?];
+    written(alloc, id, origin, rtype::IXFR, &ours)
+}
+
+// The bytes of a request with a question of this type and these records as authority.
+fn written(
+    alloc: Global,
+    id: u16,
+    origin: &Name,
+    qtype: u16,
+    authority: &[Record],
+) -> Result<Octets, AllocError>
+    ensures { IfOk result (λ octets. octets ≡ spelling (request_message id origin.now qtype authority.now)) }
+{
+    let header = Header {
+        id,
+        qr: false,
+        opcode: 0,
+        aa: false,
+        tc: false,
+        rd: false,
+        ra: false,
+        rcode: 0,
+    };
+    let question = Question {
+        name: origin.clone()?,
+        qtype,
+        qclass: class::IN,
+    };
+    let mut out = Octets::with_capacity(alloc, 12 + origin.octets().len() + 4)?;
+    write_parts(
+        &mut out,
+        &header,
+        Some(&question),
+        &[],
+        authority,
+        &[],
+        None,
+    )?;
+    Ok(out)
+}
