@@ -24,6 +24,7 @@ transfer_word transfer.WrongClass = codes "WrongClass"
 transfer_word transfer.OutOfZone = codes "OutOfZone"
 transfer_word transfer.WrongSoaOwner = codes "WrongSoaOwner"
 transfer_word (transfer.SoaDiffers first last) = codes "SoaDiffers"
+transfer_word (transfer.Gap expected found) = codes "Gap"
 transfer_word (transfer.SerialNotNewer ours theirs) = codes "SerialNotNewer"
 transfer_word transfer.TrailingRecord = codes "TrailingRecord"
 transfer_word (transfer.TooManyRecords at) = codes "TooManyRecords"
@@ -32,16 +33,23 @@ transfer_word transfer.Finished = codes "Finished"
 abbrev pub transfer_numbers : TransferFault → Numbers
 transfer_numbers (transfer.Rcode rcode) = One rcode
 transfer_numbers (transfer.SoaDiffers first last) = Two first last
+transfer_numbers (transfer.Gap expected found) = Two expected found
 transfer_numbers (transfer.SerialNotNewer ours theirs) = Two ours theirs
 transfer_numbers (transfer.TooManyRecords at) = One at
 transfer_numbers fault = Without
 
 abbrev pub apply_word : ApplyFault → List ℕ
 apply_word (apply.SerialNotNewer ours theirs) = codes "SerialNotNewer"
+apply_word (apply.Gap expected found) = codes "Gap"
+apply_word (apply.DeleteAbsent step row) = codes "DeleteAbsent"
+apply_word (apply.AddPresent step row) = codes "AddPresent"
 apply_word (apply.TooManyRows at) = codes "TooManyRows"
 
 abbrev pub apply_numbers : ApplyFault → Numbers
 apply_numbers (apply.SerialNotNewer ours theirs) = Two ours theirs
+apply_numbers (apply.Gap expected found) = Two expected found
+apply_numbers (apply.DeleteAbsent step row) = Two step row
+apply_numbers (apply.AddPresent step row) = Two step row
 apply_numbers (apply.TooManyRows at) = One at
 
 abbrev pub word_of : Refusal → List ℕ

@@ -63,6 +63,7 @@ fn word_of_transfer(fault: TransferFault) -> &'static str
         TransferFault::OutOfZone => "OutOfZone",
         TransferFault::WrongSoaOwner => "WrongSoaOwner",
         TransferFault::SoaDiffers { .. } => "SoaDiffers",
+        TransferFault::Gap { .. } => "Gap",
         TransferFault::SerialNotNewer { .. } => "SerialNotNewer",
         TransferFault::TrailingRecord => "TrailingRecord",
         TransferFault::TooManyRecords { .. } => "TooManyRecords",
@@ -76,6 +77,7 @@ fn numbers_of_transfer(fault: TransferFault) -> Numbers
     match fault {
         TransferFault::Rcode(rcode) => Numbers::One(u32::from(rcode)),
         TransferFault::SoaDiffers { first, last } => Numbers::Two(first, last),
+        TransferFault::Gap { expected, found } => Numbers::Two(expected, found),
         TransferFault::SerialNotNewer { ours, theirs } => Numbers::Two(ours, theirs),
         TransferFault::TooManyRecords { at } => Numbers::One(at),
         _ => Numbers::Without,
@@ -87,6 +89,9 @@ fn word_of_apply(fault: ApplyFault) -> &'static str
 {
     match fault {
         ApplyFault::SerialNotNewer { .. } => "SerialNotNewer",
+        ApplyFault::Gap { .. } => "Gap",
+        ApplyFault::DeleteAbsent { .. } => "DeleteAbsent",
+        ApplyFault::AddPresent { .. } => "AddPresent",
         ApplyFault::TooManyRows { .. } => "TooManyRows",
     }
 }
@@ -96,6 +101,9 @@ fn numbers_of_apply(fault: ApplyFault) -> Numbers
 {
     match fault {
         ApplyFault::SerialNotNewer { ours, theirs } => Numbers::Two(ours, theirs),
+        ApplyFault::Gap { expected, found } => Numbers::Two(expected, found),
+        ApplyFault::DeleteAbsent { step, row } => Numbers::Two(step, row),
+        ApplyFault::AddPresent { step, row } => Numbers::Two(step, row),
         ApplyFault::TooManyRows { at } => Numbers::One(at),
     }
 }
