@@ -2,5 +2,6 @@ pub mod Refusals
 pub mod Outputs
 pub mod Seen
 pub mod Slots
-pub mod Applied
 pub mod Flags
+pub mod Transfers
+pub mod Settled

@@ -1,17 +1,11 @@
 -- What an event that isn't refused outputs, and what it leaves.
-use Rattle.std.proofs.Common.{◌≡◌, ℕ, ◌↔◌, List, [], ◌∷◌, ◌++◌, Option, Some, None, Result, Ok, Err, length, refl, sym, ap, subst}
+use Rattle.std.proofs.Common.{◌≡◌, ℕ, ◌-◌, ◌↔◌, true, List, [], ◌∷◌, ◌++◌, Option, Some, None, Result, Ok, Err, length, refl, sym, ap, subst}
 use Rattle.std.specs.Prelude.{slice_get}
 use Rattle.std.proofs.lemmas.List.{length-set}
 use Rattle.dns_message.specs.declared.question.Question.{Question}
 use Rattle.dns_message.specs.declared.request.Incoming.{Incoming}
 use Rattle.dns_message.specs.Request.{incoming_of}
-use Rattle.zone_rows.specs.declared.fault.ApplyFault.{ApplyFault}
-use Rattle.zone_rows.specs.declared.transfer.Transfer as transfers
 use Rattle.zone_rows.specs.declared.zone.PlainZone.{PlainZone}
-use Rattle.zone_rows.specs.Zone.{apply_outcome}
-use Rattle.axfr_apply.specs.declared.taken.Taken.TheVariants as taken
-use Rattle.axfr_apply.specs.Reading.{Outcome}
-use Rattle.axfr_apply.specs.Stream.{reading}
 use Rattle.upstream_link.specs.declared.fact.Fact.{Fact}
 use Rattle.upstream_link.specs.declared.fact.Fact.TheVariants.{Broken}
 use Rattle.upstream_link.specs.declared.fact.Why.TheVariants.{Failed}
@@ -28,9 +22,10 @@ use Rattle.rpz_core.specs.declared.event.Event.TheVariants.{Transfer, Full, Quer
 use Rattle.rpz_core.specs.declared.event.Output.{Output}
 use Rattle.rpz_core.specs.declared.event.Output.TheVariants as output
 use Rattle.rpz_core.specs.Faults.{IsQuiet}
-use Rattle.rpz_core.specs.Offer.{Offer, takes, stays, offer, offer_by_outcome, offer_by_reading, request_of}
+use Rattle.rpz_core.specs.Marks.{mark_at, with_mark}
+use Rattle.rpz_core.specs.Offer.{Offer, takes, is_current, refuses, offer, offer_output}
 use Rattle.rpz_core.specs.Sessions.{PendingQuery, SessionsState, turn_step, query_step, fact_step}
-use Rattle.rpz_core.specs.World.{World, policy_of, world_after_offer, transfer_step, full_step, with_sessions, world_step}
+use Rattle.rpz_core.specs.World.{World, policy_of, transfer_step, full_step, with_sessions, world_step}
 
 -- the output says something
 abbrev Speaks : Output → Type 0
@@ -40,25 +35,18 @@ Speaks out = Unit {0}
 silent : (out : Output) → Speaks out → out ≡ output.None → ⊥
 silent out h e = subst Speaks e h
 
--- the zones and the number of workers stay
+-- the zones, the number of marks and the number of workers stay
 pub record Keeps (w next : World) : Type 0 where
   pub origins : next.origins ≡ w.origins
+  pub marks : length next.marks ≡ length w.marks
   pub workers : length next.sessions.workers ≡ length w.sessions.workers
 
 -- ---- transfers
 
-offer_keeps : (w : World) (number : ℕ) (o : Offer) → Keeps w (world_after_offer w number o).0
-offer_keeps w number (stays out) = record { origins = refl; workers = refl }
-offer_keeps w number (takes transfer zone) = record { origins = refl; workers = refl }
-
-outcome_speaks : (w : World) (number : ℕ) (transfer : transfers.Transfer) (r : Result PlainZone ApplyFault) → Speaks (world_after_offer w number (offer_by_outcome number transfer r)).1
-outcome_speaks w number transfer (Ok next) = tt
-outcome_speaks w number transfer (Err fault) = tt
-
-offer_speaks : (w : World) (number : ℕ) (zone : PlainZone) (read : Outcome) → Speaks (world_after_offer w number (offer_by_reading number zone read)).1
-offer_speaks w number zone (Ok (taken.Current theirs)) = tt
-offer_speaks w number zone (Ok (taken.New transfer)) = outcome_speaks w number transfer (apply_outcome zone transfer)
-offer_speaks w number zone (Err fault) = tt
+offer_speaks : (number : ℕ) (o : Offer) → Speaks (offer_output number o)
+offer_speaks number (takes transfer next) = tt
+offer_speaks number (is_current theirs) = tt
+offer_speaks number (refuses why) = tt
 
 -- what a step gave
 abbrev Gave : World × Output → World → Output → Type 0
@@ -72,15 +60,20 @@ refused fault next out e = absurd cc
 
 transfer_keeps : (w next : World) (number : ℕ) (stream : List ℕ) (zone : Option PlainZone) (out : Output) → transfer_step w number stream zone ≡ Ok (next, out) → Keeps w next
 transfer_keeps w next number stream None out e = absurd (refused _ next out e)
-transfer_keeps w next number stream (Some zone) out e = subst (λ (g : World × Output). Keeps w g.0) (given _ next out e) (offer_keeps w number (offer number zone stream))
+transfer_keeps w next number stream (Some zone) out e =
+    subst (λ (g : World × Output). Keeps w g.0) (given _ next out e) (record { origins = refl; marks = length-set w.marks (number - 1) _; workers = refl })
 
 transfer_speaks : (w next : World) (number : ℕ) (stream : List ℕ) (zone : Option PlainZone) (out : Output) → transfer_step w number stream zone ≡ Ok (next, out) → Speaks out
 transfer_speaks w next number stream None out e = absurd (refused _ next out e)
-transfer_speaks w next number stream (Some zone) out e = subst (λ (g : World × Output). Speaks g.1) (given _ next out e) (offer_speaks w number zone (reading (request_of zone) stream).0)
+transfer_speaks w next number stream (Some zone) out e = subst (λ (g : World × Output). Speaks g.1) (given _ next out e) (offer_speaks number (offer (mark_at w.marks number) zone stream))
 
-full_is : (w next : World) (zone : Option PlainZone) (out : Output) → full_step w zone ≡ Ok (next, out) → Keeps w next × (out ≡ output.None)
-full_is w next None out e = absurd (refused _ next out e)
-full_is w next (Some zone) out e = let same = given (w, output.None) next out e in (subst (λ (g : World × Output). Keeps w g.0) same (record { origins = refl; workers = refl }), sym (ap (λ (g : World × Output). g.1) same))
+full_is : (w next : World) (number : ℕ) (zone : Option PlainZone) (out : Output) → full_step w number zone ≡ Ok (next, out) → Keeps w next × (out ≡ output.None)
+full_is w next number None out e = absurd (refused _ next out e)
+full_is w next number (Some zone) out e =
+    let same = given (record { origins = w.origins; accepted = w.accepted; marks = with_mark w.marks number true; sessions = w.sessions }, output.None) next out e in (
+      subst (λ (g : World × Output). Keeps w g.0) same (record { origins = refl; marks = length-set w.marks (number - 1) true; workers = refl }),
+      sym (ap (λ (g : World × Output). g.1) same),
+    )
 
 -- ---- turns
 
@@ -99,7 +92,7 @@ turn_does : (w next : World) (worker : ℕ) (policy : PlainPolicy) (incoming : I
 turn_does w next worker policy incoming facts out e =
     let turn = turn_by policy incoming facts in
     let same = given _ next out e in (
-      subst (λ (g : World × Output). Keeps w g.0) same (record { origins = refl; workers = turn_length w.sessions worker policy incoming facts turn }),
+      subst (λ (g : World × Output). Keeps w g.0) same (record { origins = refl; marks = refl; workers = turn_length w.sessions worker policy incoming facts turn }),
       subst (λ (g : World × Output). Speaks g.1) same (turn_speaks w.sessions worker policy incoming facts turn),
     )
 
@@ -116,11 +109,11 @@ fact_does w next worker fact (Some (Some pending)) out e = turn_does w next work
 pub step_keeps : (w next : World) (e : Event) (out : Output) → world_step w e ≡ Ok (next, out) → Keeps w next
 unfolding world_step
 step_keeps w next (Transfer number stream) out is = transfer_keeps w next number stream (zone_at (policy_of w) number) out is
-step_keeps w next (Full number) out is = (full_is w next (zone_at (policy_of w) number) out is).0
+step_keeps w next (Full number) out is = (full_is w next number (zone_at (policy_of w) number) out is).0
 step_keeps w next (Query worker transport client message) out is = (query_does w next (policy_of w) worker (incoming_of message client transport) (slice_get w.sessions.workers worker) out is).0
 step_keeps w next (Give worker message) out is = (fact_does w next worker (λ question id. fact_from message id question) (slice_get w.sessions.workers worker) out is).0
 step_keeps w next (Fail worker) out is = (fact_does w next worker (λ question id. Broken Failed) (slice_get w.sessions.workers worker) out is).0
-step_keeps w next (Clock seconds) out is = subst (λ (g : World × Output). Keeps w g.0) (given (w, output.None) next out is) (record { origins = refl; workers = refl })
+step_keeps w next (Clock seconds) out is = subst (λ (g : World × Output). Keeps w g.0) (given (w, output.None) next out is) (record { origins = refl; marks = refl; workers = refl })
 
 loud : (out : Output) → Speaks out → (out ≡ output.None) ↔ ⊥
 loud out h = (λ e. silent out h e, λ e. absurd e)
@@ -128,7 +121,7 @@ loud out h = (λ e. silent out h e, λ e. absurd e)
 pub step_outputs : (w next : World) (e : Event) (out : Output) → world_step w e ≡ Ok (next, out) → (out ≡ output.None) ↔ IsQuiet e
 unfolding world_step
 step_outputs w next (Transfer number stream) out is = loud out (transfer_speaks w next number stream (zone_at (policy_of w) number) out is)
-step_outputs w next (Full number) out is = (λ _. tt, λ _. (full_is w next (zone_at (policy_of w) number) out is).1)
+step_outputs w next (Full number) out is = (λ _. tt, λ _. (full_is w next number (zone_at (policy_of w) number) out is).1)
 step_outputs w next (Query worker transport client message) out is = loud out (query_does w next (policy_of w) worker (incoming_of message client transport) (slice_get w.sessions.workers worker) out is).1
 step_outputs w next (Give worker message) out is = loud out (fact_does w next worker (λ question id. fact_from message id question) (slice_get w.sessions.workers worker) out is).1
 step_outputs w next (Fail worker) out is = loud out (fact_does w next worker (λ question id. Broken Failed) (slice_get w.sessions.workers worker) out is).1

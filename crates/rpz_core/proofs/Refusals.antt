@@ -21,9 +21,9 @@ by_transfer : (w : World) (number : ℕ) (stream : List ℕ) (zone : Option Plai
 by_transfer w number stream None f = (λ e. cc, λ e. cc)
 by_transfer w number stream (Some zone) f = (λ e. absurd cc, λ e. absurd cc)
 
-by_full : (w : World) (zone : Option PlainZone) (f : CoreFault) → (full_step w zone ≡ Err f) ↔ (zone_fault zone ≡ Some f)
-by_full w None f = (λ e. cc, λ e. cc)
-by_full w (Some zone) f = (λ e. absurd cc, λ e. absurd cc)
+by_full : (w : World) (number : ℕ) (zone : Option PlainZone) (f : CoreFault) → (full_step w number zone ≡ Err f) ↔ (zone_fault zone ≡ Some f)
+by_full w number None f = (λ e. cc, λ e. cc)
+by_full w number (Some zone) f = (λ e. absurd cc, λ e. absurd cc)
 
 by_query : (w : World) (policy : PlainPolicy) (worker : ℕ) (incoming : Incoming) (slot : Option (Option PendingQuery)) (f : CoreFault) → (with_sessions w (query_step w.sessions policy worker incoming slot) ≡ Err f) ↔ (query_fault slot ≡ Some f)
 by_query w policy worker incoming None f = (λ e. cc, λ e. cc)
@@ -38,7 +38,7 @@ by_fact w worker fact (Some (Some pending)) f = (λ e. absurd cc, λ e. absurd c
 pub refused_by_state : (w : World) (e : Event) (f : CoreFault) → (world_step w e ≡ Err f) ↔ (fault_of w e ≡ Some f)
 unfolding world_step
 refused_by_state w (Transfer number stream) f = by_transfer w number stream (zone_at (policy_of w) number) f
-refused_by_state w (Full number) f = by_full w (zone_at (policy_of w) number) f
+refused_by_state w (Full number) f = by_full w number (zone_at (policy_of w) number) f
 refused_by_state w (Query worker transport client message) f = by_query w (policy_of w) worker (incoming_of message client transport) (slice_get w.sessions.workers worker) f
 refused_by_state w (Give worker message) f = by_fact w worker (λ question id. fact_from message id question) (slice_get w.sessions.workers worker) f
 refused_by_state w (Fail worker) f = by_fact w worker (λ question id. Broken Failed) (slice_get w.sessions.workers worker) f

@@ -1,9 +1,7 @@
 -- The state of the core in code, which sees of the accepted transfers the policy that they make, and what each event does to it.
-use Rattle.std.specs.Prelude.{◌≡◌, ℕ, ◌-◌, List, length, Option, Some, None, Result, Ok, Err, slice_set}
+use Rattle.std.specs.Prelude.{◌≡◌, ℕ, ◌-◌, Bool, true, List, length, Option, Some, None, Result, Ok, Err, slice_set}
 use Rattle.std.specs.declared.alloc.AllocError.{AllocError}
-use Rattle.zone_rows.specs.declared.transfer.Transfer.{Transfer}
 use Rattle.zone_rows.specs.declared.zone.PlainZone.{PlainZone}
-use Rattle.zone_rows.specs.Zone.{apply_outcome}
 use Rattle.policy_snapshot.specs.Policy.{zone_at}
 use Rattle.policy_snapshot.specs.Stands.{PlainSnapshot, new_snapshot, next_count, count_of}
 use Rattle.rpz_core.specs.declared.event.CoreError.{CoreError}
@@ -14,48 +12,58 @@ use Rattle.rpz_core.specs.declared.event.Event.{Event}
 use Rattle.rpz_core.specs.declared.event.Event.TheVariants as event
 use Rattle.rpz_core.specs.declared.event.Output.{Output}
 use Rattle.rpz_core.specs.declared.event.Output.TheVariants as output
-use Rattle.rpz_core.specs.Offer.{Offer, takes, stays, offer, offer_by_outcome, content_taken}
+use Rattle.rpz_core.specs.Marks.{mark_at, no_marks, with_mark}
+use Rattle.rpz_core.specs.Offer.{Offer, takes, is_current, refuses, offer, offer_output, mark_after, wanted_of}
 use Rattle.rpz_core.specs.Sessions.{PendingQuery, SessionsState, with_worker, no_sessions, take_query, take_answer, take_failure}
 use Rattle.rpz_core.specs.World.{World, policy_of}
 
 pub record CoreState : Type 0 where
   pub policy : PlainSnapshot
+  pub marks : List Bool
   pub sessions : SessionsState
 
 abbrev pub new_core : List (List (List ℕ)) → CoreState
-new_core origins = record { policy = new_snapshot origins; sessions = no_sessions }
+new_core origins = record { policy = new_snapshot origins; marks = no_marks origins; sessions = no_sessions }
 
 -- the state of the core in a world
 abbrev pub state_of : World → CoreState
-state_of world = record { policy = record { zones = policy_of world; accepted = count_of (length world.accepted) }; sessions = world.sessions }
+state_of world = record { policy = record { zones = policy_of world; accepted = count_of (length world.accepted) }; marks = world.marks; sessions = world.sessions }
 
 abbrev pub with_zone : PlainSnapshot → ℕ → PlainZone → PlainSnapshot
 with_zone policy number zone = record { zones = slice_set policy.zones (number - 1) zone; accepted = next_count policy.accepted }
 
-abbrev pub core_after_offer : CoreState → ℕ → Offer → CoreState × Output
-core_after_offer core number (stays out) = (core, out)
-core_after_offer core number (takes transfer next) = (record { policy = with_zone core.policy number next; sessions = core.sessions }, content_taken number next.content)
+-- the policy after an offer to the zone of this number
+abbrev pub policy_by_offer : PlainSnapshot → ℕ → Offer → PlainSnapshot
+policy_by_offer policy number (takes transfer next) = with_zone policy number next
+policy_by_offer policy number (is_current theirs) = policy
+policy_by_offer policy number (refuses why) = policy
+
+abbrev pub core_after_offer : CoreState → ℕ → PlainZone → Offer → CoreState × Output
+core_after_offer core number zone offered =
+    let marked = mark_at core.marks number in (
+      record {
+        policy = policy_by_offer core.policy number offered;
+        marks = with_mark core.marks number (mark_after marked (wanted_of marked zone.content) offered);
+        sessions = core.sessions;
+      },
+      offer_output number offered,
+    )
 
 abbrev pub transfer_step : CoreState → ℕ → List ℕ → Option PlainZone → Result (CoreState × Output) CoreFault
 transfer_step core number stream None = Err fault.NoZone
-transfer_step core number stream (Some zone) = Ok (core_after_offer core number (offer number zone stream))
+transfer_step core number stream (Some zone) = Ok (core_after_offer core number zone (offer (mark_at core.marks number) zone stream))
 
--- the same where the transfer was read
-abbrev pub apply_step : CoreState → ℕ → Transfer → Option PlainZone → Result (CoreState × Output) CoreFault
-apply_step core number transfer None = Err fault.NoZone
-apply_step core number transfer (Some zone) = Ok (core_after_offer core number (offer_by_outcome number transfer (apply_outcome zone transfer)))
-
-abbrev pub full_step : CoreState → Option PlainZone → Result (CoreState × Output) CoreFault
-full_step core None = Err fault.NoZone
-full_step core (Some zone) = Ok (core, output.None)
+abbrev pub full_step : CoreState → ℕ → Option PlainZone → Result (CoreState × Output) CoreFault
+full_step core number None = Err fault.NoZone
+full_step core number (Some zone) = Ok (record { policy = core.policy; marks = with_mark core.marks number true; sessions = core.sessions }, output.None)
 
 abbrev pub with_sessions : CoreState → Result (SessionsState × Output) CoreFault → Result (CoreState × Output) CoreFault
-with_sessions core (Ok next) = Ok (record { policy = core.policy; sessions = next.0 }, next.1)
+with_sessions core (Ok next) = Ok (record { policy = core.policy; marks = core.marks; sessions = next.0 }, next.1)
 with_sessions core (Err fault) = Err fault
 
 unfoldable pub core_step : CoreState → Event → Result (CoreState × Output) CoreFault
 core_step core (event.Transfer number stream) = transfer_step core number stream (zone_at core.policy.zones number)
-core_step core (event.Full number) = full_step core (zone_at core.policy.zones number)
+core_step core (event.Full number) = full_step core number (zone_at core.policy.zones number)
 core_step core (event.Query worker transport client message) = with_sessions core (take_query core.sessions core.policy.zones worker transport client message)
 core_step core (event.Give worker message) = with_sessions core (take_answer core.sessions worker message)
 core_step core (event.Fail worker) = with_sessions core (take_failure core.sessions worker)

@@ -1,5 +1,5 @@
 -- The world of the core, and what each event does to it.
-use Rattle.std.specs.Prelude.{ℕ, List, [], ◌∷◌, ◌++◌, Option, Some, None, Result, Ok, Err}
+use Rattle.std.specs.Prelude.{ℕ, Bool, true, List, [], ◌∷◌, ◌++◌, Option, Some, None, Result, Ok, Err}
 use Rattle.zone_rows.specs.declared.zone.PlainZone.{PlainZone}
 use Rattle.policy_snapshot.specs.Policy.{PlainPolicy, Entry, zone_at, policy_after}
 use Rattle.rpz_core.specs.declared.event.CoreFault.{CoreFault}
@@ -8,46 +8,64 @@ use Rattle.rpz_core.specs.declared.event.Event.{Event}
 use Rattle.rpz_core.specs.declared.event.Event.TheVariants.{Transfer, Full, Query, Give, Fail, Clock}
 use Rattle.rpz_core.specs.declared.event.Output.{Output}
 use Rattle.rpz_core.specs.declared.event.Output.TheVariants as output
-use Rattle.rpz_core.specs.Offer.{Offer, takes, stays, offer, content_taken}
+use Rattle.rpz_core.specs.Marks.{mark_at, no_marks, with_mark}
+use Rattle.rpz_core.specs.Offer.{Offer, takes, is_current, refuses, offer, offer_output, mark_after, wanted_of}
 use Rattle.rpz_core.specs.Sessions.{SessionsState, no_sessions, take_query, take_answer, take_failure}
 
--- the origins of the policy's zones, the accepted transfers in order, and the workers with their pending queries
+-- the origins of the policy's zones, the accepted transfers in order, which zones are marked, so that all of them is asked for
+-- next, and the workers with their pending queries
 pub record World : Type 0 where
   pub origins : List (List (List ℕ))
   pub accepted : List Entry
+  pub marks : List Bool
   pub sessions : SessionsState
 
 abbrev pub new_world : List (List (List ℕ)) → World
-new_world origins = record { origins = origins; accepted = []; sessions = no_sessions }
+new_world origins = record { origins = origins; accepted = []; marks = no_marks origins; sessions = no_sessions }
 
 -- the policy after the transfers accepted so far
 abbrev pub policy_of : World → PlainPolicy
 policy_of world = policy_after world.origins world.accepted
 
--- a transfer that is taken is one entry more; any other stream changes nothing
-abbrev pub world_after_offer : World → ℕ → Offer → World × Output
-world_after_offer world number (stays out) = (world, out)
-world_after_offer world number (takes transfer next) =
-    (record { origins = world.origins; accepted = world.accepted ++ record { zone = number; transfer = transfer } ∷ []; sessions = world.sessions }, content_taken number next.content)
+-- the accepted transfers after an offer: a transfer that is taken is one entry more; any other stream adds none
+abbrev pub accepted_after : List Entry → ℕ → Offer → List Entry
+accepted_after accepted number (takes transfer next) = accepted ++ record { zone = number; transfer = transfer } ∷ []
+accepted_after accepted number (is_current theirs) = accepted
+accepted_after accepted number (refuses why) = accepted
+
+-- A stream that comes as the transfer of a zone changes the accepted transfers and the zone's mark alone.
+abbrev pub world_after_offer : World → ℕ → PlainZone → Offer → World × Output
+world_after_offer world number zone offered =
+    let marked = mark_at world.marks number in (
+      record {
+        origins = world.origins;
+        accepted = accepted_after world.accepted number offered;
+        marks = with_mark world.marks number (mark_after marked (wanted_of marked zone.content) offered);
+        sessions = world.sessions;
+      },
+      offer_output number offered,
+    )
 
 abbrev pub transfer_step : World → ℕ → List ℕ → Option PlainZone → Result (World × Output) CoreFault
 transfer_step world number stream None = Err fault.NoZone
-transfer_step world number stream (Some zone) = Ok (world_after_offer world number (offer number zone stream))
+transfer_step world number stream (Some zone) = Ok (world_after_offer world number zone (offer (mark_at world.marks number) zone stream))
 
-abbrev pub full_step : World → Option PlainZone → Result (World × Output) CoreFault
-full_step world None = Err fault.NoZone
-full_step world (Some zone) = Ok (world, output.None)
+-- a zone is marked
+abbrev pub full_step : World → ℕ → Option PlainZone → Result (World × Output) CoreFault
+full_step world number None = Err fault.NoZone
+full_step world number (Some zone) =
+    Ok (record { origins = world.origins; accepted = world.accepted; marks = with_mark world.marks number true; sessions = world.sessions }, output.None)
 
 abbrev pub with_sessions : World → Result (SessionsState × Output) CoreFault → Result (World × Output) CoreFault
-with_sessions world (Ok next) = Ok (record { origins = world.origins; accepted = world.accepted; sessions = next.0 }, next.1)
+with_sessions world (Ok next) = Ok (record { origins = world.origins; accepted = world.accepted; marks = world.marks; sessions = next.0 }, next.1)
 with_sessions world (Err fault) = Err fault
 
 -- The world after an event, and what the event outputs; or why it can't be. A stream is a transfer that is taken, or names its
--- fault and changes nothing. A query is answered by the policy after the transfers accepted so far, which it keeps while it is
--- pending. Neither Full nor Clock changes anything yet.
+-- fault and changes nothing but the zone's mark. A query is answered by the policy after the transfers accepted so far, which it
+-- keeps while it is pending. Full marks its zone. Clock changes nothing yet.
 unfoldable pub world_step : World → Event → Result (World × Output) CoreFault
 world_step world (Transfer number stream) = transfer_step world number stream (zone_at (policy_of world) number)
-world_step world (Full number) = full_step world (zone_at (policy_of world) number)
+world_step world (Full number) = full_step world number (zone_at (policy_of world) number)
 world_step world (Query worker transport client message) = with_sessions world (take_query world.sessions (policy_of world) worker transport client message)
 world_step world (Give worker message) = with_sessions world (take_answer world.sessions worker message)
 world_step world (Fail worker) = with_sessions world (take_failure world.sessions worker)

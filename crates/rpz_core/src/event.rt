@@ -67,7 +67,7 @@ pub enum Output {
     Reply { worker: u32, message: Octets },
     /// The query of this worker gets no reply.
     Silent { worker: u32 },
-    /// Full and Clock output nothing.
+    /// Of Full and Clock, which output nothing.
     None,
 }
 

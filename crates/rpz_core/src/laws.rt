@@ -1,11 +1,14 @@
 //! Laws of the world and its steps. Each function is its clauses, and does nothing.
 
-ghost use Rattle.std.specs.Prelude.{◌≡◌, ◌↔◌, length, Some, Ok, Err};
+ghost use Rattle.std.specs.Prelude.{◌≡◌, ◌≢◌, ◌↔◌, ◌-◌, ℕ, List, length, Some, Ok, Err};
 ghost use Rattle.rpz_core.specs.declared.event.CoreFault.{CoreFault};
 ghost use Rattle.rpz_core.specs.declared.event.Event.{Event};
+ghost use Rattle.rpz_core.specs.declared.event.Event.TheVariants.{Transfer};
 ghost use Rattle.rpz_core.specs.declared.event.Output.{Output};
 ghost use Rattle.rpz_core.specs.declared.event.Output.TheVariants as output;
+ghost use Rattle.rpz_core.specs.declared.event.Refusal.{Refusal};
 ghost use Rattle.rpz_core.specs.Faults.{IsQuiet, fault_of};
+ghost use Rattle.rpz_core.specs.Marks.{mark_at};
 ghost use Rattle.rpz_core.specs.State.{CoreState, core_step, seen, state_of};
 ghost use Rattle.rpz_core.specs.World.{World, world_step};
 
@@ -27,10 +30,25 @@ pub fn the_core_does_what_the_world_does()
     ensures { (world : World) (event : Event) → core_step (state_of world) event ≡ seen (world_step world event) }
 {}
 
-/// No event opens a zone, or changes the number of workers.
+/// No event opens a zone, or changes the number of marks or of workers.
 pub fn an_event_keeps_the_zones_and_the_workers()
     ensures origins { (world next : World) (event : Event) (out : Output) → world_step world event ≡ Ok (next, out) →
         next.origins ≡ world.origins }
+    ensures marks { (world next : World) (event : Event) (out : Output) → world_step world event ≡ Ok (next, out) →
+        length next.marks ≡ length world.marks }
     ensures workers { (world next : World) (event : Event) (out : Output) → world_step world event ≡ Ok (next, out) →
         length next.sessions.workers ≡ length world.sessions.workers }
+{}
+
+/// A transfer that is refused adds nothing to the accepted ones, and so leaves the policy. No transfer changes the mark of
+/// another zone, or a pending query, which keeps the policy that it came under.
+pub fn a_refused_transfer_changes_nothing_but_the_mark()
+    ensures accepted { (world next : World) (number zone : ℕ) (stream : List ℕ) (why : Refusal) →
+        world_step world (Transfer number stream) ≡ Ok (next, output.Refused zone why) →
+        next.accepted ≡ world.accepted }
+    ensures others { (world next : World) (number other : ℕ) (stream : List ℕ) (out : Output) →
+        world_step world (Transfer number stream) ≡ Ok (next, out) → other - 1 ≢ number - 1 →
+        mark_at next.marks other ≡ mark_at world.marks other }
+    ensures pending { (world next : World) (number : ℕ) (stream : List ℕ) (out : Output) →
+        world_step world (Transfer number stream) ≡ Ok (next, out) → next.sessions ≡ world.sessions }
 {}

@@ -4,10 +4,11 @@
 
 mod event;
 pub mod laws;
+mod marks;
+mod offer;
 mod pending;
 mod policy_core;
 mod sessions;
-mod transfer;
 
 pub use event::{CoreError, CoreFault, Event, Output, Refusal};
 pub use policy_core::Core;

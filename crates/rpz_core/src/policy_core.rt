@@ -1,29 +1,30 @@
 //! The core.
 
-ghost use Rattle.std.specs.Prelude.{◌≡◌, ◌≤◌, length, map, IfOk, IsSome, is_some};
+ghost use Rattle.std.specs.Prelude.{◌≡◌, ◌≤◌, length, map, IfOk, is_some};
 ghost use Rattle.zone_rows.specs.declared.zone.TheConstants.{ZONE_LIMIT};
 ghost use Rattle.policy_snapshot.specs.Policy.{zone_at};
-ghost use Rattle.rpz_core.specs.State.{Steps, apply_step, core_step, full_step, new_core, seen, state_of, transfer_step};
+ghost use Rattle.rpz_core.specs.Offered.{core_by_offered};
+ghost use Rattle.rpz_core.specs.State.{Steps, Turns, core_step, full_step, new_core, seen, state_of, transfer_step};
 ghost use Rattle.rpz_core.specs.World.{World, world_step};
 
-use crate::event::{CoreError, CoreFault, Event, Output, Refusal};
+use crate::event::{CoreError, CoreFault, Event, Output};
 use crate::laws::the_core_does_what_the_world_does;
+use crate::marks::Marks;
+use crate::offer::{Offered, read_offer, wanted};
 use crate::sessions::{Sessions, WORKERS};
-use crate::transfer::{read_stream, taken};
-use axfr_apply::{Taken, TransferError};
 use dns_name::{Name, Octets};
 use policy_snapshot::Snapshot;
 use std::alloc::{AllocError, Global};
 use std::marker::Model;
 use std::sync::Arc;
-use zone_rows::{ApplyError, Transfer};
 
-/// The policy as it is, and the workers with their pending queries. Contracts see both; a pending query holds the policy that
-/// it came under, which stays as it is when a transfer is taken.
+/// The policy as it is, which of its zones are asked for whole next, and the workers with their pending queries. Contracts see
+/// these; a pending query holds the policy that it came under, which stays as it is when a transfer is taken.
 #[derive(Drop)]
 pub struct Core {
     alloc: Global,
     policy: Arc<Snapshot, Global>,
+    marks: Marks,
     sessions: Sessions,
 }
 
@@ -32,7 +33,7 @@ impl Model for Core {
 
     ghost Value = { CoreState };
 
-    ghost view = { λ c. record { policy = c.policy.value; sessions = c.sessions } };
+    ghost view = { λ c. record { policy = c.policy.value; marks = c.marks; sessions = c.sessions } };
 }
 
 impl Core {
@@ -42,10 +43,12 @@ impl Core {
         ensures { IfOk result (λ core. core ≡ new_core origins.now) }
     {
         let policy = Arc::new(alloc, Snapshot::start(alloc, origins)?)?;
+        let marks = Marks::new(alloc, origins)?;
         let sessions = Sessions::new(alloc)?;
         Ok(Core {
             alloc,
             policy,
+            marks,
             sessions,
         })
     }
@@ -105,12 +108,15 @@ impl Core {
     }
 
     // The zone of this number is to be transferred in full next.
-    fn full(&self, number: u32) -> Result<Output, CoreError>
-        ensures { Steps (full_step self.now (zone_at self.now.policy.zones number)) result self.now self.now }
+    fn full(&mut self, number: u32) -> Result<Output, CoreError>
+        ensures { Steps (full_step self.old number (zone_at self.old.policy.zones number)) result self.old self.new }
     {
         match self.policy.zone(number) {
             None => Err(CoreError::Fault(CoreFault::NoZone)),
-            Some(_) => Ok(Output::None),
+            Some(_) => {
+                self.marks.set(number, true);
+                Ok(Output::None)
+            }
         }
     }
 
@@ -118,39 +124,31 @@ impl Core {
     fn take_transfer(&mut self, number: u32, stream: Octets) -> Result<Output, CoreError>
         ensures { Steps (transfer_step self.old number stream (zone_at self.old.policy.zones number)) result self.old self.new }
     {
+        let marked = self.marks.get(number);
         let Some(zone) = self.policy.zone(number) else {
             return Err(CoreError::Fault(CoreFault::NoZone));
         };
-        match read_stream(self.alloc, stream, zone.origin(), zone.serial()) {
-            Ok(Taken::Current { theirs }) => Ok(Output::Current {
-                zone: number,
-                serial: theirs,
-            }),
-            Ok(Taken::New(transfer)) => self.apply(number, transfer),
-            Err(TransferError::Fault(fault)) => Ok(Output::Refused {
-                zone: number,
-                refusal: Refusal::Transfer(fault),
-            }),
-            Err(TransferError::OutOfMemory) => Err(CoreError::OutOfMemory),
-        }
+        let wanted = wanted(marked, zone);
+        let offered = read_offer(self.alloc, &self.policy, number, marked, zone, stream)?;
+        let mark = offered.mark_after(marked, wanted);
+        Ok(self.settle(number, mark, offered)?)
     }
 
-    // The zone of this number takes a transfer, if it can.
-    fn apply(&mut self, number: u32, transfer: Transfer) -> Result<Output, CoreError>
-        requires { IsSome (zone_at self.old.policy.zones number) }
-        ensures { Steps (apply_step self.old number transfer (zone_at self.old.policy.zones number)) result self.old self.new }
+    // What was offered to the zone of this number is done, and the zone is marked afterwards or isn't.
+    fn settle(&mut self, number: u32, mark: bool, offered: Offered) -> Result<Output, AllocError>
+        ensures { Turns (core_by_offered self.old number mark offered) result self.old self.new }
     {
-        match self.policy.apply(self.alloc, number, transfer) {
-            Ok(next) => {
-                let output = taken(&next, number);
+        let output = offered.output(number);
+        match offered {
+            Offered::Takes(next) => {
                 self.policy = Arc::new(self.alloc, next)?;
+                self.marks.set(number, mark);
                 Ok(output)
             }
-            Err(ApplyError::Fault(fault)) => Ok(Output::Refused {
-                zone: number,
-                refusal: Refusal::Apply(fault),
-            }),
-            Err(ApplyError::OutOfMemory) => Err(CoreError::OutOfMemory),
+            Offered::Current(_) | Offered::Refuses(_) => {
+                self.marks.set(number, mark);
+                Ok(output)
+            }
         }
     }
 }

@@ -6,3 +6,6 @@ returns-clause-origins c = λ w next e out is. (step_keeps w next e out is).orig
 
 pub returns-clause-workers : goal.returns-clause-workers
 returns-clause-workers c = λ w next e out is. (step_keeps w next e out is).workers
+
+pub returns-clause-marks : goal.returns-clause-marks
+returns-clause-marks c = λ w next e out is. (step_keeps w next e out is).marks

@@ -1,0 +1,16 @@
+use Rattle.policy_snapshot.specs.Policy.{zone_at}
+use Rattle.rpz_core.specs.World.{policy_of, world_step}
+use Rattle.rpz_core.proofs.Transfers.{refused_keeps, keeps_marks, keeps_sessions}
+use Rattle.rpz_core.proofs.laws.a_refused_transfer_changes_nothing_but_the_mark.Goals as goal
+
+pub returns-clause-accepted : goal.returns-clause-accepted
+unfolding world_step
+returns-clause-accepted c = λ world next number zone stream why e. refused_keeps world next number zone stream why (zone_at (policy_of world) number) e
+
+pub returns-clause-others : goal.returns-clause-others
+unfolding world_step
+returns-clause-others c = λ world next number other stream out e differs. keeps_marks world next number other stream (zone_at (policy_of world) number) out e differs
+
+pub returns-clause-pending : goal.returns-clause-pending
+unfolding world_step
+returns-clause-pending c = λ world next number stream out e. keeps_sessions world next number stream (zone_at (policy_of world) number) out e
