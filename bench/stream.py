@@ -7,8 +7,7 @@ SIZE = 65_535
 TTL = 60
 ZONE = 12  # where the question's name begins
 ORIGIN = b"\x03rpz\x07example\x00"
-QUESTION = ORIGIN + struct.pack(">HH", 252, 1)
-SOA_DATA = b"\x00\x00" + struct.pack(">IIIII", 1, 3600, 600, 86400, 60)
+AXFR, IXFR = 252, 251
 
 
 def pointer(place):
@@ -19,19 +18,24 @@ def record(owner, rtype, data):
     return owner + struct.pack(">HHIH", rtype, 1, TTL, len(data)) + data
 
 
+def soa_data(serial):
+    return b"\x00\x00" + struct.pack(">IIIII", serial, 3600, 600, 86400, 60)
+
+
 def label(text):
     return bytes([len(text)]) + text.encode()
 
 
 class Writer:
-    """Writes records into messages, each behind its length."""
+    """Writes records into messages, each behind its length, which answer a question of this type."""
 
-    def __init__(self, out):
+    def __init__(self, out, qtype):
         self.out = out
+        self.question = ORIGIN + struct.pack(">HH", qtype, 1)
         self.begin()
 
     def begin(self):
-        self.body = bytearray(12) + QUESTION
+        self.body = bytearray(12) + self.question
         self.answers = 0
         self.places = {}  # where the names that begin with these labels stand in the message
 
@@ -44,8 +48,8 @@ class Writer:
         self.body += data
         self.answers += 1
 
-    def soa(self):
-        data = record(pointer(ZONE), 6, SOA_DATA)
+    def soa(self, serial):
+        data = record(pointer(ZONE), 6, soa_data(serial))
         if len(self.body) + len(data) > SIZE:
             self.end()
         self.put(data)
@@ -75,10 +79,26 @@ class Writer:
 
 
 def write_zone(out, rows):
-    """The transfer of these rows, each the labels of its owner."""
-    writer = Writer(out)
-    writer.soa()
+    """The transfer of these rows, each the labels of its owner, with serial 1."""
+    writer = Writer(out, AXFR)
+    writer.soa(1)
     for labels in rows:
         writer.row(labels)
-    writer.soa()
+    writer.soa(1)
+    writer.end()
+
+
+def write_steps(out, steps):
+    """The transfer of these steps from serial 1 on, each to the next serial: the rows that it deletes, and those that it adds."""
+    writer = Writer(out, IXFR)
+    newest = 1 + len(steps)
+    writer.soa(newest)
+    for serial, (deleted, added) in enumerate(steps, 1):
+        writer.soa(serial)
+        for labels in deleted:
+            writer.row(labels)
+        writer.soa(serial + 1)
+        for labels in added:
+            writer.row(labels)
+    writer.soa(newest)
     writer.end()

@@ -1,56 +1,59 @@
-//! `transfer_bench`: reads the transfer of the zone rpz.example from standard input, as the answer to a request of
-//! the ID 0, and puts it into an empty zone. It prints the serial of the zone and the number of its rows.
+//! `transfer_bench`: reads transfers of the zone rpz.example from standard input, as the answers to requests of the ID 0: the
+//! whole zone, and then, until the input ends, what is newer than the zone is by then. It puts each into the zone, and prints the
+//! serial of the zone and the number of its rows.
 #![tactic(auto)]
 
-use axfr_apply::{Taken, TransferError, read_whole};
-use dns_name::{Name, NameError};
+mod refusal;
+
+use crate::refusal::Refusal;
+use axfr_apply::{Taken, TransferError, TransferFault, Wanted};
+use dns_name::Name;
 use edge_io::{ReaderSource, Source};
+use ixfr_apply::read_transfer;
 use std::alloc::Global;
 use std::io;
 use std::process::ExitCode;
-use zone_rows::{ApplyError, PlainZone};
+use zone_rows::{PlainZone, Transfer};
 
-// Why there is no zone.
-#[derive(Debug, Drop)]
-enum Refusal {
-    Origin(NameError),
-    Transfer(TransferError),
-    Apply(ApplyError),
-    // nothing was taken
-    Empty,
-}
-
-impl From<NameError> for Refusal {
-    fn from(error: NameError) -> Self {
-        Refusal::Origin(error)
+// What is asked for of a zone.
+fn wanted(zone: &PlainZone) -> Wanted {
+    match &zone.content {
+        None => Wanted::Whole { have: None },
+        Some(content) => Wanted::Newer {
+            have: content.soa.serial,
+        },
     }
 }
 
-impl From<TransferError> for Refusal {
-    fn from(error: TransferError) -> Self {
-        Refusal::Transfer(error)
+// The next transfer. `None` where the input ends between messages, so that a transfer which is cut there isn't told from the end:
+// the serial that is printed tells it.
+fn next_transfer<S: Source>(
+    alloc: Global,
+    source: &mut S,
+    zone: &PlainZone,
+) -> Result<Option<Transfer>, Refusal> {
+    match read_transfer(alloc, source, 0, &zone.origin, wanted(zone)) {
+        Ok(Taken::New(transfer)) => Ok(Some(transfer)),
+        Ok(Taken::Current { .. }) => Err(Refusal::Current),
+        Err(TransferError::Fault(TransferFault::EndedEarly)) => Ok(None),
+        Err(error) => Err(Refusal::Transfer(error)),
     }
 }
 
-impl From<ApplyError> for Refusal {
-    fn from(error: ApplyError) -> Self {
-        Refusal::Apply(error)
-    }
-}
-
-// The zone that the source gives, and its rows without repeats.
+// The zone after the transfers that the source gives.
 fn load<S: Source>(alloc: Global, source: &mut S) -> Result<PlainZone, Refusal> {
     let (origin, _) = Name::read(alloc, b"\x03rpz\x07example\0", 0)?;
-    match read_whole(alloc, source, 0, &origin, None)? {
-        Taken::New(transfer) => {
-            let empty = PlainZone {
-                origin,
-                content: None,
-            };
-            Ok(empty.apply(alloc, transfer)?)
-        }
-        Taken::Current { .. } => Err(Refusal::Empty),
+    let mut zone = PlainZone {
+        origin,
+        content: None,
+    };
+    for _turn in 0..u64::MAX {
+        let Some(transfer) = next_transfer(alloc, source, &zone)? else {
+            break;
+        };
+        zone = zone.apply(alloc, transfer)?;
     }
+    Ok(zone)
 }
 
 // The serial of the zone and the number of its rows.
