@@ -8,6 +8,8 @@ fn laws_do_nothing() {
     dns_message::laws::a_message_is_read_by_its_grammar();
     dns_message::laws::a_message_is_read_as_it_is_spelled();
     dns_record::laws::data_in_lower_case_have_the_same_parts();
+    zone_rows::laws::a_step_takes_rows_out_and_puts_rows_in();
+    zone_rows::laws::steps_are_taken_one_after_another();
     trigger_codec::laws::a_trigger_is_read_back();
     policy_snapshot::laws::a_policy_takes_transfers_one_by_one();
     query_session::laws::a_reply_stands();
@@ -17,4 +19,5 @@ fn laws_do_nothing() {
     rpz_core::laws::an_event_is_refused_by_its_state();
     rpz_core::laws::an_event_has_one_output();
     rpz_core::laws::an_event_keeps_the_zones_and_the_workers();
+    rpz_core::laws::a_refused_transfer_changes_nothing_but_the_mark();
 }

@@ -18,6 +18,8 @@ mod prefixes;
 #[cfg(test)]
 mod records;
 #[cfg(test)]
+mod requests;
+#[cfg(test)]
 mod row_samples;
 #[cfg(test)]
 mod rules;

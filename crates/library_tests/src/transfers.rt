@@ -1,8 +1,9 @@
 //! Transfers of a whole zone out of a source that fails, and what is left in one.
 
 use crate::row_samples::zone_name;
-use axfr_apply::{TransferError, TransferFault, read_whole};
+use axfr_apply::{TransferError, TransferFault, Wanted};
 use edge_io::{Bytes, ListSource, read_frame};
+use ixfr_apply::read_transfer;
 use std::alloc::Global;
 use std::test::Fail;
 
@@ -15,7 +16,7 @@ const STREAM: &[u8] =
 fn read_singly(alloc: Global, call: u64) -> Result<Option<TransferError>, Fail> {
     let origin = zone_name(alloc)?;
     let mut source = ListSource::new(STREAM.to_vec(alloc)?, 1, vec![in alloc; call]?);
-    Ok(read_whole(alloc, &mut source, 0, &origin, None).err())
+    Ok(read_transfer(alloc, &mut source, 0, &origin, Wanted::Whole { have: None }).err())
 }
 
 // The stream of 157 bytes takes 157 calls.
@@ -41,7 +42,16 @@ fn what_follows_is_left(rt: HostRuntime) -> Result<(), Fail> {
     let mut bytes = STREAM.to_vec(rt.alloc())?;
     bytes.extend_from_slice(b"\0\x02ab")?;
     let mut source = Bytes::new(bytes);
-    assert!(rt; read_whole(rt.alloc(), &mut source, 0, &origin, None).is_ok());
+    assert!(rt;
+        read_transfer(
+            rt.alloc(),
+            &mut source,
+            0,
+            &origin,
+            Wanted::Whole { have: None }
+        )
+        .is_ok()
+    );
     let next = read_frame(rt.alloc(), &mut source)?;
     assert_eq!(rt;
         next.as_ref().map(|bytes| bytes.as_slice()),
