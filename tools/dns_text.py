@@ -382,6 +382,8 @@ def frames(stream):
 
 
 def framed(message):
+    if len(message) > 65535:
+        raise Refused(f"a message of over 65,535 bytes: {len(message)}")
     return len(message).to_bytes(2, "big") + message
 
 

@@ -7,124 +7,15 @@ import ipaddress
 import re
 from dataclasses import replace
 
-from dns_text import (
-    FLAGS, TYPES, Message, Question, Refused, class_of, decode, encode, framed, frames, is_class, is_opt, name_of, number_of,
-    opt_of_words, rcode_of, record_of, text_of_class, text_of_name, text_of_opt, text_of_rcode, text_of_record,
-    text_of_type, type_of,
+from dns_text import FLAGS, Message, Refused, decode, encode, name_of, rcode_of, text_of_name, text_of_rcode
+from message_text import (
+    digits_of, octets_of, read_sections, read_words, shown, take, take_number, take_question, text_of_question,
 )
+from transfer_text import streams_of, text_of_stream
 
-TTL = 60  # of the rows of a transfer that say none
 RANGE = re.compile(r"\{(\d+)\.\.(\d+)\}")
 ZONE_OUTPUTS = ("taken", "current", "refused")
 OUTPUTS = (*ZONE_OUTPUTS, "ask", "reply", "silent")
-
-
-def take(words, wanted):
-    """Takes a word, or words, from the front of a list, if they stand there."""
-    wanted = wanted.split()
-    if words[:len(wanted)] != wanted:
-        return False
-    del words[:len(wanted)]
-    return True
-
-
-def take_number(words, wanted, most):
-    return number_of(words.pop(0), most) if take(words, wanted) else None
-
-
-def octets_of(text):
-    if text == "-":
-        return b""
-    try:
-        return bytes.fromhex(text)
-    except ValueError:
-        raise Refused(f"no hexadecimal digits: {text}") from None
-
-
-def digits_of(octets):
-    return octets.hex() or "-"
-
-
-# ---- what of a message differs from the one that is expected there
-
-def take_question(words):
-    name, qtype = name_of(words.pop(0)), type_of(words.pop(0))
-    qclass = class_of(words.pop(0)) if words and is_class(words[0]) else 1
-    return Question(name, qtype, qclass)
-
-
-def text_of_question(question):
-    text = f"{text_of_name(question.name)} {text_of_type(question.qtype)}"
-    return text if question.qclass == 1 else f"{text} {text_of_class(question.qclass)}"
-
-
-def read_words(words, usual):
-    """A message like the usual one but for what the words say, and whether its names are compressed."""
-    message = replace(usual, answer=[], authority=[], additional=[])
-    flags, compressed, opt = [], False, None
-    while words:
-        if take(words, "id"):
-            message.id = number_of(words.pop(0), 65535)
-        elif take(words, "opcode"):
-            message.opcode = number_of(words.pop(0), 15)
-        elif take(words, "no question") or take(words, "header alone"):
-            message.questions = []
-        elif take(words, "question"):
-            message.questions = [take_question(words)]
-        elif take(words, "edns"):
-            opt = opt_of_words(words)
-        elif take(words, "compressed"):
-            compressed = True
-        elif words[0] in FLAGS:
-            flags.append(words.pop(0))
-        elif not take(words, "flags"):
-            raise Refused(f"not understood: {' '.join(words)}")
-    if flags:
-        message.flags = tuple(flag for flag in FLAGS if flag in flags)
-    return message, compressed, opt
-
-
-def read_sections(message, block, opt, origin=None, ttl=None):
-    sections = dict(message.sections())
-    for line in block:
-        section, _, text = line.partition(" ")
-        if section not in sections:
-            raise Refused(f"no section: {line}")
-        sections[section].append(record_of(text.strip(), origin, ttl))
-    if opt is not None:
-        message.additional.append(opt)
-    return message
-
-
-def words_of(message, usual):
-    """What `read_words` reads; nothing where the message is the usual one."""
-    words = []
-    if message.id != usual.id:
-        words.append(f"id {message.id}")
-    if message.opcode != usual.opcode:
-        words.append(f"opcode {message.opcode}")
-    if message.questions != usual.questions:
-        if len(message.questions) > 1:
-            raise Refused("two questions")
-        words += [f"question {text_of_question(one)}" for one in message.questions] or ["no question"]
-    if message.flags != usual.flags:
-        words.append("flags " + " ".join(message.flags))
-    return words
-
-
-def block_of(message):
-    """The sections as lines, and the OPT record at their end as words."""
-    opt = None
-    if message.additional and is_opt(message.additional[-1]):
-        opt = text_of_opt(message.additional[-1])
-        message = replace(message, additional=message.additional[:-1])
-    return [f"    {section:<11} {text_of_record(record)}" for section, records in message.sections() for record in records], opt
-
-
-def shown(message, usual):
-    """Words and lines of a message."""
-    block, opt = block_of(message)
-    return words_of(message, usual) + ([opt] if opt else []), block
 
 
 # ---- what a worker waits with
@@ -157,14 +48,6 @@ class Worker:
 
 def question_octets(number, question):
     return encode(Message(number, ("rd",), 0, 0, [question]))
-
-
-def usual_transfer(zone):
-    return Message(0, ("qr", "aa"), 0, 0, [Question(zone, TYPES["AXFR"])])
-
-
-def soa_line(serial):
-    return f"@ SOA serial {serial}"
 
 
 class Reader:
@@ -201,43 +84,12 @@ class Reader:
             return [f"full {self.zone(words[0])[0]}\n".encode()]
         if kind == "transfer":
             self.offered, name = self.zone(words.pop(0))
-            return [f"xfer {self.offered} {digits_of(one)}\n".encode() for one in self.streams(words, name, block)]
+            return [f"xfer {self.offered} {digits_of(one)}\n".encode() for one in streams_of(words, name, block, self.captures)]
         if kind == "query":
             return [self.query(worker, words, block)]
         if kind == "upstream":
             return [self.answer(worker, words, block)]
         raise Refused(f"no step: {text}")
-
-    def streams(self, words, zone, block):
-        """The bytes of a transfer, or of several where it is cut after every byte."""
-        serial, count, cuts, compressed, stream = None, 1, None, False, None
-        while words:
-            if take(words, "serial"):
-                serial = number_of(words.pop(0), 2 ** 32 - 1)
-            elif take(words, "in"):
-                count = number_of(words.pop(0), 65535)
-                words.pop(0)
-            elif take(words, "compressed"):
-                compressed = True
-            elif take(words, "empty"):
-                stream = b""
-            elif take(words, "bytes"):
-                stream = octets_of(words.pop(0))
-            elif take(words, "as captured"):
-                stream = self.captures[words.pop(0)]
-            elif take(words, "cut"):
-                cuts = list(words)
-                words.clear()
-            else:
-                raise Refused(f"not understood: {' '.join(words)}")
-        if stream is None and serial is not None:
-            records = [soa_line(serial), *block, soa_line(serial)]
-            size = -(-len(records) // count)
-            parts = [("", records[at:at + size]) for at in range(0, len(records), size)]
-            stream = stream_of(parts, zone, compressed)
-        elif stream is None:
-            stream = stream_of(messages_of(block), zone, compressed)
-        return cut(stream, cuts) if cuts else [stream]
 
     def query(self, worker, words, block):
         if take(words, "bytes"):
@@ -323,40 +175,6 @@ def repeated(text):
     return re.sub(r"\{([^{}]*)\}\*(\d+)", lambda match: match[1] * int(match[2]), text)
 
 
-def messages_of(block):
-    parts = []
-    for line in block:
-        if line == "message" or line.startswith("message "):
-            parts.append((line[7:], []))
-        elif not parts:
-            raise Refused(f"a serial, or `message` before the records: {line}")
-        else:
-            parts[-1][1].append(line)
-    return parts
-
-
-def stream_of(parts, zone, compressed):
-    stream = b""
-    for text, lines in parts:
-        words = text.replace(",", " ").split()
-        rcode = rcode_of(words.pop(0)) if words and re.fullmatch(r"[A-Z]{5}[A-Z]*|RCODE\d+", words[0]) else 0
-        message, more, opt = read_words(words, replace(usual_transfer(zone), rcode=rcode))
-        message.answer = [record_of(line, zone, TTL) for line in lines]
-        stream += framed(encode(read_sections(message, [], opt), compressed or more))
-    return stream
-
-
-def cut(stream, words):
-    """`10 bytes before its end`, `to 10 bytes`, or `after every byte`."""
-    if words == ["after", "every", "byte"]:
-        return [stream[:count] for count in range(1, len(stream))]
-    if words[1:] == ["bytes", "before", "its", "end"]:
-        return [stream[:len(stream) - number_of(words[0], len(stream))]]
-    if words[:1] == ["to"] and words[2:] == ["bytes"]:
-        return [stream[:number_of(words[1], len(stream))]]
-    raise Refused(f"not understood: cut {' '.join(words)}")
-
-
 class Shower:
     """Turns lines of scripts and of transcripts into text. It says nothing in words that a `Reader` doesn't turn back into
     the same bytes; all else it gives as it stands."""
@@ -418,7 +236,9 @@ class Shower:
         if kind == "full":
             return f"full {text_of_name(self.zone(words[1]))}", []
         if kind == "xfer":
-            return self.transfer(self.zone(words[1]), octets_of(words[2]), compressed)
+            zone = self.zone(words[1])
+            text, block = text_of_stream(zone, octets_of(words[2]), compressed)
+            return f"transfer {text_of_name(zone)}{text}", block
         if kind not in ("query", "give", "fail"):
             raise Refused(f"no step: {kind}")
         text, block = self.query(words, compressed) if kind == "query" else self.answer(words, compressed)
@@ -426,26 +246,6 @@ class Shower:
 
     def zone(self, text):
         return self.reader.zones[int(text) - 1]
-
-    def transfer(self, zone, stream, compressed):
-        head = f"transfer {text_of_name(zone)}"
-        mark = ", compressed" if compressed else ""
-        if not stream:
-            return f"{head} empty", []
-        parts = parts_of(zone, stream)
-        if parts is None or stream_of(parts, zone, compressed) != stream:
-            return self.stream_bytes(head, stream, parts if compressed else None, compressed)
-        (text, records), *others = parts
-        first, last = records[:1], records[-1:]
-        if not others and not text and len(records) > 1 and first == last and first[0].startswith("@ SOA serial "):
-            return f"{head} serial {first[0].split()[-1]}{mark}", [f"    {row}" for row in records[1:-1]]
-        return head + mark, lines_of(parts)
-
-    def stream_bytes(self, head, stream, parts, last):
-        """The bytes, once no other way is left, with what they say as a comment."""
-        if not last:
-            raise Refused("not in words")
-        return f"{head} bytes {stream.hex()}", [f"    ; {line.strip()}" for line in lines_of(parts or [])]
 
     def query(self, words, compressed):
         octets = octets_of(words[4])
@@ -510,24 +310,3 @@ class Shower:
 def split_worker(text):
     worker = re.match(r"worker (\d+): ", text)
     return (int(worker[1]), text[worker.end():]) if worker else (0, text)
-
-
-def parts_of(zone, stream):
-    """The messages of a stream, each as words and records in text; None where the stream isn't whole messages."""
-    whole, rest = frames(stream)
-    if rest:
-        return None
-    parts = []
-    for octets in whole:
-        try:
-            message = decode(octets)
-            words = words_of(message, usual_transfer(zone))
-        except Refused:
-            return None
-        rcode = [text_of_rcode(message.rcode)] if message.rcode else []
-        parts.append((", ".join(rcode + words), [text_of_record(record, zone, TTL) for record in message.answer]))
-    return parts
-
-
-def lines_of(parts):
-    return [line for text, records in parts for line in (f"    message {text}".rstrip(), *(f"        {one}" for one in records))]

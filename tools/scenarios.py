@@ -44,7 +44,7 @@ class Scenario:
     name: str
     words: list = field(default_factory=lambda: ["replay"])
     pieces: list = field(default_factory=lambda: [0])
-    steps: list = field(default_factory=list)
+    rounds: list = field(default_factory=list)  # lists of steps that are done together for each number of their ranges
 
 
 @dataclass
@@ -104,20 +104,26 @@ def read_line(scenario, place, text):
         scenario.pieces = [int(number) for number in re.findall(r"\d+", text)]
         return None
     if text.startswith("=> "):
-        if not scenario.steps:
-            scenario.steps.append(Step(place, 0, ""))
+        if not scenario.rounds:
+            scenario.rounds.append([Step(place, 0, "")])
         block = []
-        scenario.steps[-1].expected.append((text[3:], block))
+        scenario.rounds[-1][-1].expected.append((text[3:], block))
         return block
-    step = Step(place, *split_worker(text))
-    scenario.steps.append(step)
+    step = Step(place, *split_worker(text.removeprefix("and ")))
+    if text.startswith("and ") and scenario.rounds:
+        scenario.rounds[-1].append(step)
+    else:
+        scenario.rounds.append([step])
     return step.block
 
 
-def turns_of(step):
-    """The text of a step and the texts that are expected of it, once for each number of the ranges in these."""
-    texts = [step.text, *(text for text, _ in step.expected)]
-    return [texts] if step.text.startswith("line") else [one.split("\n") for one in each_of("\n".join(texts))]
+def turns_of(steps):
+    """The steps once for each number of the ranges in them: each with its text and the texts that are expected of it."""
+    texts = [text for step in steps for text in (step.text, *(text for text, _ in step.expected))]
+    turns = [texts] if texts[0].startswith("line") else [one.split("\n") for one in each_of("\n".join(texts))]
+    for turn in map(iter, turns):
+        for step in steps:
+            yield step, next(turn), [next(turn) for _ in step.expected]
 
 
 def rows_of(block):
@@ -126,20 +132,21 @@ def rows_of(block):
 
 def cases_of(scenario, captures):
     reader, script, transcript, status = Reader(captures), b"", "", "0"
-    for step in scenario.steps:
+    for steps in scenario.rounds:
+        step = steps[0]
         try:
-            block, blocks = rows_of(step.block), [rows_of(block) for _, block in step.expected]
-            steps = ((outputs, reader.step(step.worker, text, block) if text else [b""]) for text, *outputs in turns_of(step))
-            for outputs, line in ((outputs, line) for outputs, lines in steps for line in lines):
-                script += line
-                for text, rows in zip(outputs, blocks):
-                    refused = re.fullmatch(r"line (\d+) is refused: (\w+)", text)
-                    if refused:
-                        status = f"3 rpz: line {refused[1]}: {refused[2]}"
-                    elif text in STATUSES:
-                        status = STATUSES[text]
-                    else:
-                        transcript += reader.output(step.worker, text, rows)
+            for step, text, outputs in turns_of(steps):
+                block, wanted = rows_of(step.block), [rows_of(block) for _, block in step.expected]
+                for line in reader.step(step.worker, text, block) if text else [b""]:
+                    script += line
+                    for output, rows in zip(outputs, wanted):
+                        refused = re.fullmatch(r"line (\d+) is refused: (\w+)", output)
+                        if refused:
+                            status = f"3 rpz: line {refused[1]}: {refused[2]}"
+                        elif output in STATUSES:
+                            status = STATUSES[output]
+                        else:
+                            transcript += reader.output(step.worker, output, rows)
         except (Refused, ValueError, IndexError, KeyError) as error:
             raise Refused(f"{step.place}: {error!r}") from None
     for piece in scenario.pieces:
