@@ -34,6 +34,6 @@ with_zone_after policy entry (Some zone) = slice_set policy (entry.zone - 1) (zo
 abbrev pub policy_with : PlainPolicy → Entry → PlainPolicy
 policy_with policy entry = with_zone_after policy entry (zone_at policy entry.zone)
 
--- the policy after a list of accepted transfers, each whole or in steps, from zones of these origins with nothing loaded
+-- the policy after a list of accepted transfers, each taken as a whole, from zones of these origins with nothing loaded
 unfoldable pub policy_after : List (List (List ℕ)) → List Entry → PlainPolicy
 policy_after origins entries = fold policy_with (map unloaded origins) entries

@@ -15,7 +15,7 @@ use std::sync::Arc;
 use zone_index::Zone;
 use zone_rows::{ApplyError, Transfer};
 
-/// The ordered zones of a policy as they are after a list of accepted transfers, each whole or in steps. Nothing changes it: a
+/// The ordered zones of a policy as they are after a list of accepted transfers, each taken as a whole. Nothing changes it: a
 /// transfer makes a new snapshot, which shares the zones that the transfer doesn't change. Contracts see the zones as plain
 /// ones, and how many transfers were accepted, up to 2^64 - 1.
 #[derive(Drop)]

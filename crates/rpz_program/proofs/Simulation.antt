@@ -15,6 +15,7 @@ use Rattle.rpz_core.specs.declared.event.Event.{Event}
 use Rattle.rpz_core.specs.declared.event.Event.TheVariants as event
 use Rattle.rpz_core.specs.declared.event.Output.{Output}
 use Rattle.rpz_core.specs.Sessions.{no_sessions}
+use Rattle.rpz_core.specs.Marks.{no_marks}
 use Rattle.rpz_core.specs.State.{CoreState, core_step, state_of, seen}
 use Rattle.rpz_core.specs.World.{World, world_step}
 use Rattle.rpz_core.proofs.Seen as core
@@ -32,13 +33,13 @@ state_seen : (w : ScriptWorld) → stage.state_in (stage_of w) ≡ script.state_
 state_seen (opening origins) = refl
 state_seen (running world) = ap (λ (n : ℕ). state.running n (map is_some world.sessions.workers)) (policy_length world.origins world.accepted)
 
-new_state : PlainPolicy → CoreState
-new_state zones = record { policy = record { zones = zones; accepted = 0 }; sessions = no_sessions }
+new_state : List (List (List ℕ)) → PlainPolicy → CoreState
+new_state origins zones = record { policy = record { zones = zones; accepted = 0 }; marks = no_marks origins; sessions = no_sessions }
 
 -- the core begins, or runs, in the state of the world
 core_seen : (w : ScriptWorld) → core_in (stage_of w) ≡ state_of (world_in w)
 unfolding new_state
-core_seen (opening origins) = sym (ap new_state (policy_after-none origins))
+core_seen (opening origins) = sym (ap (new_state origins) (policy_after-none origins))
 core_seen (running world) = refl
 
 output_seen : (r : Result (World × Output) CoreFault) → outcome_along Running (shown_outcome (seen r)) ≡ outcome_along stage_of (outcome_along running (shown_outcome r))
