@@ -54,8 +54,8 @@ impl TransferReader {
         TransferReader::start_within(alloc, id, origin, wanted, MOST)
     }
 
-    // The same with another bound on the messages and answer records.
-    pub(crate) fn start_within(
+    /// The same where the message or answer record of this number, counted together from 1, is one too many.
+    pub fn start_within(
         alloc: Global,
         id: u16,
         origin: &Name,

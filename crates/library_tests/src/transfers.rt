@@ -1,9 +1,9 @@
-//! Transfers of a whole zone out of a source that fails, and what is left in one.
+//! Transfers out of a source that fails, what is left in one, and the bound on the records of a transfer.
 
 use crate::row_samples::zone_name;
 use axfr_apply::{TransferError, TransferFault, Wanted};
 use edge_io::{Bytes, ListSource, read_frame};
-use ixfr_apply::read_transfer;
+use ixfr_apply::{TransferReader, read_transfer};
 use std::alloc::Global;
 use std::test::Fail;
 
@@ -57,5 +57,28 @@ fn what_follows_is_left(rt: HostRuntime) -> Result<(), Fail> {
         next.as_ref().map(|bytes| bytes.as_slice()),
         Some(b"ab".as_slice())
     );
+    Ok(())
+}
+
+// What a reader gives that takes fewer items than this. The stream has one message with three records.
+fn read_fewer(alloc: Global, most: u32) -> Result<Option<TransferError>, Fail> {
+    let origin = zone_name(alloc)?;
+    let wanted = Wanted::Whole { have: None };
+    let mut reader = TransferReader::start_within(alloc, 0, &origin, wanted, most)?;
+    Ok(reader.feed(&STREAM[2..]).err())
+}
+
+// A message and its records count together, and the item of the number of the bound is one too many.
+#[test]
+fn too_many_records_are_refused(rt: HostRuntime) -> Result<(), Fail> {
+    for most in [0, 1, 4] {
+        let fault = TransferError::Fault(TransferFault::TooManyRecords { at: most });
+        assert_eq!(rt;
+            read_fewer(rt.alloc(), most)?,
+            Some(fault),
+            "the bound {most}"
+        );
+    }
+    assert_eq!(rt; read_fewer(rt.alloc(), 5)?, None);
     Ok(())
 }
