@@ -6,3 +6,4 @@ pub mod Grammar
 pub mod Faults
 pub mod Request
 pub mod Limit
+pub mod Aged

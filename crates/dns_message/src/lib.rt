@@ -24,4 +24,6 @@ pub use question::Question;
 pub use reading::read_message;
 pub use request::{Incoming, Query};
 pub use triage::{classify, speaks};
-pub use writing::{finish_message, write_message, write_parts, write_records, write_start};
+pub use writing::{
+    finish_message, write_aged_records, write_message, write_parts, write_records, write_start,
+};

@@ -1,7 +1,9 @@
 //! Writes a message, its names in full.
 
-ghost use Rattle.std.specs.Prelude.{◌≡◌, ◌≤◌, ◌++◌, length, take, option_copied, IfOk, IfSome, OnOk, OnErr};
+ghost use Rattle.std.specs.Prelude.{◌≡◌, ◌≤◌, ◌++◌, length, map, take, option_copied, IfOk, IfSome, OnOk, OnErr};
 ghost use Rattle.dns_record.specs.Number.{number_octets};
+ghost use Rattle.dns_record.specs.Record.{record_octets};
+ghost use Rattle.dns_message.specs.Aged.{aged};
 ghost use Rattle.dns_message.specs.Limit.{octets_within, spelling_within};
 ghost use Rattle.dns_message.specs.Spelling.{first_flags as flags_first, second_flags as flags_second, question_octets, records_octets, opt_octets, header_octets, start_octets, parts_octets, IsQuestion};
 
@@ -12,7 +14,7 @@ use crate::message::Message;
 use crate::question::Question;
 use dns_name::Octets;
 use dns_record::number::push_u16;
-use dns_record::{Record, rtype};
+use dns_record::{Record, rtype, write_record};
 use std::alloc::{AllocError, Global};
 
 /// The bytes of the message, its names in full and the bits Z 0, or, exactly where these are more than the
@@ -221,6 +223,31 @@ pub fn write_records(out: &mut Octets, records: &[Record]) -> Result<(), AllocEr
         rr.write(out)?;
     }
     Ok(())
+}
+
+/// Writes records that came so many seconds ago, one after another at the end, their names in full. The seconds are taken from
+/// each TTL, which is 0 at the least. An `Err` leaves what was written before, and maybe some of the records behind it.
+pub fn write_aged_records(
+    out: &mut Octets,
+    records: &[Record],
+    seconds: u32,
+) -> Result<(), AllocError>
+    ensures ok { OnOk result (out.new ≡ out.old ++ records_octets (map (aged seconds) records.now)) }
+    ensures begins { take (length out.old) out.new ≡ out.old }
+{
+    for rr in records {
+        write_aged(out, rr, seconds)?;
+    }
+    Ok(())
+}
+
+// Writes a record that came so many seconds ago.
+fn write_aged(out: &mut Octets, rr: &Record, seconds: u32) -> Result<(), AllocError>
+    ensures ok { OnOk result (out.new ≡ out.old ++ record_octets (aged seconds rr.now)) }
+    ensures begins { take (length out.old) out.new ≡ out.old }
+{
+    let ttl = rr.ttl().saturating_sub(seconds);
+    write_record(out, rr.owner(), rr.rtype(), rr.class(), ttl, rr.rdata())
 }
 
 // Writes the OPT record, where there is one: no flags and no options.
