@@ -28,9 +28,10 @@ answers_to id question m = m.header.id == id && (m.header.qr && (m.header.opcode
 abbrev pub is_soa : PlainRecord → Bool
 is_soa r = r.rtype == 6 && r.class == 1
 
--- of the answers those of class IN, and of the authority section the first SOA record of class IN (RFC 2308, section 2)
+-- of the answers those of class IN, and of the authority section the first SOA record of class IN (RFC 2308, section 2); no
+-- time has passed
 abbrev pub answer_in : Message → PlainAnswer
-answer_in m = record { rcode = m.header.rcode; answers = filter (λ r. r.class == 1) m.answer; soa = find is_soa m.authority }
+answer_in m = record { rcode = m.header.rcode; answers = filter (λ r. r.class == 1) m.answer; soa = find is_soa m.authority; age = 0 }
 
 -- the rcode says that there is an answer, or that the name doesn't exist
 abbrev pub is_answer_rcode : ℕ → Bool

@@ -1,12 +1,27 @@
 -- What is kept of an answer.
-use Rattle.std.specs.Prelude.{◌≡◌, ℕ, ◌==◌, ◌⊎◌, true, List, Option, IfSome}
+use Rattle.std.specs.Prelude.{◌≡◌, ℕ, ◌==◌, ◌⊎◌, true, List, map, Option, IfSome}
 use Rattle.std.specs.List.{list_all}
+use Rattle.std.specs.Option.{option_map}
 use Rattle.dns_record.specs.Record.{PlainRecord}
+use Rattle.dns_message.specs.Aged.{aged}
 
+-- The records are as they came, and the age is how many seconds have passed since.
 pub record PlainAnswer : Type 0 where
   pub rcode : ℕ
   pub answers : List PlainRecord
   pub soa : Option PlainRecord
+  pub age : ℕ
+
+-- the same answer at another age
+abbrev pub at_age : ℕ → PlainAnswer → PlainAnswer
+at_age seconds answer = record { rcode = answer.rcode; answers = answer.answers; soa = answer.soa; age = seconds }
+
+-- the records as they are by now: with what is left of their TTLs
+abbrev pub aged_answers : PlainAnswer → List PlainRecord
+aged_answers answer = map (aged answer.age) answer.answers
+
+abbrev pub aged_soa : PlainAnswer → Option PlainRecord
+aged_soa answer = option_map (aged answer.age) answer.soa
 
 -- It says something or that the name doesn't exist, its records are of class IN, and its SOA is a SOA record.
 pub record IsAnswer (answer : PlainAnswer) : Type 0 where

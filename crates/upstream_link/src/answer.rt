@@ -1,19 +1,30 @@
 //! What is kept of an answer.
 
-ghost use Rattle.std.specs.Prelude.{◌≡◌, option_copied, true};
+ghost use Rattle.std.specs.Prelude.{◌≡◌, option_copied, true, IfOk};
 ghost use Rattle.std.specs.List.{find};
 ghost use Rattle.upstream_link.specs.Fact.{answer_in, is_soa as soa_in_class, is_answer_rcode};
+ghost use Rattle.upstream_link.specs.Kept.{at_age};
 
 use dns_message::Message;
 use dns_record::{Record, Records, class, rtype};
+use std::alloc::{AllocError, Global};
 use std::marker::Model;
+use std::sync::Arc;
 
-/// An answer of the server: the rcode is 0 or 3, the records are of class IN, and the SOA is a SOA record.
+// The records of an answer as they came.
 #[derive(Debug, Drop)]
-pub struct Answer {
+struct Kept {
     rcode: u8,
     answers: Records,
     soa: Option<Record>,
+}
+
+/// An answer of the server, and how many seconds have passed since it came: the rcode is 0 or 3, the records are of class IN,
+/// and the SOA is a SOA record. The records may be shared with other answers, of any age.
+#[derive(Debug, Drop)]
+pub struct Answer {
+    kept: Arc<Kept, Global>,
+    age: u32,
 }
 
 impl Model for Answer {
@@ -21,46 +32,67 @@ impl Model for Answer {
 
     ghost Value = { PlainAnswer };
 
-    ghost view = { λ a. record { rcode = a.rcode; answers = a.answers; soa = a.soa } };
+    ghost view = { λ a. record { rcode = a.kept.value.rcode; answers = a.kept.value.answers; soa = a.kept.value.soa; age = a.age } };
 
-    ghost invariant = { λ a. IsAnswer (record { rcode = a.rcode; answers = a.answers; soa = a.soa }) };
+    ghost invariant = { λ a. IsAnswer (record { rcode = a.kept.value.rcode; answers = a.kept.value.answers; soa = a.kept.value.soa; age = a.age }) };
 }
 
 impl Answer {
-    /// What is kept of a message: its rcode, its answers of class IN, and the first SOA record of class IN in its
-    /// authority section.
-    pub(crate) fn of(message: Message) -> Self
+    /// What is kept of a message that has just come: its rcode, its answers of class IN, and the first SOA record of class IN
+    /// in its authority section.
+    pub(crate) fn of(alloc: Global, message: Message) -> Result<Self, AllocError>
         requires { is_answer_rcode message.header.rcode ≡ true }
-        ensures { result ≡ answer_in message }
+        ensures { IfOk result (λ answer. answer ≡ answer_in message) }
     {
         let mut answers = message.answer;
         answers.retain_class(class::IN);
-        Answer {
+        let kept = Kept {
             rcode: message.header.rcode,
             answers,
             soa: first_soa(message.authority),
-        }
+        };
+        Ok(Answer {
+            kept: Arc::new(alloc, kept)?,
+            age: 0,
+        })
+    }
+
+    /// The same answer when so many seconds have passed since it came. No record is copied.
+    pub fn shared(&self, age: u32) -> Result<Self, AllocError>
+        ensures { IfOk result (λ answer. answer ≡ at_age age self.now) }
+    {
+        Ok(Answer {
+            kept: Arc::try_clone(&self.kept)?,
+            age,
+        })
+    }
+
+    /// How many seconds have passed since the answer came.
+    pub fn age(&self) -> u32
+        ensures { result ≡ self.now.age }
+    {
+        self.age
     }
 
     /// 0, or 3 where the name doesn't exist.
     pub fn rcode(&self) -> u8
         ensures { result ≡ self.now.rcode }
     {
-        self.rcode
+        self.kept.rcode
     }
 
-    /// The answers, all of class IN.
+    /// The answers as they came, all of class IN.
     pub fn answers(&self) -> &[Record]
         ensures { result.now ≡ self.now.answers }
     {
-        self.answers.as_slice()
+        self.kept.answers.as_slice()
     }
 
-    /// The SOA record of the authority section, of class IN.
+    /// The SOA record of the authority section as it came, of class IN.
     pub fn soa(&self) -> Option<&Record>
         ensures { option_copied result ≡ self.now.soa }
     {
-        self.soa.as_ref()
+        self.kept.soa.as_ref()
     }
 }
 

@@ -59,14 +59,14 @@ fn answers_to(id: u16, question: &Question, message: &Message) -> bool
 }
 
 // What a response says.
-fn fact_of_message(message: Message) -> Fact
-    ensures { result ≡ fact_in message }
+fn fact_of_message(alloc: Global, message: Message) -> Result<Fact, AllocError>
+    ensures { IfOk result (λ fact. fact ≡ fact_in message) }
 {
     let rcode = message.header.rcode;
     if rcode == 0 || rcode == 3 {
-        Fact::Answer(Answer::of(message))
+        Ok(Fact::Answer(Answer::of(alloc, message)?))
     } else {
-        Fact::Broken(Why::Rcode(rcode))
+        Ok(Fact::Broken(Why::Rcode(rcode)))
     }
 }
 
@@ -83,7 +83,7 @@ pub fn fact_of(
     match read_message(alloc, bytes.as_slice()) {
         Ok(message) => {
             if answers_to(id, question, &message) {
-                Ok(fact_of_message(message))
+                fact_of_message(alloc, message)
             } else {
                 Ok(Fact::Broken(Why::Unusable(bytes)))
             }
