@@ -6,7 +6,7 @@ use Rattle.std.proofs.lemmas.Bool.{eqb-true}
 use Rattle.dns_record.specs.Record.{PlainRecord}
 use Rattle.dns_message.specs.declared.message.Message.{Message}
 use Rattle.upstream_link.specs.Fact.{answer_in, is_soa, is_answer_rcode}
-use Rattle.upstream_link.specs.Kept.{IsAnswer}
+use Rattle.upstream_link.specs.Kept.{IsAnswer, IsSoa}
 
 either : (a b : Bool) → (a || b) ≡ true → (a ≡ true) ⊎ (b ≡ true)
 either true b e = inl refl
@@ -23,9 +23,6 @@ kept_by p r rs false e h = h
 kept_all : (p : PlainRecord → Bool) (rs : List PlainRecord) → list_all p (filter p rs) ≡ true
 kept_all p [] = refl
 kept_all p (r ∷ rs) = kept_by p r rs (p r) refl (kept_all p rs)
-
-abbrev IsSoa : PlainRecord → Type 0
-IsSoa r = (r.rtype ≡ 6) × (r.class ≡ 1)
 
 found_by : (r : PlainRecord) (rs : List PlainRecord) (b : Bool) → is_soa r ≡ b → IfSome (find is_soa rs) IsSoa → IfSome (cond b (Some r) (find is_soa rs)) IsSoa
 found_by r rs true e h = let q = both (r.rtype == 6) (r.class == 1) e in (eqb-true r.rtype 6 q.0, eqb-true r.class 1 q.1)

@@ -12,9 +12,12 @@ pub record PlainAnswer : Type 0 where
   pub soa : Option PlainRecord
   pub age : ℕ
 
+abbrev pub plain_answer : ℕ → List PlainRecord → Option PlainRecord → ℕ → PlainAnswer
+plain_answer rcode answers soa age = record { rcode = rcode; answers = answers; soa = soa; age = age }
+
 -- the same answer at another age
 abbrev pub at_age : ℕ → PlainAnswer → PlainAnswer
-at_age seconds answer = record { rcode = answer.rcode; answers = answer.answers; soa = answer.soa; age = seconds }
+at_age seconds answer = plain_answer answer.rcode answer.answers answer.soa seconds
 
 -- the records as they are by now: with what is left of their TTLs
 abbrev pub aged_answers : PlainAnswer → List PlainRecord
@@ -23,8 +26,12 @@ aged_answers answer = map (aged answer.age) answer.answers
 abbrev pub aged_soa : PlainAnswer → Option PlainRecord
 aged_soa answer = option_map (aged answer.age) answer.soa
 
+-- a SOA record of class IN
+abbrev pub IsSoa : PlainRecord → Type 0
+IsSoa r = (r.rtype ≡ 6) × (r.class ≡ 1)
+
 -- It says something or that the name doesn't exist, its records are of class IN, and its SOA is a SOA record.
 pub record IsAnswer (answer : PlainAnswer) : Type 0 where
   pub is_answer_rcode : (answer.rcode ≡ 0) ⊎ (answer.rcode ≡ 3)
   pub in_class : list_all (λ (r : PlainRecord). r.class == 1) answer.answers ≡ true
-  pub is_soa : IfSome answer.soa (λ r. (r.rtype ≡ 6) × (r.class ≡ 1))
+  pub is_soa : IfSome answer.soa IsSoa

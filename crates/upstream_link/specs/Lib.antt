@@ -1,6 +1,8 @@
 pub mod Question
 pub mod Kept
+pub mod AnswerLife
 pub mod Fact
+pub mod Life
 pub mod Facts
 pub mod Chain
 pub mod Servers

@@ -3,8 +3,10 @@
 ghost use Rattle.std.specs.Prelude.{◌≡◌, option_copied, true, IfOk};
 ghost use Rattle.std.specs.List.{find};
 ghost use Rattle.upstream_link.specs.Fact.{answer_in, is_soa as soa_in_class, is_answer_rcode};
-ghost use Rattle.upstream_link.specs.Kept.{at_age};
+ghost use Rattle.upstream_link.specs.AnswerLife.{life_in};
+ghost use Rattle.upstream_link.specs.Kept.{IsAnswer, at_age, plain_answer};
 
+use crate::life::life_by;
 use dns_message::Message;
 use dns_record::{Record, Records, class, rtype};
 use std::alloc::{AllocError, Global};
@@ -17,6 +19,8 @@ struct Kept {
     rcode: u8,
     answers: Records,
     soa: Option<Record>,
+    // For how many seconds they may be kept.
+    life: u32,
 }
 
 /// An answer of the server, and how many seconds have passed since it came: the rcode is 0 or 3, the records are of class IN,
@@ -28,13 +32,15 @@ pub struct Answer {
 }
 
 impl Model for Answer {
-    ghost use Rattle.upstream_link.specs.Kept.{PlainAnswer, IsAnswer};
+    ghost use Rattle.upstream_link.specs.AnswerLife.{HasLife};
+    ghost use Rattle.upstream_link.specs.Kept.{PlainAnswer, plain_answer};
 
     ghost Value = { PlainAnswer };
 
-    ghost view = { λ a. record { rcode = a.kept.value.rcode; answers = a.kept.value.answers; soa = a.kept.value.soa; age = a.age } };
+    ghost view = { λ a. plain_answer a.kept.value.rcode a.kept.value.answers a.kept.value.soa a.age };
 
-    ghost invariant = { λ a. IsAnswer (record { rcode = a.kept.value.rcode; answers = a.kept.value.answers; soa = a.kept.value.soa; age = a.age }) };
+    ghost invariant = { λ a.
+        HasLife (plain_answer a.kept.value.rcode a.kept.value.answers a.kept.value.soa a.age) a.kept.value.life };
 }
 
 impl Answer {
@@ -46,10 +52,26 @@ impl Answer {
     {
         let mut answers = message.answer;
         answers.retain_class(class::IN);
+        let soa = first_soa(message.authority);
+        Answer::new(alloc, message.header.rcode, answers, soa)
+    }
+
+    // An answer of these parts that has just come.
+    fn new(
+        alloc: Global,
+        rcode: u8,
+        answers: Records,
+        soa: Option<Record>,
+    ) -> Result<Self, AllocError>
+        requires { IsAnswer (plain_answer rcode answers soa 0) }
+        ensures { IfOk result (λ answer. answer ≡ plain_answer rcode answers soa 0) }
+    {
+        let life = life_by(alloc, rcode, answers.as_slice(), soa.as_ref())?;
         let kept = Kept {
-            rcode: message.header.rcode,
+            rcode,
             answers,
-            soa: first_soa(message.authority),
+            soa,
+            life,
         };
         Ok(Answer {
             kept: Arc::new(alloc, kept)?,
@@ -72,6 +94,13 @@ impl Answer {
         ensures { result ≡ self.now.age }
     {
         self.age
+    }
+
+    /// For how many seconds since it came the answer may be kept, at most [`LIFE_LIMIT`](crate::LIFE_LIMIT).
+    pub(crate) fn life(&self) -> u32
+        ensures { result ≡ life_in self.now }
+    {
+        self.kept.life
     }
 
     /// 0, or 3 where the name doesn't exist.

@@ -3,6 +3,7 @@
 ghost use Rattle.std.specs.Prelude.{◌≡◌, option_copied, IfOk};
 ghost use Rattle.upstream_link.specs.Fact as form;
 ghost use Rattle.upstream_link.specs.Fact.{fact_from, fact_in};
+ghost use Rattle.upstream_link.specs.Life.{life_of};
 
 use crate::answer::Answer;
 use dns_message::{Message, MessageError, Question, read_message};
@@ -15,6 +16,19 @@ pub enum Fact {
     Answer(Answer),
     /// There is no answer.
     Broken(Why),
+}
+
+impl Fact {
+    /// For how many seconds since it came the fact may be kept, at most [`LIFE_LIMIT`](crate::LIFE_LIMIT) (RFC 2308, section
+    /// 5); 0 where it isn't kept.
+    pub fn life(&self) -> u32
+        ensures { result ≡ life_of self.now }
+    {
+        match self {
+            Fact::Answer(answer) => answer.life(),
+            Fact::Broken(_) => 0,
+        }
+    }
 }
 
 /// Why there is no answer.
