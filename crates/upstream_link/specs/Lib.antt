@@ -8,3 +8,5 @@ pub mod Chain
 pub mod Servers
 pub mod Known
 pub mod Entries
+pub mod Vouched
+pub mod Asking

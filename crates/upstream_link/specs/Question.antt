@@ -4,6 +4,7 @@ use Rattle.dns_name.specs.Labels.{lowered}
 use Rattle.dns_message.specs.declared.message.Message.{Message}
 use Rattle.dns_message.specs.declared.question.Question.{Question}
 use Rattle.dns_message.specs.declared.request.Query.{Query}
+use Rattle.dns_message.specs.Spelling.{spelling}
 
 -- a question of class IN
 abbrev pub question_of : List (List ℕ) → ℕ → Question
@@ -23,3 +24,7 @@ question_message id question = record {
   additional = [];
   edns = None;
 }
+
+-- its bytes
+abbrev pub question_bytes : ℕ → Question → List ℕ
+question_bytes id question = spelling (question_message id question)

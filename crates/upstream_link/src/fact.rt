@@ -3,7 +3,9 @@
 ghost use Rattle.std.specs.Prelude.{◌≡◌, option_copied, IfOk};
 ghost use Rattle.upstream_link.specs.Fact as form;
 ghost use Rattle.upstream_link.specs.Fact.{fact_from, fact_in};
-ghost use Rattle.upstream_link.specs.Life.{life_of};
+ghost use Rattle.upstream_link.specs.Life.{life_of, with_age};
+ghost use Rattle.upstream_link.specs.declared.fact.Fact.TheVariants as facts;
+ghost use Rattle.upstream_link.specs.declared.fact.Why.TheVariants as reasons;
 
 use crate::answer::Answer;
 use dns_message::{Message, MessageError, Question, read_message};
@@ -29,6 +31,16 @@ impl Fact {
             Fact::Broken(_) => 0,
         }
     }
+
+    /// The same fact when so many seconds have passed since it came. No record is copied; bytes that are no response are.
+    pub(crate) fn shared(&self, alloc: Global, age: u32) -> Result<Self, AllocError>
+        ensures { IfOk result (λ fact. fact ≡ with_age age self.now) }
+    {
+        match self {
+            Fact::Answer(answer) => Ok(Fact::Answer(answer.shared(age)?)),
+            Fact::Broken(why) => Ok(Fact::Broken(why.copied(alloc)?)),
+        }
+    }
 }
 
 /// Why there is no answer.
@@ -41,6 +53,19 @@ pub enum Why {
     Unusable(Octets),
     /// The response has this rcode, which is neither 0 nor 3.
     Rcode(u8),
+}
+
+impl Why {
+    // The same reason.
+    fn copied(&self, alloc: Global) -> Result<Self, AllocError>
+        ensures { IfOk result (λ why. why ≡ self.now) }
+    {
+        match self {
+            Why::Failed => Ok(Why::Failed),
+            Why::Unusable(bytes) => Ok(Why::Unusable(Octets::from_slice(alloc, bytes.as_slice())?)),
+            Why::Rcode(rcode) => Ok(Why::Rcode(*rcode)),
+        }
+    }
 }
 
 // Whether the questions are alike, without case.
@@ -85,7 +110,6 @@ fn fact_of_message(alloc: Global, message: Message) -> Result<Fact, AllocError>
 }
 
 /// What the bytes say that came for a question which was asked in a message of this ID.
-#[tactic(auto, unfolding(crate::specs::Fact::fact_from))]
 pub fn fact_of(
     alloc: Global,
     bytes: Octets,
@@ -94,15 +118,35 @@ pub fn fact_of(
 ) -> Result<Fact, AllocError>
     ensures { IfOk result (λ fact. fact ≡ fact_from bytes id question.now) }
 {
-    match read_message(alloc, bytes.as_slice()) {
+    read_fact(alloc, bytes.as_slice(), id, question)
+}
+
+/// The same. The bytes are copied where they are no response.
+#[tactic(auto, unfolding(crate::specs::Fact::fact_from))]
+pub(crate) fn read_fact(
+    alloc: Global,
+    bytes: &[u8],
+    id: u16,
+    question: &Question,
+) -> Result<Fact, AllocError>
+    ensures { IfOk result (λ fact. fact ≡ fact_from bytes.now id question.now) }
+{
+    match read_message(alloc, bytes) {
         Ok(message) => {
             if answers_to(id, question, &message) {
                 fact_of_message(alloc, message)
             } else {
-                Ok(Fact::Broken(Why::Unusable(bytes)))
+                unusable(alloc, bytes)
             }
         }
         Err(MessageError::OutOfMemory) => Err(AllocError),
-        Err(MessageError::Fault(_)) => Ok(Fact::Broken(Why::Unusable(bytes))),
+        Err(MessageError::Fault(_)) => unusable(alloc, bytes),
     }
+}
+
+// What came is no response to the question.
+fn unusable(alloc: Global, bytes: &[u8]) -> Result<Fact, AllocError>
+    ensures { IfOk result (λ fact. fact ≡ facts.Broken (reasons.Unusable bytes.now)) }
+{
+    Ok(Fact::Broken(Why::Unusable(Octets::from_slice(alloc, bytes)?)))
 }

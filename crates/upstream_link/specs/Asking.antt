@@ -1,0 +1,15 @@
+-- What came of a question to the server.
+use Rattle.std.specs.Prelude.{◌≡◌, ℕ, ⊤}
+use Rattle.dns_message.specs.declared.question.Question.{Question}
+use Rattle.upstream_link.specs.declared.exchange.Asked.{Asked}
+use Rattle.upstream_link.specs.declared.exchange.Asked.TheVariants.{Learned, Failed}
+use Rattle.upstream_link.specs.Vouched.{PlainLearned}
+
+-- the property, where something was learned
+abbrev pub IfLearned : {L : Type 0} → Asked L → (PlainLearned → Type 0) → Type 0
+IfLearned (Learned learned) P = P learned
+IfLearned Failed P = ⊤
+
+-- this question was asked at this second in a message of this ID
+abbrev pub AsksAt : ℕ → Question → ℕ → PlainLearned → Type 0
+AsksAt id question now learned = (learned.question ≡ question) × (learned.id ≡ id) × (learned.moment ≡ now)
