@@ -23,6 +23,10 @@ abbrev pub reply_edns : ℕ → Option Edns → Option Edns
 reply_edns extended None = None
 reply_edns extended (Some edns) = Some (record { payload = UDP_PAYLOAD; version = EDNS_VERSION; extended = extended })
 
+-- the header of a request with this ID for records, which desires recursion or doesn't
+abbrev pub request_header : ℕ → Bool → Header
+request_header id rd = record { id = id; qr = false; opcode = 0; aa = false; tc = false; rd = rd; ra = false; rcode = 0 }
+
 -- the header of a refusal
 abbrev pub refusal_header : ℕ → Header → Header
 refusal_header rcode h = record { id = h.id; qr = true; opcode = h.opcode; aa = false; tc = false; rd = h.rd; ra = true; rcode = rcode }

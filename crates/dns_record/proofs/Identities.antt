@@ -13,7 +13,7 @@ same_name : (read : Outcome) (x y : List (List ℕ) × ℕ) → read ≡ Ok x �
 same_name read x y e f = cc
 
 -- the name in front is told by the octets
-front_name : (a b : List (List ℕ)) (x y : List ℕ) → IsName a → IsName b → name_octets a ++ x ≡ name_octets b ++ y → (a ≡ b) × (x ≡ y)
+pub front_name : (a b : List (List ℕ)) (x y : List ℕ) → IsName a → IsName b → name_octets a ++ x ≡ name_octets b ++ y → (a ≡ b) × (x ≡ y)
 front_name a b x y ha hb e =
     let octets = name_octets a ++ x in
     let same : (a, length (name_octets a)) ≡ (b, length (name_octets b)) =
@@ -32,7 +32,7 @@ number_rest : (n : ℕ) (octets rest : List ℕ) → octets ≡ number_octets 2 
 number_rest n octets rest e = ap (drop 2) e ∙ drop_at (number_octets 2 n) rest 2 (length-number_octets 2 n)
 
 -- the number in front is told by the octets
-front_number : (n m : ℕ) (x y : List ℕ) → n < 2 ^ 16 → m < 2 ^ 16 → number_octets 2 n ++ x ≡ number_octets 2 m ++ y → (n ≡ m) × (x ≡ y)
+pub front_number : (n m : ℕ) (x y : List ℕ) → n < 2 ^ 16 → m < 2 ^ 16 → number_octets 2 n ++ x ≡ number_octets 2 m ++ y → (n ≡ m) × (x ≡ y)
 front_number n m x y ln lm e =
     let octets = number_octets 2 n ++ x in
     (sym (number_first n octets x ln refl) ∙ number_first m octets y lm e, sym (number_rest n octets x refl) ∙ number_rest m octets y e)

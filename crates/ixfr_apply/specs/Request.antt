@@ -1,6 +1,7 @@
 -- Requests for a zone.
 use Rattle.std.specs.Prelude.{ℕ, false, List, [], ◌∷◌, Some, None}
 use Rattle.dns_message.specs.declared.message.Message.{Message}
+use Rattle.dns_message.specs.Request.{request_header}
 use Rattle.dns_record.specs.declared.soa.Soa.{Soa}
 use Rattle.dns_record.specs.Record.{PlainRecord}
 use Rattle.dns_record.specs.Soa.{soa_record}
@@ -8,7 +9,7 @@ use Rattle.dns_record.specs.Soa.{soa_record}
 -- a request of this ID with a question of this type about the zone, and these records as authority
 abbrev pub request_message : ℕ → List (List ℕ) → ℕ → List PlainRecord → Message
 request_message id origin qtype authority = record {
-  header = record { id = id; qr = false; opcode = 0; aa = false; tc = false; rd = false; ra = false; rcode = 0 };
+  header = request_header id false;
   question = Some (record { name = origin; qtype = qtype; qclass = 1 });
   answer = [];
   authority = authority;

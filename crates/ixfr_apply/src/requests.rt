@@ -35,16 +35,7 @@ fn written(
 ) -> Result<Octets, AllocError>
     ensures { IfOk result (λ octets. octets ≡ spelling (request_message id origin.now qtype authority.now)) }
 {
-    let header = Header {
-        id,
-        qr: false,
-        opcode: 0,
-        aa: false,
-        tc: false,
-        rd: false,
-        ra: false,
-        rcode: 0,
-    };
+    let header = Header::request(id, false);
     let question = Question {
         name: origin.clone()?,
         qtype,
