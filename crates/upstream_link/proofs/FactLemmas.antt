@@ -1,10 +1,10 @@
 -- Facts about distinct questions, and what is known where more facts come behind.
-use Rattle.std.proofs.Common.{◌≡◌, ℕ, ◌<◌, Bool, true, false, cond, ◌&&◌, List, [], ◌∷◌, ◌++◌, length, Option, Some, None, is_some, refl, sym, ap, ◌∙◌, arith, true≢false, subst}
+use Rattle.std.proofs.Common.{◌≡◌, ℕ, zero, suc, ◌<◌, Bool, true, false, cond, ◌&&◌, List, [], ◌∷◌, ◌++◌, length, take, Option, Some, None, is_some, refl, sym, ap, ◌∙◌, arith, true≢false, subst}
 use Rattle.std.specs.List.{find, flat_map, list_all}
 use Rattle.std.specs.Option.{option_map, option_or, option_to_list}
 use Rattle.std.specs.Prelude.{IsTrue, IfSome}
 use Rattle.std.proofs.lemmas.Cmp.{lists_equiv, nat_eq_equiv, nat_list_eq_equiv}
-use Rattle.std.proofs.lemmas.List.{append-nil, length_push}
+use Rattle.std.proofs.lemmas.List.{append-nil, length-take, length_push}
 use Rattle.std.proofs.lemmas.List.Folds.{find-append}
 use Rattle.dns_name.specs.Labels.{lowered}
 use Rattle.dns_message.specs.declared.question.Question.{Question}
@@ -79,6 +79,25 @@ facts_popped facts less None a is = subst AreFacts (is ∙ append-nil less) a
 facts_popped facts less (Some e) a is =
     let b = subst AreFacts is a in
     record { distinct = (distinct_pop less e b.distinct).0; few = omega (arith, length_push less e, b.few) }
+
+-- what is left of the first ones
+none_taken : (n : ℕ) (facts : PlainFacts) (q : Question) → fact_about facts q ≡ None → fact_about (take n facts) q ≡ None
+none_taken zero facts q none = refl
+none_taken (suc n) [] q none = refl
+none_taken (suc n) (x ∷ xs) q none =
+    let apart = none_by (same_question x.0 q) x (entry_of xs q) none in
+    none_from (same_question x.0 q) x (entry_of (take n xs) q) apart.0 (none_taken n xs q apart.1)
+
+distinct_taken : (n : ℕ) (facts : PlainFacts) → AreDistinct facts → AreDistinct (take n facts)
+distinct_taken zero facts d = tt
+distinct_taken (suc n) [] d = tt
+distinct_taken (suc n) (x ∷ xs) d = (none_taken n xs x.0 d.0, distinct_taken n xs d.1)
+
+pub facts_taken : (n : ℕ) (facts : PlainFacts) → AreFacts facts → AreFacts (take n facts)
+facts_taken n facts a = record {
+  distinct = distinct_taken n facts a.distinct;
+  few = omega (arith, length-take n facts, a.few);
+}
 
 pub last_is_fresh : (facts less : PlainFacts) (last : Option Entry) → AreFacts facts → facts ≡ less ++ option_to_list last → IfSome last (λ e. fact_about less e.0 ≡ None)
 last_is_fresh facts less None a is = tt

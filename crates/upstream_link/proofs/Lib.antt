@@ -8,3 +8,4 @@ pub mod Found
 pub mod Searches
 pub mod Listed
 pub mod Near
+pub mod Came

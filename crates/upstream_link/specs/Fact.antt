@@ -1,5 +1,5 @@
 -- What the bytes that came in answer to a question say.
-use Rattle.std.specs.Prelude.{ℕ, ◌==◌, ◌&&◌, ◌||◌, Bool, false, not, if◌then◌else◌, List, filter, Option, Some, None, Result, Ok, Err}
+use Rattle.std.specs.Prelude.{ℕ, ◌==◌, ◌&&◌, ◌||◌, Bool, true, false, not, if◌then◌else◌, List, filter, Option, Some, None, Result, Ok, Err}
 use Rattle.std.specs.List.{find}
 use Rattle.dns_name.specs.Alike.{same_name}
 use Rattle.dns_record.specs.Record.{PlainRecord}
@@ -10,7 +10,7 @@ use Rattle.dns_message.specs.Reading.{message_of}
 use Rattle.upstream_link.specs.Kept.{PlainAnswer}
 use Rattle.upstream_link.specs.declared.fact.Fact.{Fact}
 use Rattle.upstream_link.specs.declared.fact.Fact.TheVariants.{Answer, Broken}
-use Rattle.upstream_link.specs.declared.fact.Why.TheVariants.{Unusable, Rcode}
+use Rattle.upstream_link.specs.declared.fact.Why.TheVariants.{Failed, Unusable, Rcode}
 
 -- questions are alike; their names compare without case (RFC 1035, section 2.3.3)
 abbrev pub same_question : Question → Question → Bool
@@ -36,6 +36,13 @@ answer_in m = record { rcode = m.header.rcode; answers = filter (λ r. r.class =
 -- the rcode says that there is an answer, or that the name doesn't exist
 abbrev pub is_answer_rcode : ℕ → Bool
 is_answer_rcode rcode = rcode == 0 || rcode == 3
+
+-- nothing came, not even what is no response
+abbrev pub is_failed : Fact → Bool
+is_failed (Broken Failed) = true
+is_failed (Broken (Unusable octets)) = false
+is_failed (Broken (Rcode rcode)) = false
+is_failed (Answer answer) = false
 
 abbrev pub fact_in : Message → Fact
 fact_in m = if is_answer_rcode m.header.rcode then Answer (answer_in m) else Broken (Rcode m.header.rcode)

@@ -35,6 +35,16 @@ records_about facts name qtype = records_of (fact_about facts (question_of name 
 abbrev pub main_records : Query → PlainFacts → List PlainRecord
 main_records query facts = records_of (fact_about facts (main_question query))
 
+-- how many seconds have passed since an answer came; 0 where there is none
+abbrev pub age_of : Option Fact → ℕ
+age_of None = 0
+age_of (Some (Broken why)) = 0
+age_of (Some (Answer answer)) = answer.age
+
+-- how many seconds have passed since the answer to a query came
+abbrev pub main_age : Query → PlainFacts → ℕ
+main_age query facts = age_of (fact_about facts (main_question query))
+
 -- the first facts, and more behind them
 abbrev pub Extends : PlainFacts → PlainFacts → Type 0
 Extends facts more = (rest : PlainFacts) × (more ≡ facts ++ rest)

@@ -1,7 +1,6 @@
 -- What is kept of an answer.
 use Rattle.std.specs.Prelude.{◌≡◌, ℕ, ◌==◌, ◌⊎◌, true, List, map, Option, IfSome}
 use Rattle.std.specs.List.{list_all}
-use Rattle.std.specs.Option.{option_map}
 use Rattle.dns_record.specs.Record.{PlainRecord}
 use Rattle.dns_message.specs.Aged.{aged}
 
@@ -19,12 +18,9 @@ plain_answer rcode answers soa age = record { rcode = rcode; answers = answers; 
 abbrev pub at_age : ℕ → PlainAnswer → PlainAnswer
 at_age seconds answer = plain_answer answer.rcode answer.answers answer.soa seconds
 
--- the records as they are by now: with what is left of their TTLs
+-- the answers as they are by now: with what is left of their TTLs
 abbrev pub aged_answers : PlainAnswer → List PlainRecord
 aged_answers answer = map (aged answer.age) answer.answers
-
-abbrev pub aged_soa : PlainAnswer → Option PlainRecord
-aged_soa answer = option_map (aged answer.age) answer.soa
 
 -- a SOA record of class IN
 abbrev pub IsSoa : PlainRecord → Type 0

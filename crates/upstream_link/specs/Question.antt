@@ -1,9 +1,10 @@
 -- What is asked of the server.
-use Rattle.std.specs.Prelude.{ℕ, true, false, List, [], Some, None}
+use Rattle.std.specs.Prelude.{ℕ, true, List, [], Some, None}
 use Rattle.dns_name.specs.Labels.{lowered}
 use Rattle.dns_message.specs.declared.message.Message.{Message}
 use Rattle.dns_message.specs.declared.question.Question.{Question}
 use Rattle.dns_message.specs.declared.request.Query.{Query}
+use Rattle.dns_message.specs.Request.{request_header}
 use Rattle.dns_message.specs.Spelling.{spelling}
 
 -- a question of class IN
@@ -17,7 +18,7 @@ main_question query = question_of query.question.name query.question.qtype
 -- a message that asks this: RD is 1, and the name in lower case (RFC 1035, section 4.1.1)
 abbrev pub question_message : ℕ → Question → Message
 question_message id question = record {
-  header = record { id = id; qr = false; opcode = 0; aa = false; tc = false; rd = true; ra = false; rcode = 0 };
+  header = request_header id true;
   question = Some (record { name = lowered question.name; qtype = question.qtype; qclass = question.qclass });
   answer = [];
   authority = [];

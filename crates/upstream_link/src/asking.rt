@@ -24,16 +24,7 @@ pub fn main_question(query: &Query) -> Result<Question, AllocError>
 pub fn question_bytes(alloc: Global, id: u16, question: &Question) -> Result<Octets, AllocError>
     ensures { IfOk result (λ octets. octets ≡ spelling (question_message id question.now)) }
 {
-    let header = Header {
-        id,
-        qr: false,
-        opcode: 0,
-        aa: false,
-        tc: false,
-        rd: true,
-        ra: false,
-        rcode: 0,
-    };
+    let header = Header::request(id, true);
     let small = Question {
         name: question.name.lower(alloc)?,
         qtype: question.qtype,

@@ -109,21 +109,10 @@ fn fact_of_message(alloc: Global, message: Message) -> Result<Fact, AllocError>
     }
 }
 
-/// What the bytes say that came for a question which was asked in a message of this ID.
-pub fn fact_of(
-    alloc: Global,
-    bytes: Octets,
-    id: u16,
-    question: &Question,
-) -> Result<Fact, AllocError>
-    ensures { IfOk result (λ fact. fact ≡ fact_from bytes id question.now) }
-{
-    read_fact(alloc, bytes.as_slice(), id, question)
-}
-
-/// The same. The bytes are copied where they are no response.
+/// What the bytes say that came for a question which was asked in a message of this ID. The bytes are copied where they are no
+/// response.
 #[tactic(auto, unfolding(crate::specs::Fact::fact_from))]
-pub(crate) fn read_fact(
+pub fn fact_of(
     alloc: Global,
     bytes: &[u8],
     id: u16,

@@ -1,11 +1,11 @@
 //! What is known of several questions.
 
-ghost use Rattle.std.specs.Prelude.{◌≡◌, ◌↔◌, ◌<◌, ◌≤◌, ℕ, List, [], ◌∷◌, ◌++◌, length, option_copied, None, Some, false, IsSome, IfSome, MatchOption, OnOk, IfErr};
+ghost use Rattle.std.specs.Prelude.{◌≡◌, ◌↔◌, ◌<◌, ◌≤◌, ℕ, List, [], ◌∷◌, ◌++◌, length, take, option_copied, None, Some, false, IsSome, IfSome, MatchOption, OnOk, IfErr};
 ghost use Rattle.std.specs.List.{list_any};
 ghost use Rattle.std.specs.Option.{option_map, option_to_list};
 ghost use Rattle.upstream_link.specs.Entries.{entries_of, entry_of, has_some, known_about};
 ghost use Rattle.upstream_link.specs.Fact as form;
-ghost use Rattle.upstream_link.specs.Facts.{AreFacts, fact_about, is_known, records_about};
+ghost use Rattle.upstream_link.specs.Facts.{AreFacts, age_of, fact_about, is_known, records_about};
 ghost use Rattle.upstream_link.specs.Known.{AreInOrder, HaveSameMembers, named_servers};
 ghost use Rattle.upstream_link.specs.Question.{question_of};
 ghost use Rattle.upstream_link.specs.Servers.{servers, servers_at};
@@ -89,6 +89,13 @@ impl Facts {
         parts_of(last)
     }
 
+    /// Takes all facts out behind the first `len`.
+    pub fn truncate(&mut self, len: usize)
+        ensures { self.new ≡ take len self.old }
+    {
+        self.facts.truncate(len);
+    }
+
     /// What is known of the question of this name and type in class IN; names compare without case. Its time
     /// is linear in the number of facts, where names of other lengths are passed over at once.
     pub fn get(&self, name: &Name, qtype: u16) -> Option<&Fact>
@@ -114,6 +121,17 @@ impl Facts {
         match self.get(name, qtype) {
             Some(Fact::Answer(answer)) => answer.answers(),
             Some(Fact::Broken(_)) | None => &[],
+        }
+    }
+
+    /// How many seconds have passed since the answer came to the question of this name and type in class IN; 0 where there is
+    /// none.
+    pub fn age(&self, name: &Name, qtype: u16) -> u32
+        ensures { result ≡ age_of (fact_about self.now (question_of name.now qtype)) }
+    {
+        match self.get(name, qtype) {
+            Some(Fact::Answer(answer)) => answer.age(),
+            Some(Fact::Broken(_)) | None => 0,
         }
     }
 

@@ -1,9 +1,11 @@
 //! Laws of facts. Each function is its clauses, and does nothing.
 
-ghost use Rattle.std.specs.Prelude.{◌≡◌, ℕ, IsTrue, List, Some};
+ghost use Rattle.std.specs.Prelude.{◌≡◌, ℕ, IsTrue, List, Some, false};
 ghost use Rattle.dns_message.specs.declared.question.Question.{Question};
 ghost use Rattle.upstream_link.specs.declared.fact.Fact.{Fact};
+ghost use Rattle.upstream_link.specs.Fact.{fact_from, is_failed};
 ghost use Rattle.upstream_link.specs.Facts.{Extends, PlainFacts, fact_about, is_known, records_about};
+ghost use Rattle.upstream_link.specs.Life.{with_age};
 ghost use Rattle.upstream_link.specs.Question.{question_of};
 ghost use Rattle.upstream_link.specs.Servers.{ancestors, servers};
 ghost use Rattle.std.specs.List.{list_all};
@@ -19,4 +21,10 @@ pub fn what_is_known_stays_known()
     ensures servers { (facts more : PlainFacts) (name : List (List ℕ)) → Extends facts more →
         IsTrue (list_all (λ owner. is_known facts (question_of owner 2)) (ancestors name)) →
         servers more name ≡ servers facts name }
+{}
+
+/// Bytes never say that nothing came, at whatever age. So no fact that is vouched for does.
+pub fn bytes_say_that_something_came()
+    ensures { (octets : List ℕ) (id : ℕ) (question : Question) (seconds : ℕ) →
+        is_failed (with_age seconds (fact_from octets id question)) ≡ false }
 {}

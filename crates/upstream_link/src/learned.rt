@@ -4,7 +4,7 @@ ghost use Rattle.std.specs.Prelude.{◌≡◌, IfOk};
 ghost use Rattle.upstream_link.specs.Question.{question_bytes};
 ghost use Rattle.upstream_link.specs.Vouched.{Tells, Vouched, fact_at, life, live, plain_learned};
 
-use crate::fact::{Fact, read_fact};
+use crate::fact::{Fact, fact_of};
 use dns_message::Question;
 use dns_name::Octets;
 use edge_io::Link;
@@ -56,11 +56,11 @@ impl<L: Link> Learned<L> {
         ensures { IfOk result (λ learned. learned ≡ plain_learned question.now id bytes.now now) }
     {
         let exchange = Exchange {
-            question: copy_of(question)?,
+            question: question.clone()?,
             id,
             bytes: Octets::from_slice(alloc, bytes.as_slice())?,
             moment: now,
-            fact: read_fact(alloc, bytes.as_slice(), id, question)?,
+            fact: fact_of(alloc, bytes.as_slice(), id, question)?,
         };
         Ok(Learned {
             held: Arc::new(alloc, exchange)?,
@@ -109,15 +109,4 @@ impl<L: Link> Learned<L> {
             link: PhantomData,
         })
     }
-}
-
-// A copy of the question.
-fn copy_of(question: &Question) -> Result<Question, AllocError>
-    ensures { IfOk result (λ copy. copy ≡ question.now) }
-{
-    Ok(Question {
-        name: question.name.clone()?,
-        qtype: question.qtype,
-        qclass: question.qclass,
-    })
 }
