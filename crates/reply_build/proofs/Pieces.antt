@@ -6,6 +6,7 @@ use Rattle.std.proofs.lemmas.List.Concat.{flat_map-append}
 use Rattle.dns_record.specs.Record.{PlainRecord, record_octets}
 use Rattle.dns_message.specs.declared.header.Header.{Header}
 use Rattle.dns_message.specs.declared.request.Query.{Query}
+use Rattle.dns_message.specs.Aged.{aged}
 use Rattle.dns_message.specs.Limit.{octets_within, spelling_within}
 use Rattle.dns_message.specs.Request.{reply_edns}
 use Rattle.dns_message.specs.Spelling.{start_octets, records_octets, opt_count, opt_octets, parts_octets, spelling}
@@ -17,7 +18,7 @@ use Rattle.reply_build.specs.Draft.{draft_octets, draft_of, draft_outcome}
 use Rattle.reply_build.specs.declared.said.Said.TheVariants.{Reply}
 use Rattle.reply_build.specs.declared.turn.Turn.TheVariants.{Said}
 use Rattle.reply_build.specs.Reply.{Outcome, needs, gives, silent, outcome_turn, Place, Sections, reply_header, reply_of, local_record, alias_record, is_asked, denial, local_answer, sections}
-use Rattle.reply_build.specs.Start.{rule_start, rule_sections, alias_reply}
+use Rattle.reply_build.specs.Start.{aged_sections, rule_start, rule_sections, alias_reply}
 
 no_records : (octets : List ℕ) → octets ++ records_octets [] ≡ octets
 unfolding records_octets
@@ -108,6 +109,45 @@ alias_pieces rcode query place ttl target answers authority h a b c d e eh ea eb
     ∙ append_assoc a (record_octets alias) (records_octets answers)
     ∙ ap (λ (l : List ℕ). a ++ l) (sym (first_record alias answers)) in
     rule_pieces rcode query place (alias ∷ answers) authority h a c d e eh start all ed ee
+
+-- the same with answers and authorities that came so many seconds ago
+pub aged_alias_pieces : (rcode : ℕ) (query : Query) (place : Place) (ttl : ℕ) (target : List (List ℕ)) (answers authority : List PlainRecord) (seconds : ℕ) (h : Header) (a b c d e : List ℕ)
+    → h ≡ reply_header false rcode query
+    → a ≡ rule_start h query place (length answers + 1) (length authority)
+    → b ≡ a ++ record_octets (alias_record place.name ttl target)
+    → c ≡ b ++ records_octets (map (aged seconds) answers)
+    → d ≡ c ++ records_octets (map (aged seconds) authority)
+    → e ≡ d ++ records_octets (place.soa ∷ [])
+    → draft h e ≡ draft_of query (alias_reply rcode place ttl target (map (aged seconds) answers) (map (aged seconds) authority))
+aged_alias_pieces rcode query place ttl target answers authority seconds h a b c d e eh ea eb ec ed ee =
+    alias_pieces rcode query place ttl target (map (aged seconds) answers) (map (aged seconds) authority) h a b c d e eh
+    (ea ∙ ap (λ (n : ℕ). rule_start h query place (n + 1) (length authority)) (sym (length-map answers (aged seconds)))
+    ∙ ap (λ (n : ℕ). rule_start h query place (length (map (aged seconds) answers) + 1) n) (sym (length-map authority (aged seconds))))
+    eb ec ed ee
+
+-- a reply of answers and authorities that came so many seconds ago
+pub sections_pieces : (tc : Bool) (rcode : ℕ) (query : Query) (answers authority : List PlainRecord) (seconds : ℕ) (h : Header) (a b c : List ℕ)
+    → h ≡ reply_header tc rcode query
+    → a ≡ start_octets h (Some query.question) (length answers) (length authority) (opt_count (reply_edns 0 query.edns))
+    → b ≡ a ++ records_octets (map (aged seconds) answers)
+    → c ≡ b ++ records_octets (map (aged seconds) authority)
+    → draft h c ≡ draft_of query (aged_sections tc rcode answers authority seconds)
+sections_pieces tc rcode query answers authority seconds h a b c eh ea eb ec =
+    let opts = opt_count (reply_edns 0 query.edns) in
+    let start = λ (g : Header) (n m k : ℕ). start_octets g (Some query.question) n m k in
+    let behind = λ (l : List ℕ). (l ++ records_octets (map (aged seconds) answers)) ++ records_octets (map (aged seconds) authority) in
+    let many = length (map (aged seconds) answers) in
+    let others = length (map (aged seconds) authority) in
+    let none : opts ≡ 0 + opts = omega arith in
+    let octets : c ≡ behind (start h many others (0 + opts)) =
+    ec ∙ ap (λ (l : List ℕ). l ++ records_octets (map (aged seconds) authority)) eb
+    ∙ ap behind (ea
+    ∙ ap (λ (n : ℕ). start h n (length authority) opts) (sym (length-map answers (aged seconds)))
+    ∙ ap (λ (n : ℕ). start h many n opts) (sym (length-map authority (aged seconds)))
+    ∙ ap (λ (n : ℕ). start h many others n) none) in
+    ap (draft h) (octets ∙ sym (no_records (behind (start h many others (0 + opts)))))
+    ∙ ap (λ (g : Header). draft g (behind (start h many others (0 + opts)) ++ records_octets [])) eh
+    ∙ ap (λ (g : Header). draft (reply_header tc rcode query) (behind (start g many others (0 + opts)) ++ records_octets [])) eh
 
 -- a reply with its OPT record
 whole_reply : (query : Query) (s : Sections) → draft_octets query s ++ opt_octets (reply_edns 0 query.edns) ≡ spelling (reply_of query s)

@@ -8,6 +8,7 @@ use Rattle.dns_message.specs.declared.header.Header.{Header}
 use Rattle.dns_message.specs.declared.message.Message.{Message}
 use Rattle.dns_message.specs.declared.question.Question.{Question}
 use Rattle.dns_message.specs.declared.request.Query.{Query}
+use Rattle.dns_message.specs.Aged.{aged}
 use Rattle.dns_message.specs.Limit.{spelling_within}
 use Rattle.dns_message.specs.Request.{reply_edns}
 use Rattle.ip_prefix.specs.declared.Transport.{Transport}
@@ -15,11 +16,11 @@ use Rattle.ip_prefix.specs.declared.Transport.TheVariants.{Udp, Tcp}
 use Rattle.action_codec.specs.Local.{PlainLocal}
 use Rattle.action_codec.specs.declared.action.Action.{Action}
 use Rattle.action_codec.specs.declared.action.Action.TheVariants.{NxDomain, NoData, PassThru, Drop, TcpOnly, Local}
-use Rattle.upstream_link.specs.Kept.{PlainAnswer}
+use Rattle.upstream_link.specs.Kept.{PlainAnswer, aged_answers}
 use Rattle.upstream_link.specs.declared.fact.Fact.{Fact}
 use Rattle.upstream_link.specs.declared.fact.Fact.TheVariants.{Answer, Broken}
 use Rattle.upstream_link.specs.Chain.{asks_alias, followed}
-use Rattle.upstream_link.specs.Facts.{PlainFacts, fact_about, main_records}
+use Rattle.upstream_link.specs.Facts.{PlainFacts, fact_about, main_age, main_records}
 use Rattle.upstream_link.specs.Question.{question_of, main_question}
 use Rattle.reply_build.specs.declared.said.Said.TheVariants.{Reply, Silent}
 use Rattle.reply_build.specs.declared.turn.Turn.{Turn}
@@ -74,11 +75,12 @@ abbrev pub truncation : Sections
 truncation = record { tc = true; rcode = 0; answer = []; authority = []; additional = [] }
 
 abbrev pub soa_list : PlainAnswer → List PlainRecord
-soa_list answer = option_to_list answer.soa
+soa_list answer = map (aged answer.age) (option_to_list answer.soa)
 
--- the answer of the upstream: its rcode, its answers, and its SOA in the authority section
+-- the answer of the upstream, with what is left of the TTLs of its records: its rcode, its answers, and its SOA in the authority
+-- section
 abbrev pub answer_sections : PlainAnswer → Sections
-answer_sections answer = sections answer.rcode answer.answers (soa_list answer) []
+answer_sections answer = sections answer.rcode (aged_answers answer) (soa_list answer) []
 
 -- What a query comes to, by what is decided of it and what is known: it needs the answer to a question, or gives a reply
 -- of these sections, or nothing is said.
@@ -117,7 +119,7 @@ alias_record owner ttl target = record { owner = owner; rtype = 5; class = 1; tt
 
 -- an alias and the answer of the upstream about its target: its rcode, its answers, and its SOA in the authority section
 abbrev pub alias_sections : Place → PlainRecord → PlainAnswer → Sections
-alias_sections place alias answer = sections answer.rcode (place.kept ++ alias ∷ answer.answers) (soa_list answer) (place.soa ∷ [])
+alias_sections place alias answer = sections answer.rcode (place.kept ++ alias ∷ aged_answers answer) (soa_list answer) (place.soa ∷ [])
 
 -- the alias to a target of which this is known
 abbrev pub alias_outcome : Query → ℕ → List (List ℕ) → Place → Option Fact → Outcome
@@ -158,9 +160,10 @@ by_action query facts place Drop = silent
 by_action query facts place TcpOnly = tcp_only_outcome query facts
 by_action query facts place (Local rows) = local_outcome query rows place facts
 
--- where a rule decides that is hit behind these names: the aliases are those of the answer to the query
+-- where a rule decides that is hit behind these names: the aliases are those of the answer to the query, with what is left of
+-- their TTLs
 abbrev pub place_of : Query → PlainFacts → PlainRecord → List (List (List ℕ)) → List (List ℕ) → Place
-place_of query facts soa before name = record { kept = followed (main_records query facts) before; name = name; soa = soa }
+place_of query facts soa before name = record { kept = map (aged (main_age query facts)) (followed (main_records query facts) before); name = name; soa = soa }
 
 abbrev pub by_verdict : Query → PlainVerdict → PlainFacts → Outcome
 by_verdict query passes facts = main_outcome query facts

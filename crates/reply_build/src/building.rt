@@ -68,6 +68,7 @@ fn by_verdict(
         } => {
             let place = PlaceRef {
                 records: records_behind(query, facts, before),
+                age: facts.age(&query.question.name, query.question.qtype),
                 before,
                 name,
                 soa,

@@ -2,6 +2,7 @@
 
 ghost use Rattle.std.specs.Prelude.{◌≡◌, ◌^◌, ◌<◌, ◌∷◌, [], ◌++◌, length, map, filter, option_copied, IfOk, OnOk};
 ghost use Rattle.dns_record.specs.Record.{record_octets};
+ghost use Rattle.dns_message.specs.Aged.{aged};
 ghost use Rattle.dns_message.specs.Spelling.{records_octets};
 ghost use Rattle.reply_build.specs.Draft.{draft_of, draft_outcome};
 ghost use Rattle.reply_build.specs.Reply as form;
@@ -16,7 +17,7 @@ use crate::place::PlaceRef;
 use crate::reply::{begin, reply_header, server_failure, soa_slice};
 use crate::target::{alias_in, target_of};
 use action_codec::LocalRow;
-use dns_message::{Query, Question, write_records};
+use dns_message::{Query, Question, write_aged_records, write_records};
 use dns_name::{Name, Octets};
 use dns_record::{Record, class, rtype, write_record};
 use std::alloc::{AllocError, Global};
@@ -108,7 +109,7 @@ fn write_alias(out: &mut Octets, owner: &Name, ttl: u32, target: &Name) -> Resul
     write_record(out, owner, rtype::CNAME, class::IN, ttl, target.octets())
 }
 
-// An alias behind those that led to the place, with these answers behind it.
+// An alias behind those that led to the place, with these answers and authorities behind it, which came so many seconds ago.
 fn alias_draft(
     alloc: Global,
     rcode: u8,
@@ -117,17 +118,18 @@ fn alias_draft(
     target: &Name,
     answers: &[Record],
     authority: &[Record],
+    age: u32,
     place: &PlaceRef<'_>,
 ) -> Result<Draft, AllocError>
-    ensures { IfOk result (λ draft. draft
-        ≡ draft_of query.now (alias_reply rcode (place_seen place.now) ttl target.now answers.now authority.now)) }
+    ensures { IfOk result (λ draft. draft ≡ draft_of query.now
+        (alias_reply rcode (place_seen place.now) ttl target.now (map (aged age) answers.now) (map (aged age) authority.now))) }
 {
     let header = reply_header(false, rcode, query);
     let count = answers.len() + 1;
     let mut out = begin(alloc, &header, query, place, count, authority.len())?;
     write_alias(&mut out, place.name, ttl, target)?;
-    write_records(&mut out, answers)?;
-    write_records(&mut out, authority)?;
+    write_aged_records(&mut out, answers, age)?;
+    write_aged_records(&mut out, authority, age)?;
     write_records(&mut out, slice::from_ref(place.soa))?;
     Ok(Draft {
         header,
@@ -155,6 +157,7 @@ fn alias_answer_draft(
         target,
         answer.answers(),
         soa_slice(answer),
+        answer.age(),
         place,
     )
 }
@@ -208,7 +211,7 @@ fn target_outcome(
         return Ok(DraftOutcome::Gives(server_failure(alloc, query)?));
     };
     if asks_alias(query.question.qtype) {
-        let draft = alias_draft(alloc, 0, query, ttl, &target, &[], &[], place)?;
+        let draft = alias_draft(alloc, 0, query, ttl, &target, &[], &[], 0, place)?;
         return Ok(DraftOutcome::Gives(draft));
     }
     let fact = facts.get(&target, query.question.qtype);

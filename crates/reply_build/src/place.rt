@@ -1,13 +1,14 @@
 //! Where a rule decides, and the aliases that led there.
 
-ghost use Rattle.std.specs.Prelude.{◌≡◌, ◌^◌, ◌<◌, ◌++◌, length, filter, OnOk};
+ghost use Rattle.std.specs.Prelude.{◌≡◌, ◌^◌, ◌<◌, ◌++◌, length, map, filter, OnOk};
 ghost use Rattle.std.specs.Option.{option_to_list};
+ghost use Rattle.dns_message.specs.Aged.{aged};
 ghost use Rattle.dns_message.specs.Spelling.{records_octets};
 ghost use Rattle.upstream_link.specs.Chain as chains;
 ghost use Rattle.upstream_link.specs.Chain.{followed};
 ghost use Rattle.reply_build.specs.Start as start;
 
-use dns_message::write_records;
+use dns_message::write_aged_records;
 use dns_name::{Name, Octets};
 use dns_record::Record;
 use std::alloc::AllocError;
@@ -19,6 +20,8 @@ use upstream_link::alias_of;
 pub struct PlaceRef<'a> {
     /// The records that aliases are looked up in: those of the answer to the query.
     pub records: &'a [Record],
+    /// How many seconds have passed since these came.
+    pub age: u32,
     /// The names of the chain before the rule's; a reply begins with their aliases.
     pub before: &'a [Name],
     /// The name at which the rule is hit.
@@ -45,22 +48,33 @@ pub fn count_kept(records: &[Record], before: &[Name]) -> usize
         .count()
 }
 
-// Writes the alias of the name at the end, if the records have one.
-fn write_alias_of(out: &mut Octets, records: &[Record], name: &Name) -> Result<(), AllocError>
-    ensures { OnOk result (out.new ≡ out.old ++ records_octets (option_to_list (chains.alias_of records.now name.now))) }
+// Writes the alias of the name at the end, if the records have one, which came so many seconds ago.
+fn write_alias_of(
+    out: &mut Octets,
+    records: &[Record],
+    age: u32,
+    name: &Name,
+) -> Result<(), AllocError>
+    ensures { OnOk result (out.new
+        ≡ out.old ++ records_octets (map (aged age) (option_to_list (chains.alias_of records.now name.now)))) }
 {
     match alias_of(records, name) {
         None => Ok(()),
-        Some(alias) => write_records(out, slice::from_ref(alias)),
+        Some(alias) => write_aged_records(out, slice::from_ref(alias), age),
     }
 }
 
-/// Writes the aliases of these names at the end that the records have.
-pub fn write_kept(out: &mut Octets, records: &[Record], before: &[Name]) -> Result<(), AllocError>
-    ensures { OnOk result (out.new ≡ out.old ++ records_octets (followed records.now before.now)) }
+/// Writes the aliases of these names at the end that the records have, which came so many seconds ago.
+pub fn write_kept(
+    out: &mut Octets,
+    records: &[Record],
+    age: u32,
+    before: &[Name],
+) -> Result<(), AllocError>
+    ensures { OnOk result (out.new ≡ out.old ++ records_octets (map (aged age) (followed records.now before.now))) }
 {
     for name in before {
-        write_alias_of(out, records, name)?;
+        write_alias_of(out, records, age, name)?;
     }
     Ok(())
 }

@@ -1,16 +1,17 @@
 //! Replies of records that are at hand.
 
 ghost use Rattle.std.specs.Prelude.{◌≡◌, ◌^◌, ◌<◌, option_copied, IfOk};
+ghost use Rattle.std.specs.Option.{option_to_list};
 ghost use Rattle.reply_build.specs.Draft.{draft_of, draft_outcome};
 ghost use Rattle.reply_build.specs.Reply as form;
 ghost use Rattle.reply_build.specs.Seen.{place_seen};
-ghost use Rattle.reply_build.specs.Start.{rule_start};
+ghost use Rattle.reply_build.specs.Start.{aged_sections, rule_start};
 ghost use Rattle.upstream_link.specs.Question.{main_question as question_about};
 
 use crate::draft::{Draft, opt_count};
 use crate::draft_outcome::DraftOutcome;
 use crate::place::{PlaceRef, count_kept, write_kept};
-use dns_message::{Header, Query, write_records, write_start};
+use dns_message::{Header, Query, write_aged_records, write_records, write_start};
 use dns_name::Octets;
 use dns_record::Record;
 use std::alloc::{AllocError, Global};
@@ -33,7 +34,8 @@ pub fn reply_header(tc: bool, rcode: u8, query: &Query) -> Header
     }
 }
 
-// The reply of these sections, but for its OPT record.
+// The reply of these answers and authorities, which came so many seconds ago, but for its OPT record.
+#[tactic(auto, using(crate::proofs::Pieces::sections_pieces))]
 fn sections_draft(
     alloc: Global,
     tc: bool,
@@ -41,10 +43,10 @@ fn sections_draft(
     query: &Query,
     answer: &[Record],
     authority: &[Record],
-    additional: &[Record],
+    age: u32,
 ) -> Result<Draft, AllocError>
     ensures { IfOk result (λ draft. draft
-        ≡ draft_of query.now (record { tc = tc; rcode = rcode; answer = answer.now; authority = authority.now; additional = additional.now })) }
+        ≡ draft_of query.now (aged_sections tc rcode answer.now authority.now age)) }
 {
     let header = reply_header(tc, rcode, query);
     let mut octets = Octets::with_capacity(alloc, 512)?;
@@ -54,17 +56,16 @@ fn sections_draft(
         Some(&query.question),
         answer.len(),
         authority.len(),
-        additional.len() + opt_count(query),
+        opt_count(query),
     )?;
-    write_records(&mut octets, answer)?;
-    write_records(&mut octets, authority)?;
-    write_records(&mut octets, additional)?;
+    write_aged_records(&mut octets, answer, age)?;
+    write_aged_records(&mut octets, authority, age)?;
     Ok(Draft { header, octets })
 }
 
 /// The start of a reply by a rule, up to the aliases that led to the place. So many answers and authorities follow, and
 /// then the SOA record of the zone and the OPT record.
-#[tactic(auto, using(crate::proofs::Followed::count_followed))]
+#[tactic(auto, using(crate::proofs::Followed::count_aged))]
 pub fn begin(
     alloc: Global,
     header: &Header,
@@ -87,7 +88,7 @@ pub fn begin(
         authorities,
         1 + opt_count(query),
     )?;
-    write_kept(&mut out, place.records, place.before)?;
+    write_kept(&mut out, place.records, place.age, place.before)?;
     Ok(out)
 }
 
@@ -111,17 +112,17 @@ pub fn denial(
 pub fn truncation(alloc: Global, query: &Query) -> Result<Draft, AllocError>
     ensures { IfOk result (λ draft. draft ≡ draft_of query.now form.truncation) }
 {
-    sections_draft(alloc, true, 0, query, &[], &[], &[])
+    sections_draft(alloc, true, 0, query, &[], &[], 0)
 }
 
 /// There is no answer.
 pub fn server_failure(alloc: Global, query: &Query) -> Result<Draft, AllocError>
     ensures { IfOk result (λ draft. draft ≡ draft_of query.now form.server_failure) }
 {
-    sections_draft(alloc, false, 2, query, &[], &[], &[])
+    sections_draft(alloc, false, 2, query, &[], &[], 0)
 }
 
-// The answer of the upstream as it is.
+// The answer of the upstream, with what is left of the TTLs of its records.
 fn answer_draft(alloc: Global, query: &Query, answer: &Answer) -> Result<Draft, AllocError>
     ensures { IfOk result (λ draft. draft ≡ draft_of query.now (form.answer_sections answer.now)) }
 {
@@ -132,13 +133,13 @@ fn answer_draft(alloc: Global, query: &Query, answer: &Answer) -> Result<Draft, 
         query,
         answer.answers(),
         soa_slice(answer),
-        &[],
+        answer.age(),
     )
 }
 
-/// The SOA record of an answer, as a list.
+/// The SOA record of an answer as it came, as a list.
 pub fn soa_slice(answer: &Answer) -> &[Record]
-    ensures { result.now ≡ form.soa_list answer.now }
+    ensures { result.now ≡ option_to_list answer.now.soa }
 {
     match answer.soa() {
         None => &[],

@@ -1,6 +1,6 @@
 use Rattle.reply_build.specs.Seen.{place_seen}
-use Rattle.reply_build.proofs.Pieces.{alias_pieces}
+use Rattle.reply_build.proofs.Pieces.{aged_alias_pieces}
 use Rattle.reply_build.proofs.local.alias_draft.Goals as goal
 
 pub returns : goal.returns
-returns c = alias_pieces c.args.rcode c.args.query.now (place_seen c.args.place.now) c.args.ttl c.args.target.now c.args.answers.now c.args.authority.now _ _ _ _ _ _ c.reply_header-header.ensures c.in_ok-out.ensures c.in_ok-write_alias.ensures c.in_ok-write_records.ensures.ok c.in_ok-write_records-2.ensures.ok (rw c.from_ref.ensures.value at c.in_ok-write_records-3.ensures.ok)
+returns c = aged_alias_pieces c.args.rcode c.args.query.now (place_seen c.args.place.now) c.args.ttl c.args.target.now c.args.answers.now c.args.authority.now c.args.age _ _ _ _ _ _ c.reply_header-header.ensures c.in_ok-out.ensures c.in_ok-write_alias.ensures c.in_ok-write_aged_records.ensures.ok c.in_ok-write_aged_records-2.ensures.ok (rw c.from_ref.ensures.value at c.in_ok-write_records.ensures.ok)
