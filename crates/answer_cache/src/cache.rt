@@ -1,0 +1,107 @@
+//! The cache.
+
+ghost use Rattle.std.specs.Prelude.{◌≡◌, ◌≤◌, [], option_copied, IfOk, IfSome, OnOk, OnErr};
+ghost use Rattle.answer_cache.specs.Recent.{Serves, found, if_live, kept, recent, touched};
+
+use crate::key::key_octets;
+use dns_message::Question;
+use edge_io::Link;
+use lru::LruCache;
+use std::alloc::{AllocError, Global};
+use std::hash::BuildHasher;
+use std::marker::Model;
+use std::num::NonZeroUsize;
+use upstream_link::Learned;
+
+/// How many entries a cache has at most.
+pub const MOST_ENTRIES: usize = 4_096;
+
+/// What links of the kind `L` gave for questions, the most recently used first, each for as long as it may be kept. Contracts see
+/// the list of its entries, and how many there may be. `S` makes the hashers of its map, which decide on its speed alone: for
+/// questions that a stranger picks, one with a random seed.
+#[derive(Drop)]
+pub struct AnswerCache<L: Link, S: BuildHasher + Drop> {
+    entries: LruCache<Vec<u8>, Learned<L>, S>,
+}
+
+impl<L: Link, S: BuildHasher + Drop> Model for AnswerCache<L, S> {
+    ghost use Rattle.std.specs.Map.{values_of};
+    ghost use Rattle.answer_cache.specs.Keyed.{IsKeyed};
+    ghost use Rattle.answer_cache.specs.Recent.{Recent, recent};
+
+    ghost Value = { Recent };
+
+    ghost view = { λ c. recent (values_of c.entries.entries) c.entries.cap };
+
+    ghost invariant = { λ c. IsKeyed c.entries.entries };
+}
+
+impl<L: Link, S: BuildHasher + Drop> AnswerCache<L, S> {
+    /// A cache of at most so many entries, 1 to [`MOST_ENTRIES`], with none.
+    pub fn open(alloc: Global, entries: usize, hashers: S) -> Result<Self, AllocError>
+        requires some { 1 ≤ entries }
+        requires most { entries ≤ MOST_ENTRIES }
+        ensures { IfOk result (λ cache. cache ≡ recent [] entries) }
+    {
+        let Some(limit) = NonZeroUsize::new(entries) else {
+            unreachable!();
+        };
+        Ok(AnswerCache {
+            entries: LruCache::with_hasher(alloc, limit, hashers)?,
+        })
+    }
+
+    /// What was learned of the question, if it is live: it has come by now, and its life isn't over. `now` is in seconds. An entry
+    /// about the question goes first, live or not. No record is copied. An `Err` leaves the cache as it was.
+    pub fn get(
+        &mut self,
+        alloc: Global,
+        question: &Question,
+        now: u32,
+    ) -> Result<Option<Learned<L>>, AllocError>
+        ensures found { IfOk result (λ entry. entry ≡ found question.now now self.old.entries) }
+        ensures serves { IfOk result (λ entry. IfSome entry (Serves question.now now)) }
+        ensures ok { OnOk result (self.new ≡ recent (touched question.now self.old.entries) self.old.limit) }
+        ensures err { OnErr result (self.new ≡ self.old) }
+    {
+        let key = key_octets(alloc, question)?;
+        let entry = copied_if_live(self.entries.peek(key.as_slice()), now)?;
+        self.entries.promote(key.as_slice());
+        Ok(entry)
+    }
+
+    /// Puts what was learned first, in place of an entry about its question, and drops the last one exactly where there would be
+    /// too many. What has a life of 0 isn't kept. An `Err` leaves the cache as it was.
+    pub fn keep(&mut self, alloc: Global, learned: Learned<L>) -> Result<(), AllocError>
+        ensures ok { OnOk result (self.new ≡ recent (kept self.old.limit learned self.old.entries) self.old.limit) }
+        ensures err { OnErr result (self.new ≡ self.old) }
+    {
+        if learned.life() == 0 {
+            return Ok(());
+        }
+        let key = key_octets(alloc, learned.question())?.into_vec();
+        let _within = self.entries.len();
+        self.entries.put(key, learned)?;
+        Ok(())
+    }
+
+    /// Drops all entries.
+    pub fn clear(&mut self)
+        ensures { self.new ≡ recent [] self.old.limit }
+    {
+        self.entries.clear();
+    }
+}
+
+// The same by another handle, if it is live.
+fn copied_if_live<L: Link>(
+    found: Option<&Learned<L>>,
+    now: u32,
+) -> Result<Option<Learned<L>>, AllocError>
+    ensures { IfOk result (λ copy. copy ≡ if_live now (option_copied found.entry)) }
+{
+    match found {
+        Some(learned) if learned.is_live(now) => Ok(Some(learned.copied()?)),
+        _ => Ok(None),
+    }
+}

@@ -1,0 +1,26 @@
+//! Laws of the cache. Each function is its clauses, and does nothing.
+
+ghost use Rattle.std.specs.Prelude.{◌≡◌, ◌↔◌, ℕ, List, Contains, Some, true};
+ghost use Rattle.dns_message.specs.declared.question.Question.{Question};
+ghost use Rattle.dns_message.specs.Spelling.{IsQuestion};
+ghost use Rattle.upstream_link.specs.Fact.{same_question};
+ghost use Rattle.upstream_link.specs.Vouched.{PlainLearned, live};
+ghost use Rattle.answer_cache.specs.Key.{key_of};
+ghost use Rattle.answer_cache.specs.Recent.{HaveSameEntries, found, is_about, touched};
+
+/// Two questions have one key exactly where their names are alike, and their types and classes the same.
+pub fn questions_of_one_key_are_alike()
+    ensures { (a b : Question) → IsQuestion a → IsQuestion b → (key_of a ≡ key_of b) ↔ (same_question a b ≡ true) }
+{}
+
+/// What a look-up finds is an entry of the cache about the question, and live. A look-up keeps all entries, and the same look-up
+/// then finds the same.
+pub fn a_look_up_moves_an_entry_alone()
+    ensures found { (question : Question) (now : ℕ) (entries : List PlainLearned) (entry : PlainLearned) →
+        found question now entries ≡ Some entry →
+        Contains entries entry × (is_about question entry ≡ true) × (live now entry ≡ true) }
+    ensures kept { (question : Question) (entries : List PlainLearned) →
+        HaveSameEntries (touched question entries) entries }
+    ensures again { (question : Question) (now : ℕ) (entries : List PlainLearned) →
+        found question now (touched question entries) ≡ found question now entries }
+{}
