@@ -1,5 +1,5 @@
 -- Once something is said, it is said whatever facts come behind.
-use Rattle.std.proofs.Common.{◌≡◌, ℕ, ◌≤◌, Bool, true, false, cond, List, [], ◌∷◌, ◌++◌, length, take, drop, Option, Some, None, refl, sym, ap, ◌∙◌, arith, true≢false, append-nil, length-append, ltb-false}
+use Rattle.std.proofs.Common.{◌≡◌, ℕ, ◌≤◌, Bool, true, false, cond, List, [], ◌∷◌, ◌++◌, length, map, take, drop, Option, Some, None, refl, sym, ap, ◌∙◌, arith, true≢false, append-nil, length-append, ltb-false}
 use Rattle.std.specs.Prelude.{IfSome, nat_lt}
 use Rattle.action_codec.specs.Local.{PlainLocal}
 use Rattle.action_codec.specs.declared.action.Action.{Action}
@@ -8,13 +8,14 @@ use Rattle.dns_message.specs.declared.question.Question.{Question}
 use Rattle.dns_message.specs.declared.request.Incoming.{Incoming}
 use Rattle.dns_message.specs.declared.request.Incoming.TheVariants.{Silent, Refuse, Query as Asks}
 use Rattle.dns_message.specs.declared.request.Query.{Query}
+use Rattle.dns_message.specs.Aged.{aged}
 use Rattle.dns_message.specs.Limit.{reply_limit}
 use Rattle.dns_record.specs.Record.{PlainRecord}
 use Rattle.rpz_precedence.specs.Best.{PlainHit, best}
 use Rattle.upstream_link.specs.declared.fact.Fact.{Fact}
 use Rattle.upstream_link.specs.declared.facts.TheConstants.{FACT_LIMIT}
 use Rattle.upstream_link.specs.Chain.{asks_alias, chain, followed}
-use Rattle.upstream_link.specs.Facts.{Extends, PlainFacts, fact_about, main_records, records_of}
+use Rattle.upstream_link.specs.Facts.{Extends, PlainFacts, age_of, fact_about, records_of}
 use Rattle.upstream_link.specs.Question.{question_of, main_question}
 use Rattle.policy_snapshot.specs.Hits.{hits}
 use Rattle.policy_snapshot.specs.Next.{Next, ask, decided_by, no_hit, chain_too_long, next, next_along, next_at, next_behind, next_in_chain, or_next, pending, unless_pending}
@@ -91,9 +92,17 @@ module _ (query : Query) (facts more : PlainFacts) (known : StaysKnown facts mor
 
   -- ---- the aliases that led to the name where a rule decides
 
+  -- the answer to the query stays the same
+  abbrev SameAnswer : Type 0
+  SameAnswer = fact_about more (main_question query) ≡ fact_about facts (main_question query)
+
+  -- the aliases of these names in an answer, with what is left of their TTLs
+  abbrev aliases_in : List Name → Option Fact → List PlainRecord
+  aliases_in before fact = map (aged (age_of fact)) (followed (records_of fact) before)
+
   -- the aliases of these names stay the same
   abbrev SameAliases : List Name → Type 0
-  SameAliases before = followed (main_records query more) before ≡ followed (main_records query facts) before
+  SameAliases before = aliases_in before (fact_about more (main_question query)) ≡ aliases_in before (fact_about facts (main_question query))
 
   abbrev KeepsAliases : Next → Type 0
   KeepsAliases (ask question) = Unit {0}
@@ -115,19 +124,19 @@ module _ (query : Query) (facts more : PlainFacts) (known : StaysKnown facts mor
   or_keeps None other h k = k
   or_keeps (Some first) other h k = h
 
-  along_keeps : (all : List PlainRule) (before names : List Name) → main_records query more ≡ main_records query facts → KeepsAliases (next_along all query facts before names)
+  along_keeps : (all : List PlainRule) (before names : List Name) → SameAnswer → KeepsAliases (next_along all query facts before names)
   along_keeps all before [] same = tt
   along_keeps all before (name ∷ names) same =
       or_keeps (next_at all query facts before name) (next_along all query facts (before ++ name ∷ []) names)
-      (at_keeps all before name (ap (λ (records : List PlainRecord). followed records before) same)) (along_keeps all (before ++ name ∷ []) names same)
+      (at_keeps all before name (ap (aliases_in before) same)) (along_keeps all (before ++ name ∷ []) names same)
 
-  chain_keeps : (all : List PlainRule) (names : Option (List Name)) → main_records query more ≡ main_records query facts → KeepsAliases (next_in_chain all query facts names)
+  chain_keeps : (all : List PlainRule) (names : Option (List Name)) → SameAnswer → KeepsAliases (next_in_chain all query facts names)
   chain_keeps all None same = tt
   chain_keeps all (Some names) same = along_keeps all (take 1 names) (drop 1 names) same
 
   behind_keeps : (all : List PlainRule) (fact : Option Fact) → fact_about facts (main_question query) ≡ fact → KeepsAliases (next_behind all query facts fact)
   behind_keeps all None e = tt
-  behind_keeps all (Some fact) e = chain_keeps all (chain (main_question query) fact) (ap records_of (known (main_question query) fact e ∙ sym e))
+  behind_keeps all (Some fact) e = chain_keeps all (chain (main_question query) fact) (known (main_question query) fact e ∙ sym e)
 
   next_keeps : (policy : PlainPolicy) → KeepsAliases (next policy query facts)
   next_keeps policy =

@@ -1,11 +1,11 @@
 //! A session: one message of a client, from its coming to what is said.
 
-ghost use Rattle.std.specs.Prelude.{◌≡◌, ◌∷◌, [], ◌++◌, Some, IfOk, IsSome, OnOk, OnErr, option_copied, is_some};
+ghost use Rattle.std.specs.Prelude.{◌≡◌, ◌∷◌, [], ◌++◌, length, Some, None, IfOk, IsSome, OnOk, OnErr, option_copied, is_some};
 ghost use Rattle.dns_message.specs.declared.question.Question as questions;
 ghost use Rattle.dns_message.specs.Request.{incoming_of};
-ghost use Rattle.upstream_link.specs.declared.fact.Fact as facts;
+ghost use Rattle.upstream_link.specs.declared.fact.Fact as told;
 ghost use Rattle.upstream_link.specs.Facts.{PlainFacts};
-ghost use Rattle.query_session.specs.Session.{after_fact, after_turn, awaiting, new_session, question_in as asks, turn_of};
+ghost use Rattle.query_session.specs.Session.{AsksAnew, after_fact, after_turn, awaiting, new_session, question_in as asks, turn_of};
 
 use crate::turns::turn_about;
 use dns_message::{Incoming, LEAST_LIMIT, Question, classify, write_message};
@@ -105,13 +105,21 @@ impl Session {
         }
     }
 
-    /// Takes the last fact back, so that the session waits for the answer to its question again: what undoes
-    /// [`give`](Session::give) where what was to follow can't be done.
-    pub fn take_back(&mut self)
-        ensures { (before : PlainFacts) (question : questions.Question) (fact : facts.Fact) →
-            self.old.facts ≡ before ++ (question, fact) ∷ [] → self.new ≡ awaiting self.old before question }
+    /// How many facts are known.
+    pub fn known(&self) -> usize
+        ensures { result ≡ length self.now.facts }
     {
-        if let Some((question, _fact)) = self.facts.pop() {
+        self.facts.len()
+    }
+
+    /// Takes back all facts but the first `count`, so that the session waits for the answer to the question of the next one
+    /// again: what undoes [`give`](Session::give) where what was to follow can't be done.
+    pub fn take_back(&mut self, count: usize)
+        ensures { (before after : PlainFacts) (question : questions.Question) (fact : told.Fact) →
+            self.old.facts ≡ before ++ (question, fact) ∷ after → length before ≡ count →
+            self.new ≡ awaiting self.old before question }
+    {
+        if let Some(question) = take_from(&mut self.facts, count) {
             self.asked = Some(question);
         }
     }
@@ -131,22 +139,30 @@ impl Session {
     }
 }
 
+// Takes all facts out but the first `count`, and gives the question of the first of them.
+fn take_from(facts: &mut Facts, count: usize) -> Option<Question>
+    ensures taken { (before after : PlainFacts) (question : questions.Question) (fact : told.Fact) →
+        facts.old ≡ before ++ (question, fact) ∷ after → length before ≡ count →
+        (facts.new ≡ before) × (result ≡ Some question) }
+    ensures anew { AsksAnew facts.new result }
+    ensures none { result ≡ None → facts.new ≡ facts.old }
+{
+    if count >= facts.len() {
+        return None;
+    }
+    facts.truncate(count + 1);
+    match facts.pop() {
+        Some((question, _fact)) => Some(question),
+        None => None,
+    }
+}
+
 // What a turn asks for.
 fn asked_in(turn: &Turn) -> Result<Option<Question>, AllocError>
     ensures { IfOk result (λ question. question ≡ asks turn.now) }
 {
     match turn {
-        Turn::Ask(question) => Ok(Some(copied(question)?)),
+        Turn::Ask(question) => Ok(Some(question.clone()?)),
         Turn::Said(_) => Ok(None),
     }
-}
-
-fn copied(question: &Question) -> Result<Question, AllocError>
-    ensures { IfOk result (λ copy. copy ≡ question.now) }
-{
-    Ok(Question {
-        name: question.name.clone()?,
-        qtype: question.qtype,
-        qclass: question.qclass,
-    })
 }
