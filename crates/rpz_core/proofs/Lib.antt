@@ -5,3 +5,5 @@ pub mod Slots
 pub mod Flags
 pub mod Transfers
 pub mod Settled
+pub mod Turns
+pub mod Answered

@@ -1,21 +1,19 @@
 -- What an event that isn't refused outputs, and what it leaves.
-use Rattle.std.proofs.Common.{◌≡◌, ℕ, ◌-◌, ◌↔◌, true, List, [], ◌∷◌, ◌++◌, Option, Some, None, Result, Ok, Err, length, refl, sym, ap, subst}
+use Rattle.std.proofs.Common.{◌≡◌, ℕ, ◌-◌, ◌↔◌, true, List, [], Option, Some, None, Result, Ok, Err, length, refl, sym, ap, ◌∙◌, subst}
 use Rattle.std.specs.Prelude.{slice_get}
 use Rattle.std.proofs.lemmas.List.{length-set}
-use Rattle.dns_message.specs.declared.question.Question.{Question}
 use Rattle.dns_message.specs.declared.request.Incoming.{Incoming}
 use Rattle.dns_message.specs.Request.{incoming_of}
 use Rattle.zone_rows.specs.declared.zone.PlainZone.{PlainZone}
 use Rattle.upstream_link.specs.declared.fact.Fact.{Fact}
 use Rattle.upstream_link.specs.declared.fact.Fact.TheVariants.{Broken}
 use Rattle.upstream_link.specs.declared.fact.Why.TheVariants.{Failed}
-use Rattle.upstream_link.specs.Fact.{fact_from}
 use Rattle.upstream_link.specs.Facts.{PlainFacts}
+use Rattle.upstream_link.specs.Vouched.{fact_at}
 use Rattle.policy_snapshot.specs.Policy.{PlainPolicy, zone_at}
 use Rattle.reply_build.specs.declared.said.Said.TheVariants as said
 use Rattle.reply_build.specs.declared.turn.Turn.{Turn}
 use Rattle.reply_build.specs.declared.turn.Turn.TheVariants.{Ask, Said}
-use Rattle.query_session.specs.Session.{turn_by}
 use Rattle.rpz_core.specs.declared.event.CoreFault.{CoreFault}
 use Rattle.rpz_core.specs.declared.event.Event.{Event}
 use Rattle.rpz_core.specs.declared.event.Event.TheVariants.{Transfer, Full, Query, Give, Fail, Clock}
@@ -24,8 +22,9 @@ use Rattle.rpz_core.specs.declared.event.Output.TheVariants as output
 use Rattle.rpz_core.specs.Faults.{IsQuiet}
 use Rattle.rpz_core.specs.Marks.{mark_at, with_mark}
 use Rattle.rpz_core.specs.Offer.{Offer, takes, is_current, refuses, offer, offer_output}
-use Rattle.rpz_core.specs.Sessions.{PendingQuery, SessionsState, turn_step, query_step, fact_step}
-use Rattle.rpz_core.specs.World.{World, policy_of, transfer_step, full_step, with_sessions, world_step}
+use Rattle.rpz_core.specs.Resolving.{Resolved, resolve}
+use Rattle.rpz_core.specs.Sessions.{PendingQuery, SessionsState, answered_step, caching, facts_with, learned_by, pending_step, query_step, resolved_step, resumed_step, turn_step, with_cached}
+use Rattle.rpz_core.specs.World.{World, clock_step, policy_of, transfer_step, full_step, with_sessions, world_step}
 
 -- the output says something
 abbrev Speaks : Output → Type 0
@@ -70,7 +69,7 @@ transfer_speaks w next number stream (Some zone) out e = subst (λ (g : World ×
 full_is : (w next : World) (number : ℕ) (zone : Option PlainZone) (out : Output) → full_step w number zone ≡ Ok (next, out) → Keeps w next × (out ≡ output.None)
 full_is w next number None out e = absurd (refused _ next out e)
 full_is w next number (Some zone) out e =
-    let same = given (record { origins = w.origins; accepted = w.accepted; marks = with_mark w.marks number true; sessions = w.sessions }, output.None) next out e in (
+    let same = given (record { origins = w.origins; accepted = w.accepted; marks = with_mark w.marks number true; sessions = w.sessions; clock = w.clock }, output.None) next out e in (
       subst (λ (g : World × Output). Keeps w g.0) same (record { origins = refl; marks = length-set w.marks (number - 1) true; workers = refl }),
       sym (ap (λ (g : World × Output). g.1) same),
     )
@@ -86,34 +85,46 @@ turn_speaks s worker policy incoming facts (Ask question) = tt
 turn_speaks s worker policy incoming facts (Said (said.Reply octets)) = tt
 turn_speaks s worker policy incoming facts (Said said.Silent) = tt
 
--- what a turn gave, in a world
-turn_does : (w next : World) (worker : ℕ) (policy : PlainPolicy) (incoming : Incoming) (facts : PlainFacts) (out : Output)
-    → with_sessions w (Ok (turn_step w.sessions worker policy incoming facts (turn_by policy incoming facts))) ≡ Ok (next, out) → Keeps w next × Speaks out
-turn_does w next worker policy incoming facts out e =
-    let turn = turn_by policy incoming facts in
+-- what the turns of a query gave, in a world whose sessions were these
+turn_does : (w next : World) (s : SessionsState) (worker : ℕ) (policy : PlainPolicy) (incoming : Incoming) (r : Resolved) (out : Output) → length s.workers ≡ length w.sessions.workers
+    → with_sessions w (Ok (resolved_step s worker policy incoming r)) ≡ Ok (next, out) → Keeps w next × Speaks out
+turn_does w next s worker policy incoming r out many e =
     let same = given _ next out e in (
-      subst (λ (g : World × Output). Keeps w g.0) same (record { origins = refl; marks = refl; workers = turn_length w.sessions worker policy incoming facts turn }),
-      subst (λ (g : World × Output). Speaks g.1) same (turn_speaks w.sessions worker policy incoming facts turn),
+      subst (λ (g : World × Output). Keeps w g.0) same (record { origins = refl; marks = refl; workers = turn_length (with_cached s r.cached) worker policy incoming r.facts r.turn ∙ many }),
+      subst (λ (g : World × Output). Speaks g.1) same (turn_speaks (with_cached s r.cached) worker policy incoming r.facts r.turn),
     )
 
-query_does : (w next : World) (policy : PlainPolicy) (worker : ℕ) (incoming : Incoming) (slot : Option (Option PendingQuery)) (out : Output) → with_sessions w (query_step w.sessions policy worker incoming slot) ≡ Ok (next, out) → Keeps w next × Speaks out
+query_does : (w next : World) (policy : PlainPolicy) (worker : ℕ) (incoming : Incoming) (slot : Option (Option PendingQuery)) (out : Output) → with_sessions w (query_step w.clock w.sessions policy worker incoming slot) ≡ Ok (next, out) → Keeps w next × Speaks out
 query_does w next policy worker incoming None out e = absurd (refused _ next out e)
 query_does w next policy worker incoming (Some (Some pending)) out e = absurd (refused _ next out e)
-query_does w next policy worker incoming (Some None) out e = turn_does w next worker policy incoming [] out e
+query_does w next policy worker incoming (Some None) out e = turn_does w next w.sessions worker policy incoming (resolve w.clock policy incoming w.sessions.cached []) out refl e
 
-fact_does : (w next : World) (worker : ℕ) (fact : Question → ℕ → Fact) (slot : Option (Option PendingQuery)) (out : Output) → with_sessions w (fact_step w.sessions worker fact slot) ≡ Ok (next, out) → Keeps w next × Speaks out
-fact_does w next worker fact None out e = absurd (refused _ next out e)
-fact_does w next worker fact (Some None) out e = absurd (refused _ next out e)
-fact_does w next worker fact (Some (Some pending)) out e = turn_does w next worker pending.policy pending.incoming (pending.facts ++ (pending.question, fact pending.question pending.id) ∷ []) out e
+-- what comes for a pending query, whether it is cached or not
+resumed_does : (w next : World) (s : SessionsState) (worker : ℕ) (pending : PendingQuery) (fact : Fact) (out : Output) → length s.workers ≡ length w.sessions.workers
+    → with_sessions w (Ok (resumed_step w.clock s worker pending fact)) ≡ Ok (next, out) → Keeps w next × Speaks out
+resumed_does w next s worker pending fact out many e =
+    turn_does w next s worker pending.policy pending.incoming (resolve w.clock pending.policy pending.incoming s.cached (facts_with pending fact)) out many e
+
+answer_does : (w next : World) (worker : ℕ) (message : List ℕ) (slot : Option (Option PendingQuery)) (out : Output) → with_sessions w (pending_step (answered_step w.clock w.sessions worker message) slot) ≡ Ok (next, out) → Keeps w next × Speaks out
+answer_does w next worker message None out e = absurd (refused _ next out e)
+answer_does w next worker message (Some None) out e = absurd (refused _ next out e)
+answer_does w next worker message (Some (Some pending)) out e =
+    let entry = learned_by pending message w.clock in
+    resumed_does w next (caching w.sessions entry) worker pending (fact_at w.clock entry) out refl e
+
+failure_does : (w next : World) (worker : ℕ) (slot : Option (Option PendingQuery)) (out : Output) → with_sessions w (pending_step (λ pending. resumed_step w.clock w.sessions worker pending (Broken Failed)) slot) ≡ Ok (next, out) → Keeps w next × Speaks out
+failure_does w next worker None out e = absurd (refused _ next out e)
+failure_does w next worker (Some None) out e = absurd (refused _ next out e)
+failure_does w next worker (Some (Some pending)) out e = resumed_does w next w.sessions worker pending (Broken Failed) out refl e
 
 pub step_keeps : (w next : World) (e : Event) (out : Output) → world_step w e ≡ Ok (next, out) → Keeps w next
 unfolding world_step
 step_keeps w next (Transfer number stream) out is = transfer_keeps w next number stream (zone_at (policy_of w) number) out is
 step_keeps w next (Full number) out is = (full_is w next number (zone_at (policy_of w) number) out is).0
 step_keeps w next (Query worker transport client message) out is = (query_does w next (policy_of w) worker (incoming_of message client transport) (slice_get w.sessions.workers worker) out is).0
-step_keeps w next (Give worker message) out is = (fact_does w next worker (λ question id. fact_from message id question) (slice_get w.sessions.workers worker) out is).0
-step_keeps w next (Fail worker) out is = (fact_does w next worker (λ question id. Broken Failed) (slice_get w.sessions.workers worker) out is).0
-step_keeps w next (Clock seconds) out is = subst (λ (g : World × Output). Keeps w g.0) (given (w, output.None) next out is) (record { origins = refl; marks = refl; workers = refl })
+step_keeps w next (Give worker message) out is = (answer_does w next worker message (slice_get w.sessions.workers worker) out is).0
+step_keeps w next (Fail worker) out is = (failure_does w next worker (slice_get w.sessions.workers worker) out is).0
+step_keeps w next (Clock seconds) out is = subst (λ (g : World × Output). Keeps w g.0) (given (clock_step w seconds) next out is) (record { origins = refl; marks = refl; workers = refl })
 
 loud : (out : Output) → Speaks out → (out ≡ output.None) ↔ ⊥
 loud out h = (λ e. silent out h e, λ e. absurd e)
@@ -123,6 +134,6 @@ unfolding world_step
 step_outputs w next (Transfer number stream) out is = loud out (transfer_speaks w next number stream (zone_at (policy_of w) number) out is)
 step_outputs w next (Full number) out is = (λ _. tt, λ _. (full_is w next number (zone_at (policy_of w) number) out is).1)
 step_outputs w next (Query worker transport client message) out is = loud out (query_does w next (policy_of w) worker (incoming_of message client transport) (slice_get w.sessions.workers worker) out is).1
-step_outputs w next (Give worker message) out is = loud out (fact_does w next worker (λ question id. fact_from message id question) (slice_get w.sessions.workers worker) out is).1
-step_outputs w next (Fail worker) out is = loud out (fact_does w next worker (λ question id. Broken Failed) (slice_get w.sessions.workers worker) out is).1
-step_outputs w next (Clock seconds) out is = (λ _. tt, λ _. sym (ap (λ (g : World × Output). g.1) (given (w, output.None) next out is)))
+step_outputs w next (Give worker message) out is = loud out (answer_does w next worker message (slice_get w.sessions.workers worker) out is).1
+step_outputs w next (Fail worker) out is = loud out (failure_does w next worker (slice_get w.sessions.workers worker) out is).1
+step_outputs w next (Clock seconds) out is = (λ _. tt, λ _. sym (ap (λ (g : World × Output). g.1) (given (clock_step w seconds) next out is)))

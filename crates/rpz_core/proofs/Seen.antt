@@ -22,8 +22,8 @@ use Rattle.rpz_core.specs.State as core
 use Rattle.rpz_core.specs.State.{CoreState, state_of, seen, core_after_offer}
 use Rattle.rpz_core.specs.World.{World, policy_of, world_after_offer, transfer_step, full_step, with_sessions, world_step}
 
-state_with : List Bool → SessionsState → Output → PlainPolicy → ℕ → CoreState × Output
-state_with marks sessions out zones accepted = (record { policy = record { zones = zones; accepted = accepted }; marks = marks; sessions = sessions }, out)
+state_with : List Bool → SessionsState → ℕ → Output → PlainPolicy → ℕ → CoreState × Output
+state_with marks sessions now out zones accepted = (record { policy = record { zones = zones; accepted = accepted }; marks = marks; sessions = sessions; clock = now }, out)
 
 -- the marks after an offer
 abbrev marks_after : World → ℕ → PlainZone → Offer → List Bool
@@ -41,7 +41,7 @@ offer_seen w number zone stream (takes transfer next) at takes_it =
     let entry : Entry = record { zone = number; transfer = transfer } in
     let zones : slice_set (policy_of w) (number - 1) next ≡ policy_after w.origins (w.accepted ++ entry ∷ []) = sym (policy_next w.origins w.accepted number transfer zone next at is) in
     let count : next_count (count_of (length w.accepted)) ≡ count_of (length (w.accepted ++ entry ∷ [])) = count_after (length w.accepted) ∙ ap count_of (sym (length-append w.accepted (entry ∷ []))) in
-    λ i. state_with (marks_after w number zone (takes transfer next)) w.sessions (content_taken number next.content) (zones i) (count i)
+    λ i. state_with (marks_after w number zone (takes transfer next)) w.sessions w.clock (content_taken number next.content) (zones i) (count i)
 
 -- what is taken is what the zone can take
 outcome_takes : (zone : PlainZone) (t : transfers.Transfer) (r : Result PlainZone ApplyFault) → apply_outcome zone t ≡ r → (transfer : transfers.Transfer) (next : PlainZone) → offer_by_outcome t r ≡ takes transfer next
@@ -75,7 +75,7 @@ pub step_seen : (w : World) (e : Event) → core.core_step (state_of w) e ≡ se
 unfolding core.core_step world_step
 step_seen w (Transfer number stream) = transfer_seen w number stream (zone_at (policy_of w) number) refl
 step_seen w (Full number) = full_seen w number (zone_at (policy_of w) number)
-step_seen w (Query worker transport client message) = sessions_seen w (take_query w.sessions (policy_of w) worker transport client message)
-step_seen w (Give worker message) = sessions_seen w (take_answer w.sessions worker message)
-step_seen w (Fail worker) = sessions_seen w (take_failure w.sessions worker)
+step_seen w (Query worker transport client message) = sessions_seen w (take_query w.clock w.sessions (policy_of w) worker transport client message)
+step_seen w (Give worker message) = sessions_seen w (take_answer w.clock w.sessions worker message)
+step_seen w (Fail worker) = sessions_seen w (take_failure w.clock w.sessions worker)
 step_seen w (Clock seconds) = refl

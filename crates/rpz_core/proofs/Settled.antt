@@ -18,17 +18,17 @@ use Rattle.rpz_core.proofs.Slots.{zone_set}
 -- the core after an offer
 abbrev after : CoreState → ℕ → Bool → Wanted → Offer → CoreState × Output
 after core number marked wanted o =
-    (record { policy = policy_by_offer core.policy number o; marks = with_mark core.marks number (mark_after marked wanted o); sessions = core.sessions }, offer_output number o)
+    (record { policy = policy_by_offer core.policy number o; marks = with_mark core.marks number (mark_after marked wanted o); sessions = core.sessions; clock = core.clock }, offer_output number o)
 
 same_after : (core : CoreState) (number : ℕ) (marked : Bool) (wanted : Wanted) (zone : PlainZone) (o : Offer) (offered : Offered) → zone_at core.policy.zones number ≡ Some zone → IsOffer offered core.policy number o
     → core_by_offered core number (offered_mark marked wanted offered) offered ≡ after core number marked wanted o
 same_after core number marked wanted zone (takes transfer z) (Takes next) at e =
     let there : zone_at next.zones number ≡ Some z = ap (λ (p : PlainSnapshot). zone_at p.zones number) e ∙ zone_set core.policy.zones number zone z at in
-    λ i. (record { policy = e i; marks = with_mark core.marks number false; sessions = core.sessions }, ap (zone_taken number) there i)
+    λ i. (record { policy = e i; marks = with_mark core.marks number false; sessions = core.sessions; clock = core.clock }, ap (zone_taken number) there i)
 same_after core number marked wanted zone (is_current theirs) (Current serial) at e =
-    λ i. (record { policy = core.policy; marks = with_mark core.marks number false; sessions = core.sessions }, output.Current number (e i))
+    λ i. (record { policy = core.policy; marks = with_mark core.marks number false; sessions = core.sessions; clock = core.clock }, output.Current number (e i))
 same_after core number marked wanted zone (refuses refusal) (Refuses why) at e =
-    λ i. (record { policy = core.policy; marks = with_mark core.marks number (mark_after marked wanted (refuses refusal)); sessions = core.sessions }, output.Refused number (e i))
+    λ i. (record { policy = core.policy; marks = with_mark core.marks number (mark_after marked wanted (refuses refusal)); sessions = core.sessions; clock = core.clock }, output.Refused number (e i))
 same_after core number marked wanted zone (takes transfer z) (Current serial) at e = absurd e
 same_after core number marked wanted zone (takes transfer z) (Refuses why) at e = absurd e
 same_after core number marked wanted zone (is_current theirs) (Takes next) at e = absurd e

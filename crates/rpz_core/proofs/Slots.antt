@@ -5,15 +5,15 @@ use Rattle.std.specs.declared.alloc.AllocError.{AllocError}
 use Rattle.dns_message.specs.declared.request.Incoming.{Incoming}
 use Rattle.upstream_link.specs.declared.fact.Fact.{Fact}
 use Rattle.upstream_link.specs.Facts.{PlainFacts}
+use Rattle.upstream_link.specs.Vouched.{PlainLearned, fact_at}
 use Rattle.policy_snapshot.specs.Policy.{PlainPolicy, zone_at}
 use Rattle.zone_rows.specs.declared.zone.PlainZone.{PlainZone}
 use Rattle.reply_build.specs.declared.turn.Turn.{Turn}
 use Rattle.reply_build.specs.declared.turn.Turn.TheVariants.{Ask, Said}
-use Rattle.query_session.specs.Session.{turn_by}
 use Rattle.rpz_core.specs.declared.event.Output.{Output}
-use Rattle.rpz_core.specs.Pending.{facts_with}
-use Rattle.rpz_core.specs.Sessions.{PendingQuery, SessionsState, next_turn, turn_step}
-use Rattle.rpz_core.specs.State.{Turns, TurnsOrPutsBack}
+use Rattle.rpz_core.specs.Resolving.{resolve}
+use Rattle.rpz_core.specs.Sessions.{PendingQuery, SessionsState, caching, facts_with, resumed_step, turn_step, uncached, with_cached}
+use Rattle.rpz_core.specs.State.{TurnsBare, TurnsOrPutsBack}
 
 module _ {X : Type 0} where
   pub set_set : (xs : List X) (i : ℕ) (a b : X) → slice_set (slice_set xs i a) i b ≡ slice_set xs i b
@@ -38,26 +38,39 @@ module _ {X : Type 0} where
 
 -- the sessions with an empty place
 abbrev pub emptied : SessionsState → ℕ → SessionsState
-emptied s worker = record { workers = slice_set s.workers worker None; last_id = s.last_id }
+emptied s worker = record { workers = slice_set s.workers worker None; last_id = s.last_id; cached = s.cached }
 
 turn_emptied : (s : SessionsState) (worker : ℕ) (policy : PlainPolicy) (incoming : Incoming) (facts : PlainFacts) (turn : Turn) → turn_step (emptied s worker) worker policy incoming facts turn ≡ turn_step s worker policy incoming facts turn
 turn_emptied s worker policy incoming facts (Ask question) =
-    ap (λ (ws : List (Option PendingQuery)). let p : SessionsState × Output = (record { workers = ws; last_id = (turn_step s worker policy incoming facts (Ask question)).0.last_id }, (turn_step s worker policy incoming facts (Ask question)).1) in p) (set_set s.workers worker None _)
+    ap (λ (ws : List (Option PendingQuery)). let p : SessionsState × Output = (record { workers = ws; last_id = (turn_step s worker policy incoming facts (Ask question)).0.last_id; cached = s.cached }, (turn_step s worker policy incoming facts (Ask question)).1) in p) (set_set s.workers worker None _)
 turn_emptied s worker policy incoming facts (Said out) =
-    ap (λ (ws : List (Option PendingQuery)). let p : SessionsState × Output = (record { workers = ws; last_id = s.last_id }, (turn_step s worker policy incoming facts (Said out)).1) in p) (set_set s.workers worker None None)
+    ap (λ (ws : List (Option PendingQuery)). let p : SessionsState × Output = (record { workers = ws; last_id = s.last_id; cached = s.cached }, (turn_step s worker policy incoming facts (Said out)).1) in p) (set_set s.workers worker None None)
+
+next_emptied : (now : ℕ) (s : SessionsState) (worker : ℕ) (pending : PendingQuery) (fact : Fact) → resumed_step now (emptied s worker) worker pending fact ≡ resumed_step now s worker pending fact
+next_emptied now s worker pending fact =
+    let r = resolve now pending.policy pending.incoming s.cached (facts_with pending fact) in
+    turn_emptied (with_cached s r.cached) worker pending.policy pending.incoming r.facts r.turn
 
 -- a query that was taken out, and then made its turn
-pub resumed : (s new : SessionsState) (worker : ℕ) (pending taken : PendingQuery) (fact : Fact) (result : Result Output AllocError) → slice_get s.workers worker ≡ Some (Some pending) → Some taken ≡ slice_index_or s.workers worker None
-    → TurnsOrPutsBack worker taken (next_turn (emptied s worker) worker taken.policy taken.incoming (facts_with taken fact)) result (emptied s worker) new
-    → Turns (next_turn s worker pending.policy pending.incoming (facts_with pending fact)) result s new
-resumed s new worker pending taken fact (Ok out) at is turns =
+pub resumed : (now : ℕ) (s new : SessionsState) (worker : ℕ) (pending taken : PendingQuery) (fact : Fact) (result : Result Output AllocError) → slice_get s.workers worker ≡ Some (Some pending) → Some taken ≡ slice_index_or s.workers worker None
+    → TurnsOrPutsBack worker taken (resumed_step now (emptied s worker) worker taken fact) result (emptied s worker) new
+    → TurnsBare uncached (resumed_step now s worker pending fact) result s new
+resumed now s new worker pending taken fact (Ok out) at is turns =
     let same : taken ≡ pending = let e : Some taken ≡ Some pending = is ∙ get_index s.workers worker (Some pending) None at in cc in
-    ap (λ (p : PendingQuery). next_turn s worker p.policy p.incoming (facts_with p fact)) (sym same)
-    ∙ sym (turn_emptied s worker taken.policy taken.incoming (facts_with taken fact) (turn_by taken.policy taken.incoming (facts_with taken fact)))
+    ap (λ (p : PendingQuery). resumed_step now s worker p fact) (sym same)
+    ∙ sym (next_emptied now s worker taken fact)
     ∙ turns
-resumed s new worker pending taken fact (Err e) at is turns =
+resumed now s new worker pending taken fact (Err e) at is turns =
     let same : Some taken ≡ Some pending = is ∙ get_index s.workers worker (Some pending) None at in
-    turns ∙ ap (λ (ws : List (Option PendingQuery)). let p : SessionsState = record { workers = ws; last_id = s.last_id } in p) (set_set s.workers worker None (Some taken) ∙ ap (slice_set s.workers worker) same ∙ set_same s.workers worker (Some pending) at)
+    turns ∙ ap (λ (ws : List (Option PendingQuery)). let p : SessionsState = record { workers = ws; last_id = s.last_id; cached = [] } in p) (set_set s.workers worker None (Some taken) ∙ ap (slice_set s.workers worker) same ∙ set_same s.workers worker (Some pending) at)
+
+-- a query that got what was learned for it, which was cached
+pub resumed_learned : (now : ℕ) (s mid new : SessionsState) (worker : ℕ) (pending : PendingQuery) (entry : PlainLearned) (fact : Fact) (result : Result Output AllocError) → mid ≡ caching s entry → fact ≡ fact_at now entry
+    → TurnsBare uncached (resumed_step now mid worker pending fact) result mid new
+    → TurnsBare uncached (resumed_step now (caching s entry) worker pending (fact_at now entry)) result s new
+resumed_learned now s mid new worker pending entry fact (Ok out) is says turns =
+    (λ i. resumed_step now (sym is i) worker pending (sym says i)) ∙ turns
+resumed_learned now s mid new worker pending entry fact (Err e) is says turns = turns ∙ ap uncached is
 
 found_if : (b : Bool) (found : Option PlainZone) (zone : PlainZone) → (if b then None else found) ≡ Some zone → found ≡ Some zone
 found_if true found zone e = absurd cc

@@ -1,4 +1,6 @@
 pub mod Marks
+pub mod Resolving
+pub mod Answered
 pub mod Sessions
 pub mod Offer
 pub mod World

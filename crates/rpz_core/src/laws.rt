@@ -1,6 +1,16 @@
 //! Laws of the world and its steps. Each function is its clauses, and does nothing.
 
-ghost use Rattle.std.specs.Prelude.{◌≡◌, ◌≢◌, ◌↔◌, ◌-◌, ℕ, List, length, Some, Ok, Err};
+ghost use Rattle.std.specs.Prelude.{◌≡◌, ◌≢◌, ◌↔◌, ◌-◌, ℕ, List, length, Some, None, Ok, Err};
+ghost use Rattle.answer_cache.specs.Recent.{HaveSameEntries, found};
+ghost use Rattle.dns_message.specs.declared.question.Question.{Question};
+ghost use Rattle.dns_message.specs.declared.request.Incoming.{Incoming};
+ghost use Rattle.policy_snapshot.specs.Policy.{PlainPolicy};
+ghost use Rattle.query_session.specs.Session.{turn_by};
+ghost use Rattle.reply_build.specs.declared.turn.Turn.TheVariants.{Ask};
+ghost use Rattle.rpz_core.specs.Answered.{AreAnswered};
+ghost use Rattle.rpz_core.specs.Resolving.{resolve};
+ghost use Rattle.upstream_link.specs.Facts.{PlainFacts};
+ghost use Rattle.upstream_link.specs.Vouched.{PlainLearned};
 ghost use Rattle.rpz_core.specs.declared.event.CoreFault.{CoreFault};
 ghost use Rattle.rpz_core.specs.declared.event.Event.{Event};
 ghost use Rattle.rpz_core.specs.declared.event.Event.TheVariants.{Transfer};
@@ -51,4 +61,20 @@ pub fn a_refused_transfer_changes_nothing_but_the_mark()
         mark_at next.marks other ≡ mark_at world.marks other }
     ensures pending { (world next : World) (number : ℕ) (stream : List ℕ) (out : Output) →
         world_step world (Transfer number stream) ≡ Ok (next, out) → next.sessions ≡ world.sessions }
+{}
+
+/// The turns of a query at a second, where live entries of the cache answer what it asks: what is done in the end is what is done
+/// by what is known then. That is what was known, and behind it only what live entries say about what was asked. What is asked in
+/// the end has no live entry. The entries are the same, in whatever order.
+pub fn the_cache_answers_before_the_upstream()
+    ensures turn { (now : ℕ) (policy : PlainPolicy) (incoming : Incoming) (cached : List PlainLearned) (facts : PlainFacts) →
+        let r = resolve now policy incoming cached facts in
+        r.turn ≡ turn_by policy incoming r.facts }
+    ensures known { (now : ℕ) (policy : PlainPolicy) (incoming : Incoming) (cached : List PlainLearned) (facts : PlainFacts) →
+        AreAnswered now policy incoming cached facts (resolve now policy incoming cached facts).facts }
+    ensures asked { (now : ℕ) (policy : PlainPolicy) (incoming : Incoming) (cached : List PlainLearned) (facts : PlainFacts)
+        (question : Question) → let r = resolve now policy incoming cached facts in
+        r.turn ≡ Ask question → found question now r.cached ≡ None }
+    ensures entries { (now : ℕ) (policy : PlainPolicy) (incoming : Incoming) (cached : List PlainLearned) (facts : PlainFacts) →
+        HaveSameEntries (resolve now policy incoming cached facts).cached cached }
 {}

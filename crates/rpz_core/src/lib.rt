@@ -8,6 +8,7 @@ mod marks;
 mod offer;
 mod pending;
 mod policy_core;
+mod resolving;
 mod sessions;
 
 pub use event::{CoreError, CoreFault, Event, Output, Refusal};

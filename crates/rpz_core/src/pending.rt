@@ -3,6 +3,7 @@
 ghost use Rattle.std.specs.Prelude.{◌≡◌};
 ghost use Rattle.rpz_core.specs.Pending.{Resumes, TakesTurn};
 
+use crate::resolving::{Cache, resolve};
 use dns_message::Question;
 use dns_name::Octets;
 use query_session::Session;
@@ -39,15 +40,19 @@ pub(crate) enum NextMessage {
     Said(Said),
 }
 
-/// The next turn of a session. Where it asks, its message has this ID. An `Err` leaves what the session knows.
+/// What a session asks at a second that no live entry of the cache answers, in a message of this ID, or what is said. An `Err`
+/// leaves what the session knew, and maybe more.
 pub(crate) fn next_message(
     alloc: Global,
+    cache: &mut Cache,
     session: &mut Session,
     id: u16,
+    now: u32,
 ) -> Result<NextMessage, AllocError>
-    ensures { TakesTurn id result session.old session.new }
+    ensures turns { TakesTurn now id result cache.old cache.new session.old session.new }
+    ensures limit { cache.new.limit ≡ cache.old.limit }
 {
-    match session.turn()? {
+    match resolve(alloc, cache, session, now)? {
         Turn::Ask(question) => {
             let message = question_bytes(alloc, id, &question)?;
             Ok(NextMessage::Ask { question, message })
@@ -66,16 +71,25 @@ pub(crate) enum Resumed {
 }
 
 impl Pending {
-    /// The query once it has the fact that it waits for. Where it asks again, its message has this ID. An `Err` (out of memory)
-    /// gives the query back as it was.
-    pub(crate) fn resume(self, alloc: Global, fact: Fact, id: u16) -> Result<Resumed, Pending>
-        ensures { Resumes id fact self result }
+    /// The query at a second, once it has the fact that it waits for: live entries of the cache answer what it asks then. Where it
+    /// asks again, its message has this ID. An `Err` (out of memory) gives the query back as it was.
+    pub(crate) fn resume(
+        self,
+        alloc: Global,
+        cache: &mut Cache,
+        fact: Fact,
+        id: u16,
+        now: u32,
+    ) -> Result<Resumed, Pending>
+        ensures turns { Resumes now id fact self cache.old cache.new result }
+        ensures limit { cache.new.limit ≡ cache.old.limit }
     {
         let Pending {
             mut session,
             question: asked,
             id: asked_id,
         } = self;
+        let known = session.known();
         if session.give(fact).is_err() {
             return Err(Pending {
                 session,
@@ -83,7 +97,7 @@ impl Pending {
                 id: asked_id,
             });
         }
-        match next_message(alloc, &mut session, id) {
+        match next_message(alloc, cache, &mut session, id, now) {
             Ok(NextMessage::Ask { question, message }) => {
                 let pending = Pending {
                     session,
@@ -94,7 +108,7 @@ impl Pending {
             }
             Ok(NextMessage::Said(said)) => Ok(Resumed::Said(said)),
             Err(_) => {
-                session.take_back();
+                session.take_back(known);
                 Err(Pending {
                     session,
                     question: asked,

@@ -4,7 +4,7 @@ ghost use Rattle.std.specs.Prelude.{◌≡◌, ◌≤◌, length, map, IfOk, is_
 ghost use Rattle.zone_rows.specs.declared.zone.TheConstants.{ZONE_LIMIT};
 ghost use Rattle.policy_snapshot.specs.Policy.{zone_at};
 ghost use Rattle.rpz_core.specs.Offered.{core_by_offered};
-ghost use Rattle.rpz_core.specs.State.{Steps, Turns, core_step, full_step, new_core, seen, state_of, transfer_step};
+ghost use Rattle.rpz_core.specs.State.{Steps, StepsBare, TurnsBare, core_step, uncached_core, full_step, new_core, seen, state_of, transfer_step};
 ghost use Rattle.rpz_core.specs.World.{World, world_step};
 
 use crate::event::{CoreError, CoreFault, Event, Output};
@@ -18,14 +18,16 @@ use std::alloc::{AllocError, Global};
 use std::marker::Model;
 use std::sync::Arc;
 
-/// The policy as it is, which of its zones are asked for whole next, and the workers with their pending queries. Contracts see
-/// these; a pending query holds the policy that it came under, which stays as it is when a transfer is taken.
+/// The policy as it is, which of its zones are asked for whole next, the workers with their pending queries, one cache for all of
+/// them, and the clock. Contracts see these; a pending query holds the policy that it came under, which stays as it is when a
+/// transfer is taken.
 #[derive(Drop)]
 pub struct Core {
     alloc: Global,
     policy: Arc<Snapshot, Global>,
     marks: Marks,
     sessions: Sessions,
+    clock: u32,
 }
 
 impl Model for Core {
@@ -33,7 +35,7 @@ impl Model for Core {
 
     ghost Value = { CoreState };
 
-    ghost view = { λ c. record { policy = c.policy.value; marks = c.marks; sessions = c.sessions } };
+    ghost view = { λ c. record { policy = c.policy.value; marks = c.marks; sessions = c.sessions; clock = c.clock } };
 }
 
 impl Core {
@@ -50,6 +52,7 @@ impl Core {
             policy,
             marks,
             sessions,
+            clock: 0,
         })
     }
 
@@ -68,20 +71,34 @@ impl Core {
     }
 
     /// What an event does, and what it outputs: each event but Full and Clock outputs something. A fault leaves the core as it
-    /// was, and so does an event for which memory doesn't suffice.
+    /// was. So does an event for which memory doesn't suffice, but that the cache is then empty, which gives memory back.
     pub fn step(&mut self, event: Event) -> Result<Output, CoreError>
         ensures core { Steps (core_step self.old event) result self.old self.new }
         ensures world { (world : World) → self.old ≡ state_of world →
             Steps (seen (world_step world event)) result self.old self.new }
     {
         the_core_does_what_the_world_does();
-        self.take_event(event)
+        self.take_or_empty(event)
+    }
+
+    // What an event does. Out of memory, the cache is emptied.
+    fn take_or_empty(&mut self, event: Event) -> Result<Output, CoreError>
+        ensures { Steps (core_step self.old event) result self.old self.new }
+    {
+        match self.take_event(event) {
+            Ok(output) => Ok(output),
+            Err(CoreError::Fault(fault)) => Err(CoreError::Fault(fault)),
+            Err(CoreError::OutOfMemory) => {
+                self.sessions.empty_cache();
+                Err(CoreError::OutOfMemory)
+            }
+        }
     }
 
     // What an event does to the state of the core.
     #[tactic(auto, unfolding(crate::specs::State::core_step))]
     fn take_event(&mut self, event: Event) -> Result<Output, CoreError>
-        ensures { Steps (core_step self.old event) result self.old self.new }
+        ensures { StepsBare uncached_core (core_step self.old event) result self.old self.new }
     {
         match event {
             Event::Transfer { zone, stream } => self.take_transfer(zone, stream),
@@ -93,6 +110,7 @@ impl Core {
                 message,
             } => self.sessions.take_query(
                 self.alloc,
+                self.clock,
                 &self.policy,
                 worker,
                 transport,
@@ -100,16 +118,20 @@ impl Core {
                 message.as_slice(),
             ),
             Event::Give { worker, message } => {
-                self.sessions.take_answer(self.alloc, worker, message)
+                self.sessions
+                    .take_answer(self.alloc, self.clock, worker, message)
             }
-            Event::Fail { worker } => self.sessions.take_failure(self.alloc, worker),
-            Event::Clock { .. } => Ok(Output::None),
+            Event::Fail { worker } => self.sessions.take_failure(self.alloc, self.clock, worker),
+            Event::Clock { seconds } => {
+                self.clock = seconds;
+                Ok(Output::None)
+            }
         }
     }
 
     // The zone of this number is to be transferred in full next.
     fn full(&mut self, number: u32) -> Result<Output, CoreError>
-        ensures { Steps (full_step self.old number (zone_at self.old.policy.zones number)) result self.old self.new }
+        ensures { StepsBare uncached_core (full_step self.old number (zone_at self.old.policy.zones number)) result self.old self.new }
     {
         match self.policy.zone(number) {
             None => Err(CoreError::Fault(CoreFault::NoZone)),
@@ -122,7 +144,7 @@ impl Core {
 
     // A stream comes as the transfer of the zone of this number.
     fn take_transfer(&mut self, number: u32, stream: Octets) -> Result<Output, CoreError>
-        ensures { Steps (transfer_step self.old number stream (zone_at self.old.policy.zones number)) result self.old self.new }
+        ensures { StepsBare uncached_core (transfer_step self.old number stream (zone_at self.old.policy.zones number)) result self.old self.new }
     {
         let marked = self.marks.get(number);
         let Some(zone) = self.policy.zone(number) else {
@@ -136,7 +158,7 @@ impl Core {
 
     // What was offered to the zone of this number is done, and the zone is marked afterwards or isn't.
     fn settle(&mut self, number: u32, mark: bool, offered: Offered) -> Result<Output, AllocError>
-        ensures { Turns (core_by_offered self.old number mark offered) result self.old self.new }
+        ensures { TurnsBare uncached_core (core_by_offered self.old number mark offered) result self.old self.new }
     {
         let output = offered.output(number);
         match offered {

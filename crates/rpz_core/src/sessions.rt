@@ -2,43 +2,49 @@
 
 ghost use Rattle.std.specs.Prelude.{◌≡◌, map, true, Some, None, IfOk, is_some, slice_get, slice_index_or, slice_set};
 ghost use Rattle.rpz_core.specs.declared.event.Output.TheVariants as out;
-ghost use Rattle.rpz_core.specs.Pending.{facts_with};
-ghost use Rattle.rpz_core.specs.Sessions.{PendingQuery, next_turn, no_sessions, said_output, take_answer, take_failure, take_query, with_worker};
-ghost use Rattle.rpz_core.specs.State.{Steps, Turns, TurnsOrPutsBack};
+ghost use Rattle.rpz_core.specs.Sessions.{PendingQuery, answered_step, caching, learned_by, next_turn, no_sessions, resumed_step, said_output, take_answer, take_failure, take_query, uncached, with_worker};
+ghost use Rattle.rpz_core.specs.State.{StepsBare, TurnsBare, TurnsOrPutsBack};
+ghost use Rattle.upstream_link.specs.Vouched.{fact_at};
 
 use crate::event::{CoreError, CoreFault, Output};
 use crate::pending::{NextMessage, Pending, Resumed, next_message};
-use dns_message::Question;
+use crate::resolving::Cache;
+use answer_cache::{AnswerCache, MOST_ENTRIES};
 use dns_name::Octets;
+use edge_io::ListLink;
 use ip_prefix::{Addr, Transport};
 use policy_snapshot::Snapshot;
 use query_session::Session;
 use reply_build::Said;
 use std::alloc::{AllocError, Global};
+use std::hash::BuildHasherDefault;
 use std::marker::Model;
 use std::sync::Arc;
-use upstream_link::{Fact, Why, fact_of};
+use upstream_link::{Fact, Learned, Why};
 
 /// How many workers a core has; the first is worker 0.
 pub const WORKERS: usize = 16;
 
-/// The workers with their pending queries. Contracts see those, and the ID of the last question.
+/// The workers with their pending queries, and one cache for all of them. Contracts see the pending queries, the ID of the last
+/// question, and the entries of the cache.
 #[derive(Drop)]
 pub(crate) struct Sessions {
     workers: Vec<Option<Pending>>,
     last_id: u16,
+    cache: Cache,
 }
 
 impl Model for Sessions {
     ghost use Rattle.std.specs.Prelude.{◌≡◌, length};
+    ghost use Rattle.answer_cache.specs.declared.cache.TheConstants.{MOST_ENTRIES};
     ghost use Rattle.rpz_core.specs.declared.sessions.TheConstants.{WORKERS};
     ghost use Rattle.rpz_core.specs.Sessions.{SessionsState};
 
     ghost Value = { SessionsState };
 
-    ghost view = { λ s. record { workers = s.workers.items; last_id = s.last_id } };
+    ghost view = { λ s. record { workers = s.workers.items; last_id = s.last_id; cached = s.cache.entries } };
 
-    ghost invariant = { λ s. length s.workers.items ≡ WORKERS };
+    ghost invariant = { λ s. (length s.workers.items ≡ WORKERS) × (s.cache.limit ≡ MOST_ENTRIES) };
 }
 
 impl Sessions {
@@ -53,6 +59,7 @@ impl Sessions {
         Ok(Sessions {
             workers,
             last_id: 0,
+            cache: AnswerCache::open(alloc, MOST_ENTRIES, BuildHasherDefault::new())?,
         })
     }
 
@@ -67,17 +74,25 @@ impl Sessions {
         pending
     }
 
-    /// A message of a client comes to a worker, under this policy.
+    /// Drops all entries of the cache.
+    pub(crate) fn empty_cache(&mut self)
+        ensures { self.new ≡ uncached self.old }
+    {
+        self.cache.clear();
+    }
+
+    /// A message of a client comes to a worker at a second, under this policy.
     pub(crate) fn take_query(
         &mut self,
         alloc: Global,
+        now: u32,
         policy: &Arc<Snapshot, Global>,
         worker: u32,
         transport: Transport,
         client: Addr,
         message: &[u8],
     ) -> Result<Output, CoreError>
-        ensures { Steps (take_query self.old policy.now.value.zones worker transport client message.now) result self.old self.new }
+        ensures { StepsBare uncached (take_query now self.old policy.now.value.zones worker transport client message.now) result self.old self.new }
     {
         match self.workers.get(worker as usize) {
             None => Err(CoreError::Fault(CoreFault::NoWorker)),
@@ -85,22 +100,23 @@ impl Sessions {
             Some(None) => {
                 let policy = Arc::try_clone(policy)?;
                 let session = Session::start(alloc, policy, message, client, transport)?;
-                Ok(self.begin(alloc, worker, session)?)
+                Ok(self.begin(alloc, now, worker, session)?)
             }
         }
     }
 
-    // The first turn of a new session.
+    // The turns of a new session, until it asks what no live entry of the cache answers.
     fn begin(
         &mut self,
         alloc: Global,
+        now: u32,
         worker: u32,
         mut session: Session,
     ) -> Result<Output, AllocError>
-        ensures { Turns (next_turn self.old worker session.policy session.incoming session.facts) result self.old self.new }
+        ensures { TurnsBare uncached (next_turn now self.old worker session.policy session.incoming session.facts) result self.old self.new }
     {
         let id = self.last_id.wrapping_add(1);
-        match next_message(alloc, &mut session, id)? {
+        match next_message(alloc, &mut self.cache, &mut session, id, now)? {
             NextMessage::Ask { question, message } => {
                 let pending = Pending {
                     session,
@@ -135,43 +151,109 @@ impl Sessions {
         }
     }
 
-    /// These bytes come for the question that a worker asked.
+    /// These bytes come at a second for the question that a worker asked.
     pub(crate) fn take_answer(
         &mut self,
         alloc: Global,
+        now: u32,
         worker: u32,
         message: Octets,
     ) -> Result<Output, CoreError>
-        ensures { Steps (take_answer self.old worker message) result self.old self.new }
-    {
-        let fact = match self.workers.get(worker as usize) {
-            None => return Err(CoreError::Fault(CoreFault::NoWorker)),
-            Some(None) => return Err(CoreError::Fault(CoreFault::NotPending)),
-            Some(Some(pending)) => fact_of(alloc, message, pending.id, &pending.question)?,
-        };
-        Ok(self.resume(alloc, worker, fact)?)
-    }
-
-    /// Nothing comes for the question that a worker asked.
-    pub(crate) fn take_failure(&mut self, alloc: Global, worker: u32) -> Result<Output, CoreError>
-        ensures { Steps (take_failure self.old worker) result self.old self.new }
+        ensures { StepsBare uncached (take_answer now self.old worker message) result self.old self.new }
     {
         match self.workers.get(worker as usize) {
             None => Err(CoreError::Fault(CoreFault::NoWorker)),
             Some(None) => Err(CoreError::Fault(CoreFault::NotPending)),
-            Some(Some(_)) => Ok(self.resume(alloc, worker, Fact::Broken(Why::Failed))?),
+            Some(Some(_)) => Ok(self.resume_answered(alloc, now, worker, &message)?),
+        }
+    }
+
+    // These bytes come at a second for the question of a worker's pending query.
+    fn resume_answered(
+        &mut self,
+        alloc: Global,
+        now: u32,
+        worker: u32,
+        message: &Octets,
+    ) -> Result<Output, AllocError>
+        requires { (pending : PendingQuery) × (slice_get self.old.workers worker ≡ Some (Some pending)) }
+        ensures { (pending : PendingQuery) → slice_get self.old.workers worker ≡ Some (Some pending) →
+            TurnsBare uncached (answered_step now self.old worker message.now pending) result self.old self.new }
+    {
+        let learned = self.learned(alloc, now, worker, message)?;
+        self.resume_learned(alloc, now, worker, learned)
+    }
+
+    // What is learned by these bytes, which come at a second for the question of a worker's pending query.
+    fn learned(
+        &self,
+        alloc: Global,
+        now: u32,
+        worker: u32,
+        message: &Octets,
+    ) -> Result<Learned<ListLink>, AllocError>
+        requires { (pending : PendingQuery) × (slice_get self.now.workers worker ≡ Some (Some pending)) }
+        ensures learned { IfOk result (λ entry. (pending : PendingQuery) →
+            slice_get self.now.workers worker ≡ Some (Some pending) → entry ≡ learned_by pending message.now now) }
+        ensures moment { IfOk result (λ entry. entry.moment ≡ now) }
+    {
+        match self.workers.get(worker as usize) {
+            Some(Some(pending)) => {
+                Learned::given(alloc, pending.id, &pending.question, message, now)
+            }
+            _ => unreachable!(),
+        }
+    }
+
+    // A worker's pending query gets what was learned for it at this second, which is cached.
+    fn resume_learned(
+        &mut self,
+        alloc: Global,
+        now: u32,
+        worker: u32,
+        learned: Learned<ListLink>,
+    ) -> Result<Output, AllocError>
+        requires moment { learned.moment ≡ now }
+        requires pending { (pending : PendingQuery) × (slice_get self.old.workers worker ≡ Some (Some pending)) }
+        ensures { (pending : PendingQuery) → slice_get self.old.workers worker ≡ Some (Some pending) →
+            TurnsBare uncached (resumed_step now (caching self.old learned) worker pending (fact_at now learned)) result self.old self.new }
+    {
+        let fact = learned.fact(alloc, now)?;
+        self.cache.keep(alloc, learned)?;
+        self.resume(alloc, now, worker, fact)
+    }
+
+    /// Nothing comes for the question that a worker asked.
+    pub(crate) fn take_failure(
+        &mut self,
+        alloc: Global,
+        now: u32,
+        worker: u32,
+    ) -> Result<Output, CoreError>
+        ensures { StepsBare uncached (take_failure now self.old worker) result self.old self.new }
+    {
+        match self.workers.get(worker as usize) {
+            None => Err(CoreError::Fault(CoreFault::NoWorker)),
+            Some(None) => Err(CoreError::Fault(CoreFault::NotPending)),
+            Some(Some(_)) => Ok(self.resume(alloc, now, worker, Fact::Broken(Why::Failed))?),
         }
     }
 
     // A worker's pending query gets the fact that it waits for. An `Err` leaves it as it was.
-    fn resume(&mut self, alloc: Global, worker: u32, fact: Fact) -> Result<Output, AllocError>
+    fn resume(
+        &mut self,
+        alloc: Global,
+        now: u32,
+        worker: u32,
+        fact: Fact,
+    ) -> Result<Output, AllocError>
         requires { (pending : PendingQuery) × (slice_get self.old.workers worker ≡ Some (Some pending)) }
         ensures { (pending : PendingQuery) → slice_get self.old.workers worker ≡ Some (Some pending) →
-            Turns (next_turn self.old worker pending.policy pending.incoming (facts_with pending fact)) result self.old self.new }
+            TurnsBare uncached (resumed_step now self.old worker pending fact) result self.old self.new }
     {
         match take_slot(&mut self.workers, worker as usize) {
             None => unreachable!(),
-            Some(pending) => self.go_on(alloc, worker, pending, fact),
+            Some(pending) => self.go_on(alloc, now, worker, pending, fact),
         }
     }
 
@@ -179,13 +261,15 @@ impl Sessions {
     fn go_on(
         &mut self,
         alloc: Global,
+        now: u32,
         worker: u32,
         pending: Pending,
         fact: Fact,
     ) -> Result<Output, AllocError>
-        ensures { TurnsOrPutsBack worker pending (next_turn self.old worker pending.policy pending.incoming (facts_with pending fact)) result self.old self.new }
+        ensures { TurnsOrPutsBack worker pending (resumed_step now self.old worker pending fact) result self.old self.new }
     {
-        match pending.resume(alloc, fact, self.last_id.wrapping_add(1)) {
+        let id = self.last_id.wrapping_add(1);
+        match pending.resume(alloc, &mut self.cache, fact, id, now) {
             Ok(Resumed::Asks { message, pending }) => Ok(self.ask(worker, pending, message)),
             Ok(Resumed::Said(said)) => Ok(self.say(worker, said)),
             Err(pending) => {

@@ -34,7 +34,7 @@ state_seen (opening origins) = refl
 state_seen (running world) = ap (λ (n : ℕ). state.running n (map is_some world.sessions.workers)) (policy_length world.origins world.accepted)
 
 new_state : List (List (List ℕ)) → PlainPolicy → CoreState
-new_state origins zones = record { policy = record { zones = zones; accepted = 0 }; marks = no_marks origins; sessions = no_sessions }
+new_state origins zones = record { policy = record { zones = zones; accepted = 0 }; marks = no_marks origins; sessions = no_sessions; clock = 0 }
 
 -- the core begins, or runs, in the state of the world
 core_seen : (w : ScriptWorld) → core_in (stage_of w) ≡ state_of (world_in w)

@@ -10,7 +10,7 @@ use Rattle.rpz_core.proofs.policy_core.Core.take_transfer.Goals as goal
 
 pub returns : goal.returns
 returns c =
-    let core : CoreState = record { policy = arc_value c.self.inside.policy; marks = c.self.inside.marks; sessions = c.self.inside.sessions } in
+    let core : CoreState = record { policy = arc_value c.self.inside.policy; marks = c.self.inside.marks; sessions = c.self.inside.sessions; clock = c.self.inside.clock } in
     let n = c.args.number in
     let now = c.settle.new.self in
     let out = c.in_ok-settle.field-0 in
