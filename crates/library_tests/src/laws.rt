@@ -11,6 +11,9 @@ fn laws_do_nothing() {
     zone_rows::laws::a_step_takes_rows_out_and_puts_rows_in();
     zone_rows::laws::steps_are_taken_one_after_another();
     trigger_codec::laws::a_trigger_is_read_back();
+    upstream_link::laws::bytes_say_that_something_came();
+    answer_cache::laws::questions_of_one_key_are_alike();
+    answer_cache::laws::a_look_up_moves_an_entry_alone();
     policy_snapshot::laws::a_policy_takes_transfers_one_by_one();
     query_session::laws::a_reply_stands();
     query_session::laws::at_most_128_facts_bring_a_reply();
@@ -20,4 +23,5 @@ fn laws_do_nothing() {
     rpz_core::laws::an_event_has_one_output();
     rpz_core::laws::an_event_keeps_the_zones_and_the_workers();
     rpz_core::laws::a_refused_transfer_changes_nothing_but_the_mark();
+    rpz_core::laws::the_cache_answers_before_the_upstream();
 }

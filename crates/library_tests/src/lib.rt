@@ -4,6 +4,8 @@
 #![tactic(auto)]
 
 #[cfg(test)]
+mod caches;
+#[cfg(test)]
 mod edges;
 #[cfg(test)]
 mod frames;
@@ -11,6 +13,8 @@ mod frames;
 mod indexes;
 #[cfg(test)]
 mod laws;
+#[cfg(test)]
+mod links;
 #[cfg(test)]
 mod names;
 #[cfg(test)]

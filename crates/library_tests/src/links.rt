@@ -1,0 +1,104 @@
+//! What is learned over a link that fails, and what it says at its age.
+
+use dns_message::{Question, write_aged_records};
+use dns_name::{Name, Octets};
+use edge_io::ListLink;
+use std::alloc::Global;
+use std::test::Fail;
+use upstream_link::{Asked, Fact, Learned, ask};
+
+// The response to the question (x.example, A, IN) in a message of the ID 7: x.example 60 A 192.0.2.9 (RFC 1035, section 4.1).
+const RESPONSE: &[u8] =
+    b"\0\x07\x81\x80\0\x01\0\x01\0\0\0\0\x01x\x07example\0\0\x01\0\x01\x01x\x07example\0\0\x01\0\x01\0\0\0\x3c\0\x04\xc0\0\x02\x09";
+
+/// A question for the address of `x.example`.
+pub fn question(alloc: Global) -> Result<Question, Fail> {
+    Ok(Question {
+        name: Name::from_text(alloc, b"x.example")?,
+        qtype: 1,
+        qclass: 1,
+    })
+}
+
+// A link that gives the response so many times, and of which the call of this number fails.
+fn link(alloc: Global, count: usize, call: u64) -> Result<ListLink, Fail> {
+    let mut messages = Vec::new(alloc);
+    for _message in 0..count {
+        messages.push(Octets::from_slice(alloc, RESPONSE)?)?;
+    }
+    Ok(ListLink::new(messages, vec![in alloc; call]?))
+}
+
+// What is learned of the question at the second 100.
+fn asked(alloc: Global, link: &mut ListLink) -> Result<Option<Learned<ListLink>>, Fail> {
+    match ask(alloc, link, 7, &question(alloc)?, 100)? {
+        Asked::Learned(learned) => Ok(Some(learned)),
+        Asked::Failed => Ok(None),
+    }
+}
+
+/// What is learned of the question at the second 100, for 60 seconds.
+pub fn learned(alloc: Global) -> Result<Learned<ListLink>, Fail> {
+    match asked(alloc, &mut link(alloc, 1, 9)?)? {
+        Some(learned) => Ok(learned),
+        None => Err("something is learned".into()),
+    }
+}
+
+// Of four questions over a link with two responses, those of which something is learned.
+fn answered(alloc: Global, call: u64) -> Result<[bool; 4], Fail> {
+    let mut link = link(alloc, 2, call)?;
+    let mut answered = [false; 4];
+    for place in 0..4 {
+        answered[place] = asked(alloc, &mut link)?.is_some();
+    }
+    Ok(answered)
+}
+
+// A call that fails takes no message, and one for which no message is left fails.
+#[test]
+fn a_link_that_fails_is_told(rt: HostRuntime) -> Result<(), Fail> {
+    for (call, expected) in [
+        (0, [false, true, true, false]),
+        (1, [true, false, true, false]),
+        (2, [true, true, false, false]),
+        (3, [true, true, false, false]),
+        (9, [true, true, false, false]),
+    ] {
+        assert_eq!(rt; answered(rt.alloc(), call)?, expected, "the call {call}");
+    }
+    Ok(())
+}
+
+// RFC 2308, section 5: it may be told for 60 seconds from the second 100 on.
+#[test]
+fn what_is_learned_has_a_life(rt: HostRuntime) -> Result<(), Fail> {
+    let learned = learned(rt.alloc())?.copied()?;
+    assert_eq!(rt; learned.life(), 60);
+    for (now, live) in [(99, false), (100, true), (159, true), (160, false)] {
+        assert_eq!(rt; learned.is_live(now), live, "{now}");
+    }
+    Ok(())
+}
+
+// The records at a second at which they may be told.
+fn records(alloc: Global, learned: &Learned<ListLink>, now: u32) -> Result<Octets, Fail> {
+    let mut out = Octets::new(alloc);
+    if learned.is_live(now) {
+        if let Fact::Answer(answer) = learned.fact(alloc, now)? {
+            write_aged_records(&mut out, answer.answers(), answer.age())?;
+        }
+    }
+    Ok(out)
+}
+
+// At the age of 59 seconds 1 is left of the TTL of 60.
+#[test]
+fn records_age(rt: HostRuntime) -> Result<(), Fail> {
+    let records = records(rt.alloc(), &learned(rt.alloc())?, 159)?;
+    assert_eq!(rt;
+        records.as_slice(),
+        b"\x01x\x07example\0\0\x01\0\x01\0\0\0\x01\0\x04\xc0\0\x02\x09".as_slice()
+    );
+    Ok(())
+}
