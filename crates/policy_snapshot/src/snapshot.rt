@@ -51,10 +51,11 @@ impl Snapshot {
         Ok(Snapshot { zones, accepted: 0 })
     }
 
-    /// How many zones the policy has, at most 32.
+    /// How many zones the policy has, at most 32. Its clauses also say that the rows of each zone are rows.
     pub fn zone_count(&self) -> usize
         ensures count { result ≡ length self.now.zones }
         ensures limit { result ≤ ZONE_LIMIT }
+        ensures rows { HaveRows self.now.zones }
     {
         self.zones.len()
     }

@@ -4,3 +4,4 @@ pub mod FreshQuestions
 pub mod TurnCount
 pub mod FailureCauses
 pub mod StandingReply
+pub mod PassedName

@@ -14,8 +14,9 @@ use Rattle.reply_build.specs.declared.turn.Turn.{Turn}
 use Rattle.reply_build.specs.declared.turn.Turn.TheVariants.{Ask, Said}
 use Rattle.reply_build.specs.Reply.{reply}
 use Rattle.reply_build.specs.Verdict.{PlainVerdict, passes, fails, hits}
-use Rattle.policy_snapshot.specs.Next.{Next, ask, decided_by, no_hit, chain_too_long, next}
+use Rattle.policy_snapshot.specs.Next.{Next, ask, decided_by, no_hit, chain_too_long, next, next_at}
 use Rattle.policy_snapshot.specs.Policy.{PlainPolicy}
+use Rattle.policy_snapshot.specs.Rules.{rules}
 use Rattle.query_session.specs.State.{SessionState}
 
 -- the reply to a verdict, or the question that it needs
@@ -74,3 +75,13 @@ awaiting session facts question = record { policy = session.policy; incoming = s
 -- What a session has asked for isn't known yet, and there is room for it.
 abbrev pub AsksAnew : PlainFacts → Option Question → Type 0
 AsksAnew facts asked = IfSome asked (λ question. (fact_about facts question ≡ None) × (length facts < FACT_LIMIT))
+
+-- A query passes its own name: no rule is hit there, and nothing is pending there.
+abbrev pub PassesName : PlainPolicy → Query → PlainFacts → Type 0
+PassesName policy query facts = next_at (rules policy) query facts [] query.question.name ≡ None
+
+-- the same of a message that is a query
+abbrev pub IsPassed : PlainPolicy → Incoming → PlainFacts → Type 0
+IsPassed policy Silent facts = Unit {0}
+IsPassed policy (Refuse message) facts = Unit {0}
+IsPassed policy (Asks query) facts = PassesName policy query facts

@@ -1,16 +1,17 @@
 //! A session: one message of a client, from its coming to what is said.
 
-ghost use Rattle.std.specs.Prelude.{◌≡◌, ◌∷◌, [], ◌++◌, length, Some, None, IfOk, IsSome, OnOk, OnErr, option_copied, is_some};
+ghost use Rattle.std.specs.Prelude.{◌≡◌, ◌∷◌, [], true, ◌++◌, length, Some, None, IfOk, IsSome, OnOk, OnErr, option_copied, is_some};
 ghost use Rattle.dns_message.specs.declared.question.Question as questions;
 ghost use Rattle.dns_message.specs.Request.{incoming_of};
 ghost use Rattle.upstream_link.specs.declared.fact.Fact as told;
 ghost use Rattle.upstream_link.specs.Facts.{PlainFacts};
-ghost use Rattle.query_session.specs.Session.{AsksAnew, after_fact, after_turn, awaiting, new_session, question_in as asks, turn_of};
+ghost use Rattle.query_session.specs.Session.{AsksAnew, IsPassed, after_fact, after_turn, awaiting, new_session, question_in as asks, turn_of};
 
 use crate::turns::turn_about;
 use dns_message::{Incoming, LEAST_LIMIT, Question, classify, write_message};
 use ip_prefix::{Addr, Transport};
 use policy_snapshot::Snapshot;
+use policy_snapshot::laws::nothing_unasked_could_matter;
 use reply_build::{Said, Turn};
 use std::alloc::{AllocError, Global};
 use std::marker::Model;
@@ -26,17 +27,20 @@ pub struct Session {
     incoming: Incoming,
     facts: Facts,
     asked: Option<Question>,
+    // Whether it is known that the query passes its own name.
+    passed: bool,
 }
 
 impl Model for Session {
-    ghost use Rattle.query_session.specs.Session.{AsksAnew};
+    ghost use Rattle.std.specs.Prelude.{◌≡◌, true};
+    ghost use Rattle.query_session.specs.Session.{AsksAnew, IsPassed};
     ghost use Rattle.query_session.specs.State.{SessionState};
 
     ghost Value = { SessionState };
 
     ghost view = { λ s. record { policy = s.policy.value.zones; incoming = s.incoming; facts = s.facts; asked = s.asked } };
 
-    ghost invariant = { λ s. AsksAnew s.facts s.asked };
+    ghost invariant = { λ s. AsksAnew s.facts s.asked × (s.passed ≡ true → IsPassed s.policy.value.zones s.incoming s.facts) };
 }
 
 impl Session {
@@ -59,20 +63,24 @@ impl Session {
             incoming,
             facts: Facts::new(alloc),
             asked: None,
+            passed: false,
         })
     }
 
-    // What is done at this point.
-    fn next_turn(&self) -> Result<Turn, AllocError>
-        ensures { IfOk result (λ turn. turn ≡ turn_of self.now) }
+    // What is done at this point, and whether the query passes its own name.
+    fn next_turn(&self) -> Result<(Turn, bool), AllocError>
+        ensures turn { IfOk result (λ turn. turn.0 ≡ turn_of self.now) }
+        ensures passes { IfOk result (λ turn. turn.1 ≡ true → IsPassed self.now.policy self.now.incoming self.now.facts) }
     {
         match &self.incoming {
-            Incoming::Silent => Ok(Turn::Said(Said::Silent)),
+            Incoming::Silent => Ok((Turn::Said(Said::Silent), false)),
             Incoming::Refuse(message) => {
                 let reply = write_message(self.alloc, message, LEAST_LIMIT)?;
-                Ok(Turn::Said(Said::Reply(reply)))
+                Ok((Turn::Said(Said::Reply(reply)), false))
             }
-            Incoming::Query(query) => turn_about(self.alloc, &self.policy, query, &self.facts),
+            Incoming::Query(query) => {
+                turn_about(self.alloc, &self.policy, query, &self.facts, self.passed)
+            }
         }
     }
 
@@ -82,8 +90,9 @@ impl Session {
         ensures ok { OnOk result (self.new ≡ after_turn self.old) }
         ensures err { OnErr result (self.new ≡ self.old) }
     {
-        let turn = self.next_turn()?;
+        let (turn, passed) = self.next_turn()?;
         self.asked = asked_in(&turn)?;
+        self.passed = passed;
         Ok(turn)
     }
 
@@ -93,6 +102,9 @@ impl Session {
         ensures ok { OnOk result (self.new ≡ after_fact self.old fact) }
         ensures err { OnErr result (self.new ≡ self.old) }
     {
+        // what is wanted here: a name that the query passes it passes whatever facts come, since the rows of the zones are rows
+        nothing_unasked_could_matter();
+        let _zones = self.policy.zone_count();
         let Some(question) = self.asked.take() else {
             return Ok(());
         };
@@ -119,6 +131,7 @@ impl Session {
             self.old.facts ≡ before ++ (question, fact) ∷ after → length before ≡ count →
             self.new ≡ awaiting self.old before question }
     {
+        self.passed = false;
         if let Some(question) = take_from(&mut self.facts, count) {
             self.asked = Some(question);
         }

@@ -1,9 +1,9 @@
 //! What is done about a query at a point, by what is known.
 
-ghost use Rattle.std.specs.Prelude.{◌≡◌, ◌≤◌, length, take, drop, option_map, IfOk};
+ghost use Rattle.std.specs.Prelude.{◌≡◌, ◌≤◌, length, take, drop, true, option_map, IfOk};
 ghost use Rattle.policy_snapshot.specs.Next.{next, next_along, next_at, next_behind};
 ghost use Rattle.policy_snapshot.specs.Rules.{rules};
-ghost use Rattle.query_session.specs.Session.{turn_by_next, within_limit};
+ghost use Rattle.query_session.specs.Session.{PassesName, turn_by_next, within_limit};
 ghost use Rattle.upstream_link.specs.Facts.{fact_about};
 ghost use Rattle.upstream_link.specs.Question as questions;
 ghost use Rattle.upstream_link.specs.declared.aliases.TheConstants as limits;
@@ -15,18 +15,30 @@ use reply_build::{Turn, Verdict, build};
 use std::alloc::{AllocError, Global};
 use upstream_link::{FACT_LIMIT, Facts, chain, main_question};
 
-/// What is done about a query.
+/// What is done about a query, and whether it passes its own name: nothing is hit there, and nothing is pending. Where it is known
+/// to, the rules aren't looked at for that name.
 pub(crate) fn turn_about(
     alloc: Global,
     policy: &Snapshot,
     query: &Query,
     facts: &Facts,
-) -> Result<Turn, AllocError>
-    ensures { IfOk result (λ turn. turn
+    passed: bool,
+) -> Result<(Turn, bool), AllocError>
+    requires { passed ≡ true → PassesName policy.now.zones query.now facts.now }
+    ensures turn { IfOk result (λ turn. turn.0
         ≡ within_limit query.now facts.now
         (turn_by_next query.now facts.now (next policy.now.zones query.now facts.now))) }
+    ensures passes { IfOk result (λ turn. turn.1 ≡ true → PassesName policy.now.zones query.now facts.now) }
 {
-    match unlimited_turn(alloc, policy, query, facts)? {
+    let (turn, passes) = unlimited_turn(alloc, policy, query, facts, passed)?;
+    Ok((limited(alloc, query, facts, turn)?, passes))
+}
+
+// A question is asked while there is room for one fact more.
+fn limited(alloc: Global, query: &Query, facts: &Facts, turn: Turn) -> Result<Turn, AllocError>
+    ensures { IfOk result (λ limited. limited ≡ within_limit query.now facts.now turn) }
+{
+    match turn {
         Turn::Said(said) => Ok(Turn::Said(said)),
         Turn::Ask(question) => {
             if facts.len() < FACT_LIMIT {
@@ -38,19 +50,25 @@ pub(crate) fn turn_about(
     }
 }
 
-// What is done about a query, however many facts are known.
+// What is done about a query, however many facts are known, and whether it passes its own name.
 fn unlimited_turn(
     alloc: Global,
     policy: &Snapshot,
     query: &Query,
     facts: &Facts,
-) -> Result<Turn, AllocError>
-    ensures { IfOk result (λ turn. turn
+    passed: bool,
+) -> Result<(Turn, bool), AllocError>
+    requires { passed ≡ true → PassesName policy.now.zones query.now facts.now }
+    ensures turn { IfOk result (λ turn. turn.0
         ≡ turn_by_next query.now facts.now (next policy.now.zones query.now facts.now)) }
+    ensures passes { IfOk result (λ turn. turn.1 ≡ true → PassesName policy.now.zones query.now facts.now) }
 {
+    if passed {
+        return Ok((turn_behind(alloc, policy, query, facts)?, true));
+    }
     match turn_at(alloc, policy, query, facts, &[], &query.question.name)? {
-        Some(turn) => Ok(turn),
-        None => turn_behind(alloc, policy, query, facts),
+        Some(turn) => Ok((turn, false)),
+        None => Ok((turn_behind(alloc, policy, query, facts)?, true)),
     }
 }
 
