@@ -13,6 +13,8 @@ name and answers each question that is asked:
                  128 facts are known
   no such rules  the name of 127 labels under a zone with a rule about a name: one question
 
+The answers have TTLs of 0, so that the cache answers none of the questions of later queries.
+
 Prints the processor time of one query, all its turns, with reading the lines of the script and writing those of the
 transcript: the least of several rounds, less the time of a script without queries. With an earlier program its times are
 measured by turns with the new one's.
@@ -99,7 +101,7 @@ def named_servers(count):
         script.query(LABELS)
         for size in range(2, 128):
             owner = LABELS[127 - size:]
-            script.give(question(owner, NS), [record(owner, NS, 60, name((b"ns", b"s%d" % size)))])
+            script.give(question(owner, NS), [record(owner, NS, 0, name((b"ns", b"s%d" % size)))])
         for _ in range(FACTS - 126):
             script.fail()
     return script.octets()
@@ -108,7 +110,7 @@ def named_servers(count):
 def row(label):
     """An NS record of the name that is asked for, with a server below example, by pointers."""
     data = bytes([len(label)]) + label + b"\xc0\x10"
-    return b"\xc0\x0c" + struct.pack(">HHIH", NS, 1, 60, len(data)) + data
+    return b"\xc0\x0c" + struct.pack(">HHIH", NS, 1, 0, len(data)) + data
 
 
 def many_rows(count):

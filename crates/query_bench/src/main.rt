@@ -2,9 +2,12 @@
 //! `query` and `give` of a script, done as a replay does them.
 //!
 //! Its words are the origins of the zones. Standard input has the transfer of each, its messages behind their lengths in
-//! two bytes and an empty one at the end, and then the lines, each behind its length in two bytes. It says on standard
-//! error how many rows are loaded, and when all is answered, before it gives up the memory of the zones; the lines of the
-//! transcript go to standard output.
+//! two bytes and an empty one at the end, and then the lines, each behind its length in two bytes; an empty one ends a part
+//! of them. It says on standard error how many rows are loaded, and when a part is answered, the last one before it gives up
+//! the memory of the zones.
+//!
+//! For each line one message goes to standard output, behind its length in two bytes as over TCP (RFC 1035, section 4.2.2):
+//! the reply, or what is asked of the upstream. It is empty where a query gets no reply. Many are written at once.
 #![tactic(auto)]
 
 mod input;
@@ -12,14 +15,20 @@ mod refusal;
 
 use crate::input::read_stream;
 use crate::refusal::Refusal;
-use dns_name::Name;
-use edge_io::{ReaderSource, Sink, Source, WriterSink, read_frame, write_all};
+use dns_name::{Name, Octets};
+use edge_io::{FRAME_MAX, ReaderSource, Sink, Source, WriterSink, read_frame, write_all};
 use rpz_core::{Core, Event, Output};
-use script_codec::{Line, ScriptState, Shown, read_unnumbered, write_shown};
+use script_codec::{Line, ScriptState, read_unnumbered};
 use std::alloc::Global;
 use std::io::BufReader;
 use std::process::ExitCode;
 use std::{env, io};
+
+// So many bytes of messages, and no more than the longest one beyond, are written at once.
+const PIECE: usize = 262_144;
+
+// Room for these, with their lengths.
+const ROOM: usize = 327_680;
 
 // The origins that the words name.
 fn origins(alloc: Global, words: &[String]) -> Result<Vec<Name>, Refusal> {
@@ -87,39 +96,93 @@ fn event(alloc: Global, core: &Core, line: &[u8]) -> Result<Event, Refusal> {
     }
 }
 
-// What the transcript shows of an output.
-fn shown(output: Output) -> Result<Shown, Refusal> {
+// The message of an output; it is empty where a query gets no reply.
+fn message_of(alloc: Global, output: Output) -> Result<Octets, Refusal> {
     match output {
-        Output::Ask { worker, message } => Ok(Shown::Ask { worker, message }),
-        Output::Reply { worker, message } => Ok(Shown::Reply { worker, message }),
-        Output::Silent { worker } => Ok(Shown::Silent { worker }),
+        Output::Ask { message, .. } => Ok(message),
+        Output::Reply { message, .. } => Ok(message),
+        Output::Silent { .. } => Ok(Octets::new(alloc)),
         _ => Err(Refusal::OtherLine),
     }
 }
 
-// Answers the lines that the source gives.
-fn answer_all<S: Source, K: Sink>(
+// Puts a message at the end, behind its length.
+fn push_frame(frames: &mut Octets, message: &[u8]) -> Result<(), Refusal> {
+    if message.len() > FRAME_MAX {
+        return Err(Refusal::Long);
+    }
+    frames.append(&(message.len() as u16).to_be_bytes())?;
+    frames.append(message)?;
+    Ok(())
+}
+
+// What a line outputs goes behind the messages that are still to be written, and is written with them where they are many.
+fn answer<K: Sink>(
+    alloc: Global,
+    core: &mut Core,
+    line: &[u8],
+    frames: &mut Octets,
+    out: &mut K,
+) -> Result<(), Refusal> {
+    let event = event(alloc, core, line)?;
+    let message = message_of(alloc, core.step(event)?)?;
+    push_frame(frames, message.as_slice())?;
+    if frames.len() >= PIECE {
+        write_all(out, frames.as_slice())?;
+        // a new one, since to clear this one takes as long as it has bytes
+        *frames = Octets::with_capacity(alloc, ROOM)?;
+    }
+    Ok(())
+}
+
+// Answers the lines of a part; whether the input goes on behind it.
+fn answer_part<S: Source, K: Sink>(
     alloc: Global,
     core: &mut Core,
     source: &mut S,
     out: &mut K,
-) -> Result<(), Refusal> {
+) -> Result<bool, Refusal> {
+    let mut frames = Octets::with_capacity(alloc, ROOM)?;
+    let mut more = false;
     for _turn in 0..u64::MAX {
         let Some(line) = read_frame(alloc, source)? else {
             break;
         };
-        let event = event(alloc, core, line.as_slice())?;
-        let shown = shown(core.step(event)?)?;
-        let text = write_shown(alloc, &shown)?;
-        write_all(out, text.as_slice())?;
+        if line.len() == 0 {
+            more = true;
+            break;
+        }
+        answer(alloc, core, line.as_slice(), &mut frames, out)?;
     }
-    Ok(())
+    write_all(out, frames.as_slice())?;
+    Ok(more)
 }
 
 // Says why not all was answered.
 fn refused(rt: &HostRuntime, refusal: &Refusal) -> io::Result<ExitCode> {
     eprintln!(rt; "{refusal:?}")?;
     Ok(ExitCode::from(1))
+}
+
+// Answers all lines, and says when each part is answered.
+fn answer_all<S: Source, K: Sink>(
+    rt: &HostRuntime,
+    core: &mut Core,
+    source: &mut S,
+    out: &mut K,
+) -> io::Result<ExitCode> {
+    for _turn in 0..u64::MAX {
+        match answer_part(rt.alloc(), core, source, out) {
+            Ok(more) => {
+                eprintln!(rt; "answered")?;
+                if !more {
+                    break;
+                }
+            }
+            Err(refusal) => return refused(rt, &refusal),
+        }
+    }
+    Ok(ExitCode::SUCCESS)
 }
 
 fn main(rt: HostRuntime) -> io::Result<ExitCode> {
@@ -132,11 +195,5 @@ fn main(rt: HostRuntime) -> io::Result<ExitCode> {
         Err(refusal) => return refused(&rt, &refusal),
     };
     eprintln!(rt; "rows {rows}")?;
-    match answer_all(alloc, &mut core, &mut source, &mut out) {
-        Ok(()) => {
-            eprintln!(rt; "answered")?;
-            Ok(ExitCode::SUCCESS)
-        }
-        Err(refusal) => refused(&rt, &refusal),
-    }
+    answer_all(&rt, &mut core, &mut source, &mut out)
 }

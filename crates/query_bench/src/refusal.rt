@@ -17,6 +17,8 @@ pub enum Refusal {
     Line(ReadError),
     Core(CoreError),
     Write(SinkError),
+    /// A message is too long to be written behind its length.
+    Long,
     /// There are more than 32 zones, or a transfer was not taken.
     NotTaken,
     /// The line is neither `query` nor `give`.

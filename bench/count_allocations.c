@@ -1,0 +1,81 @@
+/* Counts the calls for memory of a program that it is loaded into, and says at the end on standard error how many there were:
+
+       cc -O2 -shared -fPIC -o count_allocations.so count_allocations.c
+       LD_PRELOAD=./count_allocations.so PROGRAM
+
+   Each call is counted, whether it gets memory or not, but for free of no memory. The memory is that of the GNU C library,
+   by the names that it keeps for this. */
+
+#include <errno.h>
+#include <stdatomic.h>
+#include <stddef.h>
+#include <stdio.h>
+#include <unistd.h>
+
+void *__libc_malloc(size_t size);
+void *__libc_calloc(size_t count, size_t size);
+void *__libc_realloc(void *memory, size_t size);
+void *__libc_memalign(size_t alignment, size_t size);
+void __libc_free(void *memory);
+
+static atomic_ulong mallocs, callocs, reallocs, aligned_allocs, posix_memaligns, frees;
+
+static void count(atomic_ulong *calls)
+{
+    atomic_fetch_add_explicit(calls, 1, memory_order_relaxed);
+}
+
+void *malloc(size_t size)
+{
+    count(&mallocs);
+    return __libc_malloc(size);
+}
+
+void *calloc(size_t members, size_t size)
+{
+    count(&callocs);
+    return __libc_calloc(members, size);
+}
+
+void *realloc(void *memory, size_t size)
+{
+    count(&reallocs);
+    return __libc_realloc(memory, size);
+}
+
+void *aligned_alloc(size_t alignment, size_t size)
+{
+    count(&aligned_allocs);
+    return __libc_memalign(alignment, size);
+}
+
+int posix_memalign(void **memory, size_t alignment, size_t size)
+{
+    void *got;
+
+    count(&posix_memaligns);
+    got = __libc_memalign(alignment, size);
+    if (got == NULL)
+        return ENOMEM;
+    *memory = got;
+    return 0;
+}
+
+void free(void *memory)
+{
+    if (memory != NULL)
+        count(&frees);
+    __libc_free(memory);
+}
+
+__attribute__((destructor)) static void report(void)
+{
+    char line[256];
+    int length = snprintf(line, sizeof line,
+        "malloc %lu calloc %lu realloc %lu aligned_alloc %lu posix_memalign %lu free %lu\n",
+        atomic_load(&mallocs), atomic_load(&callocs), atomic_load(&reallocs),
+        atomic_load(&aligned_allocs), atomic_load(&posix_memaligns), atomic_load(&frees));
+
+    if (write(STDERR_FILENO, line, (size_t)length) < 0)
+        _exit(1);
+}
