@@ -1,5 +1,5 @@
 -- A look-up from the longest length down finds what a scan over all entries finds first.
-use Rattle.std.proofs.Common.{◌≡◌, ℕ, ◌-◌, ◌<◌, ◌≤◌, Bool, true, false, Option, Some, None, List, [], ◌∷◌, refl, sym, ap, ◌∙◌, arith, cond, is_eq}
+use Rattle.std.proofs.Common.{◌≡◌, ℕ, ◌-◌, ◌<◌, ◌≤◌, Bool, true, false, Option, Some, None, List, [], ◌∷◌, length, refl, sym, ap, ◌∙◌, arith, cond, is_eq}
 use Rattle.std.specs.BTreeMap.{insert_entry, is_at}
 use Rattle.std.specs.Cmp.{tied_itself}
 use Rattle.std.specs.List.{AllByRecursion}
@@ -84,6 +84,11 @@ module _ {V : Type 0} where
     other_length law e a n (found (cut a n) es) all.0 none within.0,
     all_shorter law a n es all.1 (none_in_rest (prefix_order (cut a n) e.0) e.1 (found (cut a n) es) none) within.1,
   )
+
+  -- without entries nothing is found
+  pub none_in_empty : (a : Addr) (es : List (PlainPrefix × V)) → length es ≡ 0 → None ≡ longest a es
+  none_in_empty a [] empty = refl
+  none_in_empty a (e ∷ es) empty = absurd (omega arith)
 
   skips : (a : Addr) (e : PlainPrefix × V) (es : List (PlainPrefix × V)) (b : Bool) → contains e.0 a ≡ b → b ≡ false → longest a (e ∷ es) ≡ longest a es
   skips a e es b h out = ap (λ b. cond b (Some e) (longest a es)) (h ∙ out)

@@ -107,6 +107,9 @@ impl<V> PrefixMap<V> {
         ensures { option_map (λ e. (e.0, e.1.now)) result ≡ longest addr self.now }
     {
         laws::a_prefix_contains_what_agrees();
+        if self.entries.is_empty() {
+            return None;
+        }
         let mut length = addr.width();
         while length > 0 {
             let prefix = Prefix::of(addr, length);

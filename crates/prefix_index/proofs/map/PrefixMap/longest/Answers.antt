@@ -1,9 +1,12 @@
 use Rattle.std.proofs.Common.{◌≡◌, ◌≤◌, Some, None, sym, ap, ◌∙◌, subst, arith}
 use Rattle.ip_prefix.specs.Prefix.{PlainPrefix, width}
 use Rattle.prefix_index.specs.Longest.{longest}
-use Rattle.prefix_index.proofs.Looking.{AllWithin, all_shorter, found, hit_longest, none_longest}
+use Rattle.prefix_index.proofs.Looking.{AllWithin, all_shorter, found, hit_longest, none_longest, none_in_empty}
 use Rattle.prefix_index.proofs.Same.{cut}
 use Rattle.prefix_index.proofs.map.PrefixMap.longest.Goals as goal
+
+pub returns-then-is_empty : goal.returns-then-is_empty
+returns-then-is_empty g c = none_in_empty c.args.addr c.self.inside.entries.entries (c.is_empty.ensures.0 c.if-is_empty.true) ∙ ap (longest c.args.addr) c.self.view_is
 
 -- src/map.rt:88:17
 pub returns-in-Some : goal.returns-in-Some
