@@ -1,5 +1,5 @@
 -- The rule that comes first of those about several addresses.
-use Rattle.std.proofs.Common.{◌≡◌, ℕ, ◌+◌, ◌<◌, ◌≤◌, Bool, true, false, cond, ◌&&◌, ◌||◌, List, [], ◌∷◌, length, take, get_or, Option, Some, None, option_map, refl, sym, ap, subst, ◌∙◌}
+use Rattle.std.proofs.Common.{◌≡◌, ℕ, ◌+◌, ◌<◌, ◌≤◌, Bool, true, false, cond, ◌&&◌, ◌||◌, List, [], ◌∷◌, length, take, get_or, Option, Some, None, option_map, refl, sym, ap, subst, ◌∙◌, arith}
 use Rattle.std.specs.List.{find, list_any, AllByRecursion}
 use Rattle.std.specs.List.Sorted.{IsStrictlySortedBy}
 use Rattle.std.specs.BTreeMap.{is_at}
@@ -120,6 +120,11 @@ one_more owner records i r entries first other next lt sorted ef eo en =
     ∙ earlier_keys prefix_order before one
     ∙ ap key_in (sym (merged prefix_order prefix_order_total (λ e. list_any (holds_within e.0 owner) (take i records)) (λ e. holds_within e.0 owner (get_or records i r)) entries sorted))
     ∙ ap key_in (sym (find_same _ _ entries (λ e. any_more owner records i r e.0 lt)))
+
+-- without entries nothing is found
+pub none_in_empty : {V : Type 0} (owner : List (List ℕ)) (records : List PlainRecord) (entries : List (PlainPrefix × V)) → length entries ≡ 0 → None ≡ first_about owner records entries
+none_in_empty owner records [] empty = refl
+none_in_empty owner records (e ∷ es) empty = absurd (omega arith)
 
 -- all of them
 pub all_taken : {V : Type 0} (owner : List (List ℕ)) (records : List PlainRecord) (i : ℕ) (entries : List (PlainPrefix × V)) (first : Option PlainPrefix) → length records ≤ i

@@ -86,6 +86,9 @@ pub(crate) fn first_about<'a>(
 ) -> Option<(Prefix, &'a Action)>
     ensures { option_map (λ e. (e.0, e.1.now)) result ≡ first_of owner.now records.now rules.now }
 {
+    if rules.len() == 0 {
+        return None;
+    }
     let prefix = first_prefix(rules, owner, records)?;
     match rules.get(prefix) {
         None => None,

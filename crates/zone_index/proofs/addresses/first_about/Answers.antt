@@ -1,6 +1,9 @@
-use Rattle.std.proofs.Common.{ap, ◌∙◌, option_map}
-use Rattle.zone_index.proofs.FirstRule.{rule_at}
+use Rattle.std.proofs.Common.{sym, ap, ◌∙◌, option_map}
+use Rattle.zone_index.proofs.FirstRule.{none_in_empty, rule_at}
 use Rattle.zone_index.proofs.addresses.first_about.Goals as goal
+
+pub returns-then-len-eq0 : goal.returns-then-len-eq0
+returns-then-len-eq0 c = none_in_empty c.args.owner.now c.args.records.now c.args.rules.now (sym c.len.ensures.len ∙ c.if-len-eq0.true)
 
 pub returns-in-None : goal.returns-in-None
 returns-in-None c =
