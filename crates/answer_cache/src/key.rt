@@ -13,9 +13,12 @@ use std::alloc::{AllocError, Global};
 pub(crate) fn key_octets(alloc: Global, question: &Question) -> Result<Octets, AllocError>
     ensures { IfOk result (λ octets. octets ≡ key_of question.now) }
 {
-    let small = question.name.lower(alloc)?;
-    let mut octets = Octets::with_capacity(alloc, small.octets().len() + 4)?;
-    small.write(&mut octets)?;
+    let name = question.name.octets();
+    let mut key = Vec::with_capacity(alloc, name.len() + 4)?;
+    key.extend_from_slice(name)?;
+    // no length byte is a letter
+    key.make_ascii_lowercase();
+    let mut octets = Octets::from_vec(key);
     push_u16(&mut octets, question.qtype)?;
     push_u16(&mut octets, question.qclass)?;
     Ok(octets)
