@@ -2,9 +2,10 @@
 
 ghost use Rattle.std.specs.Prelude.{◌≡◌, ℕ, List, ◌++◌, ◌<◌, ◌^◌, length, take, OnOk, OnErr, IfOk};
 ghost use Rattle.dns_name.specs.Labels.{IsName};
+ghost use Rattle.dns_record.specs.Number.{number_octets};
 ghost use Rattle.dns_record.specs.Record.{IsData, IsRecord, record_octets};
 
-use crate::number::{push_u16, push_u32};
+use byteorder::{BigEndian, ByteOrder};
 use dns_name::{Name, Octets};
 use std::alloc::AllocError;
 use std::marker::Model;
@@ -121,9 +122,18 @@ pub fn write_record(
     ensures name { IsName owner.now }
 {
     owner.write(out)?;
-    push_u16(out, rtype)?;
-    push_u16(out, class)?;
-    push_u32(out, ttl)?;
-    push_u16(out, rdata.len() as u16)?;
+    out.append(&field_octets(rtype, class, ttl, rdata.len() as u16))?;
     out.append(rdata)
+}
+
+// What stands between the name and the data: the type, the class, the TTL and the length of the data.
+fn field_octets(rtype: u16, class: u16, ttl: u32, len: u16) -> [u8; 10]
+    ensures { result ≡ number_octets 2 rtype ++ number_octets 2 class ++ number_octets 4 ttl ++ number_octets 2 len }
+{
+    let mut octets = [0; 10];
+    BigEndian::write_u16(&mut octets, rtype);
+    BigEndian::write_u16(&mut octets[2..], class);
+    BigEndian::write_u32(&mut octets[4..], ttl);
+    BigEndian::write_u16(&mut octets[8..], len);
+    octets
 }
