@@ -11,3 +11,4 @@ pub mod Standing
 pub mod MessageIs
 pub mod Limits
 pub mod MessageFaults
+pub mod Lasting

@@ -7,3 +7,4 @@ pub mod Faults
 pub mod Request
 pub mod Limit
 pub mod Aged
+pub mod Written

@@ -14,6 +14,7 @@ mod reading;
 mod request;
 mod triage;
 mod writing;
+mod written;
 
 pub use edns::{BAD_VERSION, EDNS_VERSION, Edns, UDP_PAYLOAD, reply_edns};
 pub use fault::{MessageError, MessageFault};
@@ -27,3 +28,4 @@ pub use triage::{classify, speaks};
 pub use writing::{
     finish_message, write_aged_records, write_message, write_parts, write_records, write_start,
 };
+pub use written::WrittenRecords;

@@ -1,0 +1,150 @@
+-- Records that are written with their TTLs apart.
+use Rattle.std.proofs.Common.{◌≡◌, ℕ, ◌+◌, ◌-◌, ◌<◌, ◌≤◌, List, [], ◌∷◌, ◌++◌, length, map, take, drop, get_or, Result, Ok, Err, refl, sym, ap, ◌∙◌, append_assoc, arith}
+use Rattle.std.specs.Result.{OnOk}
+use Rattle.std.specs.List.{flat_map}
+use Rattle.std.proofs.lemmas.List.{append-nil, at_drop_all, at_drop_more, drop-drop, drop_at, length-append, take_at}
+use Rattle.dns_name.specs.Labels.{name_octets}
+use Rattle.dns_record.specs.Number.{number_octets}
+use Rattle.dns_record.specs.Record.{PlainRecord, record_octets}
+use Rattle.dns_message.specs.Aged.{aged}
+use Rattle.dns_message.specs.Spelling.{records_octets}
+use Rattle.dns_message.specs.Written.{IsWritten, PlainWritten, all_aged, back_octets, first_aged, front_octets, lasting_octets, place_of, span}
+use Rattle.dns_message.specs.declared.written.Place.{Place}
+
+-- ---- one record
+
+-- five pieces after what stands before them: three that stand before a TTL and two behind it
+pub five_regrouped : (before a b c d e : List ℕ) → ((((before ++ a) ++ b) ++ c) ++ d) ++ e ≡ before ++ (((a ++ b) ++ c) ++ (d ++ e))
+five_regrouped before a b c d e = simp append_assoc
+
+pub lasting_pieces : (r : PlainRecord) (before a b c d e : List ℕ) → a ≡ before ++ name_octets r.owner → b ≡ a ++ number_octets 2 r.rtype → c ≡ b ++ number_octets 2 r.class
+    → d ≡ c ++ number_octets 2 (length r.rdata) → e ≡ d ++ r.rdata → e ≡ before ++ lasting_octets r
+unfolding front_octets back_octets
+lasting_pieces r before a b c d e ea eb ec ed ee =
+    ee
+    ∙ ap (λ (l : List ℕ). l ++ r.rdata) (ed
+    ∙ ap (λ (l : List ℕ). l ++ number_octets 2 (length r.rdata)) (ec
+    ∙ ap (λ (l : List ℕ). l ++ number_octets 2 r.class) (eb
+    ∙ ap (λ (l : List ℕ). l ++ number_octets 2 r.rtype) ea)))
+    ∙ five_regrouped before (name_octets r.owner) (number_octets 2 r.rtype) (number_octets 2 r.class) (number_octets 2 (length r.rdata)) r.rdata
+
+two_octets : (n : ℕ) → length (number_octets 2 n) ≡ 2
+unfolding number_octets
+two_octets n = refl
+
+front_length : (r : PlainRecord) → length (front_octets r) ≡ length (name_octets r.owner) + 4
+unfolding front_octets
+front_length r =
+    let name = name_octets r.owner in
+    let rtype = number_octets 2 r.rtype in
+    let class = number_octets 2 r.class in
+    let both : length ((name ++ rtype) ++ class) ≡ length (name ++ rtype) + length class = length-append (name ++ rtype) class in
+    let first : length (name ++ rtype) ≡ length name + length rtype = length-append name rtype in
+    omega (arith, both, first, two_octets r.rtype, two_octets r.class)
+
+back_length : (r : PlainRecord) → length (back_octets r) ≡ length r.rdata + 2
+unfolding back_octets
+back_length r =
+    let both : length (number_octets 2 (length r.rdata) ++ r.rdata) ≡ length (number_octets 2 (length r.rdata)) + length r.rdata = length-append (number_octets 2 (length r.rdata)) r.rdata in
+    omega (arith, both, two_octets (length r.rdata))
+
+abbrev place : ℕ → ℕ → ℕ → Place
+place front ttl back = record { front = front; ttl = ttl; back = back }
+
+pub is_place : (r : PlainRecord) (front back : ℕ) → front ≡ length (name_octets r.owner) + 4 → back ≡ length r.rdata + 2 → place front r.ttl back ≡ place_of r
+is_place r front back ef eb =
+    ap (λ (n : ℕ). place n r.ttl back) (ef ∙ sym (front_length r)) ∙ ap (λ (n : ℕ). place (length (front_octets r)) r.ttl n) (eb ∙ sym (back_length r))
+
+-- ---- all records
+
+span_is : (records : List PlainRecord) → span (map place_of records) ≡ length (flat_map lasting_octets records)
+span_is [] = refl
+span_is (r ∷ records) =
+    let one : length (front_octets r ++ back_octets r) ≡ length (front_octets r) + length (back_octets r) = length-append (front_octets r) (back_octets r) in
+    let all : length (lasting_octets r ++ flat_map lasting_octets records) ≡ length (lasting_octets r) + length (flat_map lasting_octets records) = length-append (lasting_octets r) (flat_map lasting_octets records) in
+    omega (arith, one, all, span_is records)
+
+pub fits : (records : List PlainRecord) (octets : List ℕ) (places : List Place) → octets ≡ flat_map lasting_octets records → places ≡ map place_of records → span places ≤ length octets
+fits records octets places eo ep =
+    let same : span places ≡ length octets = ap span ep ∙ span_is records ∙ sym (ap (λ (l : List ℕ). length l) eo) in
+    omega (arith, same)
+
+-- ---- at an age
+
+whole_record : (seconds : ℕ) (r : PlainRecord) → (front_octets r ++ number_octets 4 (r.ttl - seconds)) ++ back_octets r ≡ record_octets (aged seconds r)
+unfolding front_octets back_octets record_octets
+whole_record seconds r = sym (append_assoc (front_octets r ++ number_octets 4 (r.ttl - seconds)) (number_octets 2 (length r.rdata)) r.rdata)
+
+first_is : (seconds : ℕ) (r : PlainRecord) (rest : List ℕ) → first_aged seconds (lasting_octets r ++ rest) (place_of r) ≡ record_octets (aged seconds r)
+first_is seconds r rest =
+    let front = front_octets r in
+    let back = back_octets r in
+    let split : (front ++ back) ++ rest ≡ front ++ (back ++ rest) = append_assoc front back rest in
+    let before : take (length front) ((front ++ back) ++ rest) ≡ front = ap (take (length front)) split ∙ take_at front (back ++ rest) (length front) refl in
+    let behind : take (length back) (drop (length front) ((front ++ back) ++ rest)) ≡ back =
+    ap (λ (l : List ℕ). take (length back) (drop (length front) l)) split ∙ ap (take (length back)) (drop_at front (back ++ rest) (length front) refl) ∙ take_at back rest (length back) refl in
+    ap (λ (l : List ℕ). (l ++ number_octets 4 (r.ttl - seconds)) ++ take (length back) (drop (length front) ((front ++ back) ++ rest))) before
+    ∙ ap (λ (l : List ℕ). (front ++ number_octets 4 (r.ttl - seconds)) ++ l) behind
+    ∙ whole_record seconds r
+
+all_are : (seconds : ℕ) (records : List PlainRecord) → all_aged seconds (flat_map lasting_octets records) (map place_of records) ≡ records_octets (map (aged seconds) records)
+unfolding all_aged records_octets
+all_are seconds [] = refl
+all_are seconds (r ∷ records) =
+    let rest = flat_map lasting_octets records in
+    let others = map place_of records in
+    let behind : drop (length (front_octets r) + length (back_octets r)) (lasting_octets r ++ rest) ≡ rest = drop_at (lasting_octets r) rest _ (length-append (front_octets r) (back_octets r)) in
+    ap (λ (l : List ℕ). l ++ all_aged seconds (drop (length (front_octets r) + length (back_octets r)) (lasting_octets r ++ rest)) others) (first_is seconds r rest)
+    ∙ ap (λ (l : List ℕ). record_octets (aged seconds r) ++ all_aged seconds l others) behind
+    ∙ ap (λ (l : List ℕ). record_octets (aged seconds r) ++ l) (all_are seconds records)
+
+no_more : (seconds : ℕ) (octets : List ℕ) → all_aged seconds octets [] ≡ []
+unfolding all_aged
+no_more seconds octets = refl
+
+one_more : (seconds : ℕ) (octets : List ℕ) (place : Place) (places : List Place) → all_aged seconds octets (place ∷ places) ≡ first_aged seconds octets place ++ all_aged seconds (drop (place.front + place.back) octets) places
+unfolding all_aged
+one_more seconds octets place places = refl
+
+-- the loop over the places: room for the next one
+pub has_room : (places : List Place) (i : ℕ) (d : Place) (at size : ℕ) → i < length places → at + span (drop i places) ≤ size
+    → at + ((get_or places i d).front + (get_or places i d).back) + span (drop (i + 1) places) ≤ size
+has_room places i d at size lt le =
+    let more : span (drop i places) ≡ span (get_or places i d ∷ drop (i + 1) places) = at_drop_more span places i d lt in
+    omega (arith, more, le)
+
+-- and what is left to be written
+pub aged_step : (seconds : ℕ) (octets : List ℕ) (places : List Place) (i : ℕ) (d : Place) (at : ℕ) (out next whole : List ℕ) → i < length places
+    → next ≡ out ++ first_aged seconds (drop at octets) (get_or places i d)
+    → out ++ all_aged seconds (drop at octets) (drop i places) ≡ whole
+    → next ++ all_aged seconds (drop (at + ((get_or places i d).front + (get_or places i d).back)) octets) (drop (i + 1) places) ≡ whole
+aged_step seconds octets places i d at out next whole lt e h =
+    let p = get_or places i d in
+    let one = first_aged seconds (drop at octets) p in
+    let others = drop (i + 1) places in
+    let behind = all_aged seconds (drop (at + (p.front + p.back)) octets) others in
+    ap (λ (l : List ℕ). l ++ behind) e
+    ∙ append_assoc out one behind
+    ∙ ap (λ (l : List ℕ). out ++ (one ++ all_aged seconds l others)) (sym (drop-drop (p.front + p.back) at octets))
+    ∙ ap (λ (l : List ℕ). out ++ l) (sym (at_drop_more (all_aged seconds (drop at octets)) places i d lt ∙ one_more seconds (drop at octets) p others))
+    ∙ h
+
+-- nothing is left
+pub none_left : (seconds : ℕ) (octets : List ℕ) (places : List Place) (i at : ℕ) (out whole : List ℕ) → length places ≤ i
+    → out ++ all_aged seconds (drop at octets) (drop i places) ≡ whole → out ≡ whole
+none_left seconds octets places i at out whole le h =
+    sym (ap (λ (l : List ℕ). out ++ l) (at_drop_all (all_aged seconds (drop at octets)) places i le ∙ no_more seconds (drop at octets)) ∙ append-nil out) ∙ h
+
+all_written : (seconds : ℕ) (written : PlainWritten) (out before : List ℕ) → out ≡ before ++ all_aged seconds written.octets written.places
+    → (records : List PlainRecord) → IsWritten written records → out ≡ before ++ records_octets (map (aged seconds) records)
+all_written seconds written out before h records is =
+    h
+    ∙ ap (λ (l : List ℕ). before ++ all_aged seconds l written.places) is.octets
+    ∙ ap (λ (l : List Place). before ++ all_aged seconds (flat_map lasting_octets records) l) is.places
+    ∙ ap (λ (l : List ℕ). before ++ l) (all_are seconds records)
+
+pub written_if_ok : {X Y : Type 0} (result : Result X Y) (seconds : ℕ) (written : PlainWritten) (octets : List ℕ) (places : List Place) (out before : List ℕ)
+    → octets ≡ written.octets → places ≡ written.places → OnOk result (out ≡ before ++ all_aged seconds octets places)
+    → (records : List PlainRecord) → IsWritten written records → OnOk result (out ≡ before ++ records_octets (map (aged seconds) records))
+written_if_ok (Ok x) seconds written octets places out before eo ep h = all_written seconds written out before (rw (← eo, ← ep) h)
+written_if_ok (Err y) seconds written octets places out before eo ep h = λ records is. h
