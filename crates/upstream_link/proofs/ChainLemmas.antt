@@ -1,7 +1,13 @@
 -- The step of a chain of aliases, and its ends.
-use Rattle.std.proofs.Common.{◌≡◌, ℕ, suc, ◌+◌, ◌-◌, ◌<◌, ◌≤◌, List, [], ◌∷◌, ◌++◌, Option, Some, None, refl, sym, ap, ◌∙◌, arith}
+use Rattle.std.proofs.Common.{◌≡◌, ℕ, suc, ◌+◌, ◌-◌, ◌<◌, ◌≤◌, Bool, true, false, ◌&&◌, ◌||◌, cond, List, [], ◌∷◌, ◌++◌, Option, Some, None, refl, sym, ap, ◌∙◌, arith}
+use Rattle.std.specs.List.{list_any}
+use Rattle.dns_name.specs.Alike.{same_name}
 use Rattle.dns_record.specs.Record.{PlainRecord}
-use Rattle.upstream_link.specs.Chain.{chain_from, chain_with, next_name}
+use Rattle.dns_message.specs.declared.question.Question.{Question}
+use Rattle.upstream_link.specs.Chain.{alias_of, asks_alias, chain, chain_from, chain_with, is_alias, next_name, target_in}
+use Rattle.upstream_link.specs.Kept.{PlainAnswer}
+use Rattle.upstream_link.specs.declared.aliases.TheConstants.{CHAIN_LIMIT}
+use Rattle.upstream_link.specs.declared.fact.Fact.TheVariants.{Answer}
 
 abbrev Label : Type 0
 Label = List ℕ
@@ -37,3 +43,27 @@ module _ (records : List PlainRecord) where
   chain_too_long limit count names last whole le before =
       let left : limit - count ≡ 0 = omega arith in
       sym (ap (λ (n : ℕ). chain_from n records names last) left ∙ no_more names last) ∙ before
+
+-- ---- records without an alias
+
+no_alias_by : (b same more : Bool) (r : PlainRecord) (others : Option PlainRecord) → (b || more) ≡ false → (more ≡ false → others ≡ None) → cond (b && same) (Some r) others ≡ None
+no_alias_by true same more r others none rest = absurd cc
+no_alias_by false same more r others none rest = rest none
+
+no_alias : (records : List PlainRecord) (name : List Label) → list_any is_alias records ≡ false → alias_of records name ≡ None
+no_alias [] name none = refl
+no_alias (r ∷ records) name none = no_alias_by (is_alias r) (same_name r.owner name) (list_any is_alias records) r (alias_of records name) none (no_alias records name)
+
+alone_in : (records : List PlainRecord) (name : List Label) → list_any is_alias records ≡ false → chain_from CHAIN_LIMIT records (name ∷ []) name ≡ Some (name ∷ [])
+unfolding chain_from
+alone_in records name none =
+    let next : next_name records (name ∷ []) name ≡ None = ap (target_in (name ∷ [])) (no_alias records name none) in
+    ap (chain_with (chain_from 15 records) (name ∷ [])) next
+
+alone_by : (b : Bool) (names : List (List Label)) (whole : Option (List (List Label))) → whole ≡ Some names → cond b (Some names) whole ≡ Some names
+alone_by true names whole is = refl
+alone_by false names whole is = is
+
+pub alone_shown : (question : Question) (answer : PlainAnswer) → list_any is_alias answer.answers ≡ false → chain question (Answer answer) ≡ Some (question.name ∷ [])
+alone_shown question answer none =
+    alone_by (asks_alias question.qtype) (question.name ∷ []) (chain_from CHAIN_LIMIT answer.answers (question.name ∷ []) question.name) (alone_in answer.answers question.name none)

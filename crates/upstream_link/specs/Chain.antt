@@ -18,6 +18,10 @@ name_read (Err fault) = None
 abbrev pub name_in : PlainRecord → Option (List (List ℕ))
 name_in r = name_read (name_at r.rdata 0)
 
+-- a CNAME record
+abbrev pub is_alias : PlainRecord → Bool
+is_alias r = r.rtype == 5
+
 -- a CNAME record of this owner
 abbrev pub is_alias_of : List (List ℕ) → PlainRecord → Bool
 is_alias_of owner r = r.rtype == 5 && same_name r.owner owner

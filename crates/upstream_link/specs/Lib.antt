@@ -5,6 +5,7 @@ pub mod Fact
 pub mod Life
 pub mod Facts
 pub mod Chain
+pub mod Prepared
 pub mod Servers
 pub mod Known
 pub mod Entries

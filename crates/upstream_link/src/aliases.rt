@@ -1,6 +1,7 @@
 //! The chain of aliases that an answer shows.
 
 ghost use Rattle.std.specs.Prelude.{◌≡◌, ◌≤◌, ◌∷◌, [], length, option_copied, IfOk, IfSome};
+ghost use Rattle.std.specs.List.{list_any};
 ghost use Rattle.upstream_link.specs.Chain as form;
 ghost use Rattle.upstream_link.specs.Chain.{chain_from};
 ghost use Rattle.upstream_link.specs.declared.fact.Fact.TheVariants as answers;
@@ -21,6 +22,20 @@ pub fn asks_alias(qtype: u16) -> bool
     ensures { result ≡ form.asks_alias qtype }
 {
     qtype == rtype::CNAME || qtype == rtype::ANY
+}
+
+// Whether the record is a CNAME record.
+fn is_alias(rr: &Record) -> bool
+    ensures { result ≡ form.is_alias rr.now }
+{
+    rr.rtype() == rtype::CNAME
+}
+
+/// Whether some record is a CNAME record. Its time is linear in the number of records.
+pub(crate) fn has_alias(records: &[Record]) -> bool
+    ensures { result ≡ list_any form.is_alias records.now }
+{
+    records.iter().any(is_alias)
 }
 
 /// The alias of a name among these records: the first CNAME record of this owner, whatever its case. Its time is linear

@@ -1,13 +1,18 @@
 //! What is kept of an answer.
 
-ghost use Rattle.std.specs.Prelude.{◌≡◌, option_copied, true, IfOk};
-ghost use Rattle.std.specs.List.{find};
+ghost use Rattle.std.specs.Prelude.{◌≡◌, ◌++◌, length, option_copied, true, IfOk, OnOk};
+ghost use Rattle.std.specs.List.{find, flat_map, list_any};
+ghost use Rattle.dns_message.specs.Spelling.{records_octets};
+ghost use Rattle.dns_message.specs.Written.{lasting_octets};
+ghost use Rattle.upstream_link.specs.Chain.{is_alias};
 ghost use Rattle.upstream_link.specs.Fact.{answer_in, is_soa as soa_in_class, is_answer_rcode};
 ghost use Rattle.upstream_link.specs.AnswerLife.{life_in};
-ghost use Rattle.upstream_link.specs.Kept.{IsAnswer, at_age, plain_answer};
+ghost use Rattle.upstream_link.specs.Kept.{IsAnswer, aged_answers, at_age, plain_answer};
 
+use crate::aliases::has_alias;
 use crate::life::life_by;
-use dns_message::Message;
+use dns_message::{Message, WrittenRecords};
+use dns_name::Octets;
 use dns_record::{Record, Records, class, rtype};
 use std::alloc::{AllocError, Global};
 use std::marker::Model;
@@ -21,6 +26,10 @@ struct Kept {
     soa: Option<Record>,
     // For how many seconds they may be kept.
     life: u32,
+    // The answers as they are written.
+    written: WrittenRecords,
+    // Whether some answer is a CNAME record.
+    alias: bool,
 }
 
 /// An answer of the server, and how many seconds have passed since it came: the rcode is 0 or 3, the records are of class IN,
@@ -32,15 +41,17 @@ pub struct Answer {
 }
 
 impl Model for Answer {
-    ghost use Rattle.upstream_link.specs.AnswerLife.{HasLife};
     ghost use Rattle.upstream_link.specs.Kept.{PlainAnswer, plain_answer};
 
     ghost Value = { PlainAnswer };
 
+    ghost use Rattle.upstream_link.specs.Prepared.{IsPrepared};
+
     ghost view = { λ a. plain_answer a.kept.value.rcode a.kept.value.answers a.kept.value.soa a.age };
 
     ghost invariant = { λ a.
-        HasLife (plain_answer a.kept.value.rcode a.kept.value.answers a.kept.value.soa a.age) a.kept.value.life };
+        IsPrepared (plain_answer a.kept.value.rcode a.kept.value.answers a.kept.value.soa a.age)
+        a.kept.value.life a.kept.value.written a.kept.value.alias };
 }
 
 impl Answer {
@@ -67,11 +78,15 @@ impl Answer {
         ensures { IfOk result (λ answer. answer ≡ plain_answer rcode answers soa 0) }
     {
         let life = life_by(alloc, rcode, answers.as_slice(), soa.as_ref())?;
+        let written = WrittenRecords::of(alloc, answers.as_slice())?;
+        let alias = has_alias(answers.as_slice());
         let kept = Kept {
             rcode,
             answers,
             soa,
             life,
+            written,
+            alias,
         };
         Ok(Answer {
             kept: Arc::new(alloc, kept)?,
@@ -115,6 +130,28 @@ impl Answer {
         ensures { result.now ≡ self.now.answers }
     {
         self.kept.answers.as_slice()
+    }
+
+    /// Writes the answers at the end, with what is left of their TTLs. An `Err` leaves what was written before, and maybe some
+    /// of the answers behind it.
+    pub fn write_answers(&self, out: &mut Octets) -> Result<(), AllocError>
+        ensures { OnOk result (out.new ≡ out.old ++ records_octets (aged_answers self.now)) }
+    {
+        self.kept.written.write_aged(out, self.age)
+    }
+
+    /// How many octets the answers take but for their TTLs, to make room for them.
+    pub fn answers_len(&self) -> usize
+        ensures { result ≡ length (flat_map lasting_octets self.now.answers) }
+    {
+        self.kept.written.len()
+    }
+
+    /// Whether some answer is a CNAME record.
+    pub fn has_alias(&self) -> bool
+        ensures { result ≡ list_any is_alias self.now.answers }
+    {
+        self.kept.alias
     }
 
     /// The SOA record of the authority section as it came, of class IN.
