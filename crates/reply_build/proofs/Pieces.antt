@@ -18,7 +18,7 @@ use Rattle.reply_build.specs.Draft.{draft_octets, draft_of, draft_outcome}
 use Rattle.reply_build.specs.declared.said.Said.TheVariants.{Reply}
 use Rattle.reply_build.specs.declared.turn.Turn.TheVariants.{Said}
 use Rattle.reply_build.specs.Reply.{Outcome, needs, gives, silent, outcome_turn, Place, Sections, reply_header, reply_of, local_record, alias_record, is_asked, denial, local_answer, sections}
-use Rattle.reply_build.specs.Start.{aged_sections, rule_start, rule_sections, alias_reply}
+use Rattle.reply_build.specs.Start.{empty_sections, rule_start, rule_sections, alias_reply}
 
 no_records : (octets : List ℕ) → octets ++ records_octets [] ≡ octets
 unfolding records_octets
@@ -125,6 +125,10 @@ aged_alias_pieces rcode query place ttl target answers authority seconds h a b c
     ∙ ap (λ (n : ℕ). rule_start h query place (length (map (aged seconds) answers) + 1) n) (sym (length-map authority (aged seconds))))
     eb ec ed ee
 
+-- answers and authorities that came so many seconds ago, with what is left of their TTLs
+abbrev aged_sections : Bool → ℕ → List PlainRecord → List PlainRecord → ℕ → Sections
+aged_sections tc rcode answer authority seconds = record { tc = tc; rcode = rcode; answer = map (aged seconds) answer; authority = map (aged seconds) authority; additional = [] }
+
 -- a reply of answers and authorities that came so many seconds ago
 pub sections_pieces : (tc : Bool) (rcode : ℕ) (query : Query) (answers authority : List PlainRecord) (seconds : ℕ) (h : Header) (a b c : List ℕ)
     → h ≡ reply_header tc rcode query
@@ -148,6 +152,13 @@ sections_pieces tc rcode query answers authority seconds h a b c eh ea eb ec =
     ap (draft h) (octets ∙ sym (no_records (behind (start h many others (0 + opts)))))
     ∙ ap (λ (g : Header). draft g (behind (start h many others (0 + opts)) ++ records_octets [])) eh
     ∙ ap (λ (g : Header). draft (reply_header tc rcode query) (behind (start g many others (0 + opts)) ++ records_octets [])) eh
+
+-- a reply without records
+pub empty_pieces : (tc : Bool) (rcode : ℕ) (query : Query) (h : Header) (a : List ℕ)
+    → h ≡ reply_header tc rcode query
+    → a ≡ start_octets h (Some query.question) 0 0 (opt_count (reply_edns 0 query.edns))
+    → draft h a ≡ draft_of query (empty_sections tc rcode)
+empty_pieces tc rcode query h a eh ea = sections_pieces tc rcode query [] [] 0 h a a a eh ea (sym (no_records a)) (sym (no_records a))
 
 -- a reply with its OPT record
 whole_reply : (query : Query) (s : Sections) → draft_octets query s ++ opt_octets (reply_edns 0 query.edns) ≡ spelling (reply_of query s)

@@ -1,9 +1,8 @@
 -- How a reply by a rule is written: its start, and what follows.
-use Rattle.std.specs.Prelude.{ℕ, ◌+◌, Bool, List, [], ◌∷◌, ◌++◌, length, map, Some, is_some}
+use Rattle.std.specs.Prelude.{ℕ, ◌+◌, Bool, List, [], ◌∷◌, ◌++◌, length, Some, is_some}
 use Rattle.dns_record.specs.Record.{PlainRecord}
 use Rattle.dns_message.specs.declared.header.Header.{Header}
 use Rattle.dns_message.specs.declared.request.Query.{Query}
-use Rattle.dns_message.specs.Aged.{aged}
 use Rattle.dns_message.specs.Request.{reply_edns}
 use Rattle.dns_message.specs.Spelling.{opt_count, records_octets, start_octets}
 use Rattle.upstream_link.specs.Chain.{alias_of}
@@ -27,6 +26,6 @@ rule_sections rcode place answers authority = sections rcode (place.kept ++ answ
 abbrev pub alias_reply : ℕ → Place → ℕ → List (List ℕ) → List PlainRecord → List PlainRecord → Sections
 alias_reply rcode place ttl target answers authority = rule_sections rcode place (alias_record place.name ttl target ∷ answers) authority
 
--- answers and authorities that came so many seconds ago, with what is left of their TTLs
-abbrev pub aged_sections : Bool → ℕ → List PlainRecord → List PlainRecord → ℕ → Sections
-aged_sections tc rcode answer authority seconds = record { tc = tc; rcode = rcode; answer = map (aged seconds) answer; authority = map (aged seconds) authority; additional = [] }
+-- no records
+abbrev pub empty_sections : Bool → ℕ → Sections
+empty_sections tc rcode = record { tc = tc; rcode = rcode; answer = []; authority = []; additional = [] }

@@ -5,7 +5,7 @@ ghost use Rattle.std.specs.Option.{option_to_list};
 ghost use Rattle.reply_build.specs.Draft.{draft_of, draft_outcome};
 ghost use Rattle.reply_build.specs.Reply as form;
 ghost use Rattle.reply_build.specs.Seen.{place_seen};
-ghost use Rattle.reply_build.specs.Start.{aged_sections, rule_start};
+ghost use Rattle.reply_build.specs.Start.{empty_sections, rule_start};
 ghost use Rattle.upstream_link.specs.Question.{main_question as question_about};
 
 use crate::draft::{Draft, opt_count};
@@ -34,32 +34,24 @@ pub fn reply_header(tc: bool, rcode: u8, query: &Query) -> Header
     }
 }
 
-// The reply of these answers and authorities, which came so many seconds ago, but for its OPT record.
-#[tactic(auto, using(crate::proofs::Pieces::sections_pieces))]
-fn sections_draft(
-    alloc: Global,
-    tc: bool,
-    rcode: u8,
-    query: &Query,
-    answer: &[Record],
-    authority: &[Record],
-    age: u32,
-) -> Result<Draft, AllocError>
-    ensures { IfOk result (λ draft. draft
-        ≡ draft_of query.now (aged_sections tc rcode answer.now authority.now age)) }
+// How many octets the header, the question and the OPT record of a reply take at most: 282.
+const FRAME_ROOM: usize = 300;
+
+// A reply without records, but for its OPT record.
+#[tactic(auto, using(crate::proofs::Pieces::empty_pieces))]
+fn empty_draft(alloc: Global, tc: bool, rcode: u8, query: &Query) -> Result<Draft, AllocError>
+    ensures { IfOk result (λ draft. draft ≡ draft_of query.now (empty_sections tc rcode)) }
 {
     let header = reply_header(tc, rcode, query);
-    let mut octets = Octets::with_capacity(alloc, 512)?;
+    let mut octets = Octets::with_capacity(alloc, FRAME_ROOM)?;
     write_start(
         &mut octets,
         &header,
         Some(&query.question),
-        answer.len(),
-        authority.len(),
+        0,
+        0,
         opt_count(query),
     )?;
-    write_aged_records(&mut octets, answer, age)?;
-    write_aged_records(&mut octets, authority, age)?;
     Ok(Draft { header, octets })
 }
 
@@ -112,29 +104,53 @@ pub fn denial(
 pub fn truncation(alloc: Global, query: &Query) -> Result<Draft, AllocError>
     ensures { IfOk result (λ draft. draft ≡ draft_of query.now form.truncation) }
 {
-    sections_draft(alloc, true, 0, query, &[], &[], 0)
+    empty_draft(alloc, true, 0, query)
 }
 
 /// There is no answer.
 pub fn server_failure(alloc: Global, query: &Query) -> Result<Draft, AllocError>
     ensures { IfOk result (λ draft. draft ≡ draft_of query.now form.server_failure) }
 {
-    sections_draft(alloc, false, 2, query, &[], &[], 0)
+    empty_draft(alloc, false, 2, query)
 }
 
 // The answer of the upstream, with what is left of the TTLs of its records.
+#[tactic(auto, using(crate::proofs::Pieces::sections_pieces))]
 fn answer_draft(alloc: Global, query: &Query, answer: &Answer) -> Result<Draft, AllocError>
     ensures { IfOk result (λ draft. draft ≡ draft_of query.now (form.answer_sections answer.now)) }
 {
-    sections_draft(
-        alloc,
-        false,
-        answer.rcode(),
-        query,
-        answer.answers(),
-        soa_slice(answer),
-        answer.age(),
-    )
+    let header = reply_header(false, answer.rcode(), query);
+    let soa = soa_slice(answer);
+    let mut octets = Octets::with_capacity(alloc, room_for(answer))?;
+    write_start(
+        &mut octets,
+        &header,
+        Some(&query.question),
+        answer.answers().len(),
+        soa.len(),
+        opt_count(query),
+    )?;
+    answer.write_answers(&mut octets)?;
+    write_aged_records(&mut octets, soa, answer.age())?;
+    Ok(Draft { header, octets })
+}
+
+// How many octets a reply with this answer takes at most.
+fn room_for(answer: &Answer) -> usize {
+    let ttls = answer.answers().len().saturating_mul(4);
+    answer
+        .answers_len()
+        .saturating_add(ttls)
+        .saturating_add(soa_len(answer))
+        .saturating_add(FRAME_ROOM)
+}
+
+// How many octets the SOA record of an answer takes.
+fn soa_len(answer: &Answer) -> usize {
+    match answer.soa() {
+        None => 0,
+        Some(soa) => soa.owner().octets().len() + 10 + soa.rdata().len(),
+    }
 }
 
 /// The SOA record of an answer as it came, as a list.
