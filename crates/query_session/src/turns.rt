@@ -1,9 +1,11 @@
 //! What is done about a query at a point, by what is known.
 
-ghost use Rattle.std.specs.Prelude.{◌≡◌, ◌≤◌, length, take, drop, true, option_map, IfOk};
-ghost use Rattle.policy_snapshot.specs.Next.{next, next_along, next_at, next_behind};
+ghost use Rattle.std.specs.Prelude.{◌≡◌, ◌≤◌, [], ◌∷◌, length, take, drop, true, Some, option_map, IfOk};
+ghost use Rattle.dns_message.specs.declared.question.Question.{Question};
+ghost use Rattle.policy_snapshot.specs.Next.{next, next_along, next_at, next_behind, next_in_chain};
 ghost use Rattle.policy_snapshot.specs.Rules.{rules};
 ghost use Rattle.query_session.specs.Session.{PassesName, turn_by_next, within_limit};
+ghost use Rattle.upstream_link.specs.Chain as chains;
 ghost use Rattle.upstream_link.specs.Facts.{fact_about};
 ghost use Rattle.upstream_link.specs.Question as questions;
 ghost use Rattle.upstream_link.specs.declared.aliases.TheConstants as limits;
@@ -13,7 +15,8 @@ use dns_name::Name;
 use policy_snapshot::Snapshot;
 use reply_build::{Turn, Verdict, build};
 use std::alloc::{AllocError, Global};
-use upstream_link::{FACT_LIMIT, Facts, chain, main_question};
+use upstream_link::laws::an_answer_without_aliases_shows_no_chain;
+use upstream_link::{FACT_LIMIT, Fact, Facts, chain, main_question};
 
 /// What is done about a query, and whether it passes its own name: nothing is hit there, and nothing is pending. Where it is known
 /// to, the rules aren't looked at for that name.
@@ -119,10 +122,39 @@ fn turn_behind(
 {
     match facts.get(&query.question.name, query.question.qtype) {
         None => Ok(Turn::Ask(main_question(query)?)),
-        Some(fact) => match chain(alloc, &query.question, fact)? {
-            None => build(alloc, query, Verdict::Fail, facts, reply_limit(query)),
-            Some(names) => turn_along(alloc, policy, query, facts, names.as_slice()),
-        },
+        Some(fact) => turn_by_fact(alloc, policy, query, facts, fact),
+    }
+}
+
+// What is done where no rule is hit at the name of the query, and this is known of the query's own question.
+fn turn_by_fact(
+    alloc: Global,
+    policy: &Snapshot,
+    query: &Query,
+    facts: &Facts,
+    fact: &Fact,
+) -> Result<Turn, AllocError>
+    ensures { IfOk result (λ turn. turn ≡ turn_by_next query.now facts.now
+        (next_in_chain (rules policy.now.zones) query.now facts.now
+        (chains.chain (questions.main_question query.now) fact.now))) }
+{
+    if has_no_alias(fact) {
+        return build(alloc, query, Verdict::Pass, facts, reply_limit(query));
+    }
+    match chain(alloc, &query.question, fact)? {
+        None => build(alloc, query, Verdict::Fail, facts, reply_limit(query)),
+        Some(names) => turn_along(alloc, policy, query, facts, names.as_slice()),
+    }
+}
+
+// Whether it is an answer without a CNAME record, which shows no chain but the name that was asked for.
+fn has_no_alias(fact: &Fact) -> bool
+    ensures { result ≡ true → (question : Question) → chains.chain question fact.now ≡ Some (question.name ∷ []) }
+{
+    an_answer_without_aliases_shows_no_chain();
+    match fact {
+        Fact::Answer(answer) => !answer.has_alias(),
+        Fact::Broken(_) => false,
     }
 }
 

@@ -8,7 +8,7 @@ pub invariant_of-self-in-Ok : goal.invariant_of-self-in-Ok
 invariant_of-self-in-Ok c = (
   subst (AsksAnew c.push.new.self) (sym c.take.ensures.after) tt,
   λ passed. still_passed c.self.inside.policy.value.zones c.self.inside.incoming c.self.inside.facts c.push.new.self
-  (subst HaveRows (ap (λ s. s.zones) c.deref.ensures) c.zone_count-zones.ensures.rows)
-  c.nothing_unasked_could_matter.ensures.best c.nothing_unasked_could_matter.ensures.pending
-  ((c.in-Some.question, c.args.fact) ∷ [], c.in-Ok.ensures.ok) (c.self.invariant.1 passed),
+      (subst HaveRows (ap (λ s. s.zones) c.deref.ensures) c.zone_count-zones.ensures.rows)
+      c.nothing_unasked_could_matter.ensures.best c.nothing_unasked_could_matter.ensures.pending
+      ((c.in-Some.question, c.args.fact) ∷ [], c.in-Ok.ensures.ok) (c.self.invariant.1 passed),
 )

@@ -8,7 +8,7 @@ use Rattle.query_session.proofs.session.Session.turn.Goals as goal
 pub invariant_of-self : goal.invariant_of-self
 invariant_of-self c = (
   subst (AsksAnew c.self.inside.facts)
-  (sym (c.in_ok-self-inside.ensures ∙ ap question_in (c.in_ok-turn.ensures.turn ∙ ap turn_of (sym c.self.view_is))))
-  (asks_anew c.self.inside.policy.value.zones c.self.inside.incoming c.self.inside.facts),
+      (sym (c.in_ok-self-inside.ensures ∙ ap question_in (c.in_ok-turn.ensures.turn ∙ ap turn_of (sym c.self.view_is))))
+      (asks_anew c.self.inside.policy.value.zones c.self.inside.incoming c.self.inside.facts),
   λ passed. subst (λ (s : SessionState). IsPassed s.policy s.incoming s.facts) (sym c.self.view_is) (c.in_ok-turn.ensures.passes passed),
 )
