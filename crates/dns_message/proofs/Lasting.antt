@@ -3,12 +3,13 @@ use Rattle.std.proofs.Common.{◌≡◌, ℕ, ◌+◌, ◌-◌, ◌<◌, ◌≤�
 use Rattle.std.specs.Result.{OnOk}
 use Rattle.std.specs.List.{flat_map}
 use Rattle.std.proofs.lemmas.List.{append-nil, at_drop_all, at_drop_more, drop-drop, drop_at, length-append, take_at}
+use Rattle.std.proofs.Math.Seq.{take-add}
 use Rattle.dns_name.specs.Labels.{name_octets}
 use Rattle.dns_record.specs.Number.{number_octets}
 use Rattle.dns_record.specs.Record.{PlainRecord, record_octets}
 use Rattle.dns_message.specs.Aged.{aged}
 use Rattle.dns_message.specs.Spelling.{records_octets}
-use Rattle.dns_message.specs.Written.{IsWritten, PlainWritten, all_aged, back_octets, first_aged, front_octets, lasting_octets, place_of, span}
+use Rattle.dns_message.specs.Written.{IsWritten, PlainWritten, all_aged, back_octets, first_aged, front_octets, front_of, lasting_octets, place_of, rest_aged, span}
 use Rattle.dns_message.specs.declared.written.Place.{Place}
 
 -- ---- one record
@@ -98,42 +99,88 @@ all_are seconds (r ∷ records) =
     ∙ ap (λ (l : List ℕ). record_octets (aged seconds r) ++ all_aged seconds l others) behind
     ∙ ap (λ (l : List ℕ). record_octets (aged seconds r) ++ l) (all_are seconds records)
 
-no_more : (seconds : ℕ) (octets : List ℕ) → all_aged seconds octets [] ≡ []
-unfolding all_aged
-no_more seconds octets = refl
+-- all of them are what stands before the first TTL, and the rest
+all_split : (seconds : ℕ) (octets : List ℕ) (places : List Place) → all_aged seconds octets places ≡ take (front_of places) octets ++ rest_aged seconds (drop (front_of places) octets) places
+unfolding all_aged rest_aged
+all_split seconds octets [] = refl
+all_split seconds octets (p ∷ ps) =
+    let front = take p.front octets in
+    let ttl = number_octets 4 (p.ttl - seconds) in
+    let back = take p.back (drop p.front octets) in
+    let others = all_aged seconds (drop (p.front + p.back) octets) ps in
+    append_assoc (front ++ ttl) back others
+    ∙ append_assoc front ttl (back ++ others)
+    ∙ ap (λ (l : List ℕ). front ++ (ttl ++ (back ++ all_aged seconds l ps))) (sym (drop-drop p.back p.front octets))
 
-one_more : (seconds : ℕ) (octets : List ℕ) (place : Place) (places : List Place) → all_aged seconds octets (place ∷ places) ≡ first_aged seconds octets place ++ all_aged seconds (drop (place.front + place.back) octets) places
-unfolding all_aged
-one_more seconds octets place places = refl
+-- one record from its TTL on, and what stands before the next TTL
+rest_step : (seconds : ℕ) (octets : List ℕ) (p : Place) (ps : List Place) (out next : List ℕ) → next ≡ out ++ (number_octets 4 (p.ttl - seconds) ++ take (p.back + front_of ps) octets)
+    → next ++ rest_aged seconds (drop (p.back + front_of ps) octets) ps ≡ out ++ rest_aged seconds octets (p ∷ ps)
+unfolding rest_aged
+rest_step seconds octets p ps out next e =
+    let ttl = number_octets 4 (p.ttl - seconds) in
+    let back = take p.back octets in
+    let front = take (front_of ps) (drop p.back octets) in
+    let rest = rest_aged seconds (drop (front_of ps) (drop p.back octets)) ps in
+    ap (λ (l : List ℕ). l ++ rest_aged seconds (drop (p.back + front_of ps) octets) ps) e
+    ∙ ap (λ (l : List ℕ). (out ++ (ttl ++ l)) ++ rest_aged seconds (drop (p.back + front_of ps) octets) ps) (take-add p.back (front_of ps) octets)
+    ∙ ap (λ (l : List ℕ). (out ++ (ttl ++ (back ++ front))) ++ rest_aged seconds l ps) (sym (drop-drop (front_of ps) p.back octets))
+    ∙ append_assoc out (ttl ++ (back ++ front)) rest
+    ∙ ap (λ (l : List ℕ). out ++ l) (append_assoc ttl (back ++ front) rest)
+    ∙ ap (λ (l : List ℕ). out ++ (ttl ++ l)) (append_assoc back front rest)
+    ∙ ap (λ (l : List ℕ). out ++ (ttl ++ (back ++ l))) (sym (all_split seconds (drop p.back octets) ps))
 
--- the loop over the places: room for the next one
-pub has_room : (places : List Place) (i : ℕ) (d : Place) (at size : ℕ) → i < length places → at + span (drop i places) ≤ size
-    → at + ((get_or places i d).front + (get_or places i d).back) + span (drop (i + 1) places) ≤ size
+-- the loop over the places: there is room for what stands before the first TTL
+pub first_room : (places : List Place) (size : ℕ) → span places ≤ size → front_of places ≤ size
+first_room [] size le = omega arith
+first_room (p ∷ ps) size le = omega (arith, le)
+
+-- and for the next record
+pub has_room : (places : List Place) (i : ℕ) (d : Place) (at size : ℕ) → i < length places → at + span (drop i places) ≤ size + front_of (drop i places)
+    → (at + ((get_or places i d).back + front_of (drop (i + 1) places)) ≤ size)
+    × (at + ((get_or places i d).back + front_of (drop (i + 1) places)) + span (drop (i + 1) places) ≤ size + front_of (drop (i + 1) places))
 has_room places i d at size lt le =
     let more : span (drop i places) ≡ span (get_or places i d ∷ drop (i + 1) places) = at_drop_more span places i d lt in
-    omega (arith, more, le)
+    let front : front_of (drop i places) ≡ front_of (get_or places i d ∷ drop (i + 1) places) = at_drop_more front_of places i d lt in
+    let others : front_of (drop (i + 1) places) ≤ span (drop (i + 1) places) = first_room (drop (i + 1) places) (span (drop (i + 1) places)) (omega arith) in
+    (omega (arith, more, front, le, others), omega (arith, more, front, le))
 
--- and what is left to be written
+-- what is left to be written, at first
+pub first_left : (seconds : ℕ) (octets : List ℕ) (places : List Place) (out next : List ℕ) → next ≡ out ++ take (front_of places) octets
+    → next ++ rest_aged seconds (drop (front_of places) octets) places ≡ out ++ all_aged seconds octets places
+first_left seconds octets places out next e =
+    ap (λ (l : List ℕ). l ++ rest_aged seconds (drop (front_of places) octets) places) e
+    ∙ append_assoc out (take (front_of places) octets) (rest_aged seconds (drop (front_of places) octets) places)
+    ∙ ap (λ (l : List ℕ). out ++ l) (sym (all_split seconds octets places))
+
+-- and behind one record more
 pub aged_step : (seconds : ℕ) (octets : List ℕ) (places : List Place) (i : ℕ) (d : Place) (at : ℕ) (out next whole : List ℕ) → i < length places
-    → next ≡ out ++ first_aged seconds (drop at octets) (get_or places i d)
-    → out ++ all_aged seconds (drop at octets) (drop i places) ≡ whole
-    → next ++ all_aged seconds (drop (at + ((get_or places i d).front + (get_or places i d).back)) octets) (drop (i + 1) places) ≡ whole
+    → next ≡ out ++ (number_octets 4 ((get_or places i d).ttl - seconds) ++ take ((get_or places i d).back + front_of (drop (i + 1) places)) (drop at octets))
+    → out ++ rest_aged seconds (drop at octets) (drop i places) ≡ whole
+    → next ++ rest_aged seconds (drop (at + ((get_or places i d).back + front_of (drop (i + 1) places))) octets) (drop (i + 1) places) ≡ whole
 aged_step seconds octets places i d at out next whole lt e h =
     let p = get_or places i d in
-    let one = first_aged seconds (drop at octets) p in
-    let others = drop (i + 1) places in
-    let behind = all_aged seconds (drop (at + (p.front + p.back)) octets) others in
-    ap (λ (l : List ℕ). l ++ behind) e
-    ∙ append_assoc out one behind
-    ∙ ap (λ (l : List ℕ). out ++ (one ++ all_aged seconds l others)) (sym (drop-drop (p.front + p.back) at octets))
-    ∙ ap (λ (l : List ℕ). out ++ l) (sym (at_drop_more (all_aged seconds (drop at octets)) places i d lt ∙ one_more seconds (drop at octets) p others))
+    let ps = drop (i + 1) places in
+    ap (λ (l : List ℕ). next ++ rest_aged seconds l ps) (sym (drop-drop (p.back + front_of ps) at octets))
+    ∙ rest_step seconds (drop at octets) p ps out next e
+    ∙ ap (λ (l : List ℕ). out ++ l) (sym (at_drop_more (rest_aged seconds (drop at octets)) places i d lt))
     ∙ h
+
+pub rest_if_ok : {X Y : Type 0} (result : Result X Y) (seconds at : ℕ) (octets : List ℕ) (places : List Place) (out middle new : List ℕ) → at ≡ front_of places → middle ≡ out ++ take at octets
+    → OnOk result (new ≡ middle ++ rest_aged seconds (drop at octets) places) → OnOk result (new ≡ out ++ all_aged seconds octets places)
+rest_if_ok (Ok x) seconds at octets places out middle new front begins h =
+    h ∙ ap (λ (n : ℕ). middle ++ rest_aged seconds (drop n octets) places) front
+    ∙ first_left seconds octets places out middle (begins ∙ ap (λ (n : ℕ). out ++ take n octets) front)
+rest_if_ok (Err y) seconds at octets places out middle new front begins h = h
+
+no_rest : (seconds : ℕ) (octets : List ℕ) → rest_aged seconds octets [] ≡ []
+unfolding rest_aged
+no_rest seconds octets = refl
 
 -- nothing is left
 pub none_left : (seconds : ℕ) (octets : List ℕ) (places : List Place) (i at : ℕ) (out whole : List ℕ) → length places ≤ i
-    → out ++ all_aged seconds (drop at octets) (drop i places) ≡ whole → out ≡ whole
+    → out ++ rest_aged seconds (drop at octets) (drop i places) ≡ whole → out ≡ whole
 none_left seconds octets places i at out whole le h =
-    sym (ap (λ (l : List ℕ). out ++ l) (at_drop_all (all_aged seconds (drop at octets)) places i le ∙ no_more seconds (drop at octets)) ∙ append-nil out) ∙ h
+    sym (ap (λ (l : List ℕ). out ++ l) (at_drop_all (rest_aged seconds (drop at octets)) places i le ∙ no_rest seconds (drop at octets)) ∙ append-nil out) ∙ h
 
 all_written : (seconds : ℕ) (written : PlainWritten) (out before : List ℕ) → out ≡ before ++ all_aged seconds written.octets written.places
     → (records : List PlainRecord) → IsWritten written records → out ≡ before ++ records_octets (map (aged seconds) records)

@@ -45,3 +45,14 @@ unfoldable pub all_aged : ℕ → List ℕ → List Place → List ℕ
 all_aged seconds octets [] = []
 all_aged seconds octets (place ∷ places) =
     first_aged seconds octets place ++ all_aged seconds (drop (place.front + place.back) octets) places
+
+-- how many octets stand before the TTL of the first record
+abbrev pub front_of : List Place → ℕ
+front_of [] = 0
+front_of (place ∷ places) = place.front
+
+-- the records in these octets from the TTL of the first one on, when so many seconds have passed since they came
+unfoldable pub rest_aged : ℕ → List ℕ → List Place → List ℕ
+rest_aged seconds octets [] = []
+rest_aged seconds octets (place ∷ places) =
+    number_octets 4 (place.ttl - seconds) ++ (take place.back octets ++ all_aged seconds (drop place.back octets) places)

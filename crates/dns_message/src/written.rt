@@ -1,10 +1,11 @@
 //! Records as they are written, their TTLs apart.
 
-ghost use Rattle.std.specs.Prelude.{◌≡◌, List, [], ◌∷◌, ◌++◌, ◌+◌, ◌≤◌, length, map, drop, IfOk, OnOk};
+ghost use Rattle.std.specs.Prelude.{◌≡◌, List, [], ◌∷◌, ◌++◌, ◌+◌, ◌-◌, ◌≤◌, length, map, take, drop, IfOk, OnOk};
+ghost use Rattle.dns_record.specs.Number.{number_octets};
 ghost use Rattle.dns_record.specs.Record.{PlainRecord};
 ghost use Rattle.dns_message.specs.Aged.{aged};
 ghost use Rattle.dns_message.specs.Spelling.{records_octets};
-ghost use Rattle.dns_message.specs.Written.{IsWritten, all_aged, first_aged, lasting_octets, place_of, span};
+ghost use Rattle.dns_message.specs.Written.{IsWritten, all_aged, front_of, lasting_octets, place_of, rest_aged, span};
 
 use dns_name::Octets;
 use dns_record::Record;
@@ -102,27 +103,56 @@ fn write_all(
     requires { span places.now ≤ length octets.now }
     ensures { OnOk result (out.new ≡ out.old ++ all_aged seconds octets.now places.now) }
 {
-    let mut at = 0;
-    for place in places {
-        write_first(out, octets, at, place, seconds)?;
-        at += place.front + place.back;
+    let at = front_at(places, 0);
+    out.append(&octets[..at])?;
+    write_rest(out, octets, at, places, seconds)
+}
+
+// Writes the records from the TTL of the first one on, when so many seconds have passed since they came; behind it they go on
+// here.
+fn write_rest(
+    out: &mut Octets,
+    octets: &[u8],
+    start: usize,
+    places: &[Place],
+    seconds: u32,
+) -> Result<(), AllocError>
+    requires { start + span places.now ≤ length octets.now + front_of places.now }
+    ensures { OnOk result (out.new ≡ out.old ++ rest_aged seconds (drop start octets.now) places.now) }
+{
+    let mut at = start;
+    for number in 0..places.len() {
+        let next = front_at(places, number + 1);
+        write_from_ttl(out, octets, at, &places[number], next, seconds)?;
+        at += places[number].back + next;
     }
     Ok(())
 }
 
-// Writes the record that stands there, when so many seconds have passed since it came.
-fn write_first(
+// How many octets stand before the TTL of the record of this number; 0 where there is no such record.
+fn front_at(places: &[Place], number: usize) -> usize
+    ensures { result ≡ front_of (drop number places.now) }
+{
+    match places.get(number) {
+        None => 0,
+        Some(place) => place.front,
+    }
+}
+
+// Writes a record from its TTL on, when so many seconds have passed since it came, and what stands before the TTL of the next
+// one, which lies behind it.
+fn write_from_ttl(
     out: &mut Octets,
     octets: &[u8],
     at: usize,
     place: &Place,
+    next: usize,
     seconds: u32,
 ) -> Result<(), AllocError>
-    requires { at + (place.now.front + place.now.back) ≤ length octets.now }
-    ensures { OnOk result (out.new ≡ out.old ++ first_aged seconds (drop at octets.now) place.now) }
+    requires { at + (place.now.back + next) ≤ length octets.now }
+    ensures { OnOk result (out.new
+        ≡ out.old ++ (number_octets 4 (place.now.ttl - seconds) ++ take (place.now.back + next) (drop at octets.now))) }
 {
-    let middle = at + place.front;
-    out.append(&octets[at..middle])?;
     push_u32(out, place.ttl.saturating_sub(seconds))?;
-    out.append(&octets[middle..middle + place.back])
+    out.append(&octets[at..at + (place.back + next)])
 }
