@@ -12,3 +12,4 @@ pub mod MessageIs
 pub mod Limits
 pub mod MessageFaults
 pub mod Lasting
+pub mod Begins

@@ -67,6 +67,7 @@ impl WrittenRecords {
     pub fn write_aged(&self, out: &mut Octets, seconds: u32) -> Result<(), AllocError>
         ensures ok { (records : List PlainRecord) → IsWritten self.now records →
             OnOk result (out.new ≡ out.old ++ records_octets (map (aged seconds) records)) }
+        ensures begins { take (length out.old) out.new ≡ out.old }
     {
         write_all(out, self.octets.as_slice(), self.places.as_slice(), seconds)
     }
@@ -101,7 +102,8 @@ fn write_all(
     seconds: u32,
 ) -> Result<(), AllocError>
     requires { span places.now ≤ length octets.now }
-    ensures { OnOk result (out.new ≡ out.old ++ all_aged seconds octets.now places.now) }
+    ensures ok { OnOk result (out.new ≡ out.old ++ all_aged seconds octets.now places.now) }
+    ensures begins { take (length out.old) out.new ≡ out.old }
 {
     let at = front_at(places, 0);
     out.append(&octets[..at])?;
@@ -118,7 +120,8 @@ fn write_rest(
     seconds: u32,
 ) -> Result<(), AllocError>
     requires { start + span places.now ≤ length octets.now + front_of places.now }
-    ensures { OnOk result (out.new ≡ out.old ++ rest_aged seconds (drop start octets.now) places.now) }
+    ensures ok { OnOk result (out.new ≡ out.old ++ rest_aged seconds (drop start octets.now) places.now) }
+    ensures begins { take (length out.old) out.new ≡ out.old }
 {
     let mut at = start;
     for number in 0..places.len() {
@@ -150,8 +153,9 @@ fn write_from_ttl(
     seconds: u32,
 ) -> Result<(), AllocError>
     requires { at + (place.now.back + next) ≤ length octets.now }
-    ensures { OnOk result (out.new
+    ensures ok { OnOk result (out.new
         ≡ out.old ++ (number_octets 4 (place.now.ttl - seconds) ++ take (place.now.back + next) (drop at octets.now))) }
+    ensures begins { take (length out.old) out.new ≡ out.old }
 {
     push_u32(out, place.ttl.saturating_sub(seconds))?;
     out.append(&octets[at..at + (place.back + next)])
