@@ -12,31 +12,45 @@ use Rattle.qname_index.specs.Best.{pattern_order}
 use Rattle.qname_index.specs.Index.{IsKey, IsIndex}
 
 module _ {V : Type 0} where
-  abbrev Keys : List (PlainPattern × V) → Type 0
-  Keys es = AllByRecursion (λ e. IsKey e.0) es
+  -- what is true of the pattern of each entry
+  abbrev pub Each : (PlainPattern → Type 0) → List (PlainPattern × V) → Type 0
+  Each P es = AllByRecursion (λ e. P e.0) es
 
-  keys-insert : (k : PlainPattern) (v : V) (es : List (PlainPattern × V)) → IsKey k → Keys es → Keys (insert_entry pattern_order es k v)
-  keys-insert k v [] is h = (is, tt)
-  keys-insert k v (e ∷ es) is h =
-      elim (pattern_order k e.0) as (λ o. Keys (match_ordering o ((k, v) ∷ e ∷ es) ((e.0, v) ∷ es) (e ∷ insert_entry pattern_order es k v))) [
+  pub each : (P Q : PlainPattern → Type 0) (es : List (PlainPattern × V)) → ((p : PlainPattern) → P p → Q p) → Each P es → Each Q es
+  each P Q [] f h = tt
+  each P Q (e ∷ es) f h = (f e.0 h.0, each P Q es f h.1)
+
+  each-insert : (P : PlainPattern → Type 0) (k : PlainPattern) (v : V) (es : List (PlainPattern × V)) → P k → Each P es → Each P (insert_entry pattern_order es k v)
+  each-insert P k v [] is h = (is, tt)
+  each-insert P k v (e ∷ es) is h =
+      elim (pattern_order k e.0) as (λ o. Each P (match_ordering o ((k, v) ∷ e ∷ es) ((e.0, v) ∷ es) (e ∷ insert_entry pattern_order es k v))) [
         | Less ↦ (is, h)
         | Equal ↦ h
-        | Greater ↦ (h.0, keys-insert k v es is h.1)
+        | Greater ↦ (h.0, each-insert P k v es is h.1)
       ]
 
-  keys-remove : (test : PlainPattern → Bool) (es : List (PlainPattern × V)) → Keys es → Keys (remove_entry test es)
-  keys-remove test [] h = h
-  keys-remove test (e ∷ es) h = elim (test e.0) as (λ b. Keys (cond b es (e ∷ remove_entry test es))) [ true ↦ h.1 | false ↦ (h.0, keys-remove test es h.1) ]
+  each-remove : (P : PlainPattern → Type 0) (test : PlainPattern → Bool) (es : List (PlainPattern × V)) → Each P es → Each P (remove_entry test es)
+  each-remove P test [] h = h
+  each-remove P test (e ∷ es) h = elim (test e.0) as (λ b. Each P (cond b es (e ∷ remove_entry test es))) [ true ↦ h.1 | false ↦ (h.0, each-remove P test es h.1) ]
+
+  -- a removal leaves what is true of each pattern true
+  pub each-removed : (P : PlainPattern → Type 0) (test : PlainPattern → Bool) (old new : List (PlainPattern × V)) → Each P old → new ≡ remove_entry test old → Each P new
+  each-removed P test old new h entries = subst (Each P) (sym entries) (each-remove P test old h)
+
+  -- an insertion, which may want memory, leaves what is true of each pattern and of the new one true
+  pub each-inserted : {A E : Type 0} (P : PlainPattern → Type 0) (r : Result A E) (k : PlainPattern) (v : V) (old new : List (PlainPattern × V)) → P k → Each P old
+      → OnOk r (new ≡ insert_entry pattern_order old k v) → OnErr r (new ≡ old) → Each P new
+  each-inserted P (Ok _) k v old new is h ok err = subst (Each P) (sym ok) (each-insert P k v old is h)
+  each-inserted P (Err _) k v old new is h ok err = subst (Each P) (sym err) h
 
   -- a removal leaves entries that are ordered an index
   pub index-remove : (test : PlainPattern → Bool) (old new : List (PlainPattern × V)) → IsIndex old → IsStrictlySortedBy pattern_order (keys_of new) → new ≡ remove_entry test old → IsIndex new
-  index-remove test old new h ordered entries = record { keys = subst Keys (sym entries) (keys-remove test old h.keys); ordered = ordered }
+  index-remove test old new h ordered entries = record { keys = each-removed IsKey test old new h.keys entries; ordered = ordered }
 
   -- an insertion, which may want memory, leaves entries that are ordered an index
   pub index-insert : {A E : Type 0} (r : Result A E) (k : PlainPattern) (v : V) (old new : List (PlainPattern × V)) → IsKey k → IsIndex old → IsStrictlySortedBy pattern_order (keys_of new)
       → OnOk r (new ≡ insert_entry pattern_order old k v) → OnErr r (new ≡ old) → IsIndex new
-  index-insert (Ok _) k v old new is h ordered ok err = record { keys = subst Keys (sym ok) (keys-insert k v old is h.keys); ordered = ordered }
-  index-insert (Err _) k v old new is h ordered ok err = record { keys = subst Keys (sym err) h.keys; ordered = ordered }
+  index-insert r k v old new is h ordered ok err = record { keys = each-inserted IsKey r k v old new is h.keys ok err; ordered = ordered }
 
   -- the first entry whose key passes, by its key and its value
   pub entry-some : (test : PlainPattern → Bool) (es : List (PlainPattern × V)) (k : PlainPattern) (v : V) → Some k ≡ lookup_key test es → Some v ≡ lookup test es → Some (k, v) ≡ lookup_entry test es

@@ -6,6 +6,7 @@ use Rattle.std.specs.Ordering.{bool_cmp, ordering_then}
 use Rattle.std.specs.declared.cmp.Ordering.{Ordering}
 use Rattle.std.specs.declared.cmp.Ordering.TheVariants.{Less, Equal, Greater}
 use Rattle.std.proofs.lemmas.Bool.{cases_Bool, and_parts, and_from}
+use Rattle.std.proofs.lemmas.Cmp.{ranked}
 use Rattle.std.proofs.lemmas.Map.Text.{is_eq-slice_cmp}
 use Rattle.dns_name.specs.Alike.{PlainPattern, matches, same_name, ends_with}
 use Rattle.dns_name.specs.Labels.{IsName, EndsWith, name_octets, lowered}
@@ -29,11 +30,11 @@ same_bool false true h = absurd (true≢false (ap is_lt h))
 same_bool true false h = absurd (true≢false (ap is_gt h))
 same_bool true true h = refl
 
-tied : (q r : Rank) → rank_order q r ≡ Equal → (q.wild ≡ r.wild) × (q.octets ≡ r.octets)
+pub tied : (q r : Rank) → rank_order q r ≡ Equal → (q.wild ≡ r.wild) × (r.labels ≡ q.labels) × (q.octets ≡ r.octets)
 tied q r h =
     let first = then_equal (bool_cmp q.wild r.wild) (ordering_then (nat_cmp r.labels q.labels) (slice_cmp nat_cmp q.octets r.octets)) h in
     let second = then_equal (nat_cmp r.labels q.labels) (slice_cmp nat_cmp q.octets r.octets) first.1 in
-    (same_bool q.wild r.wild first.0, (bytes_decides q.octets r.octets).0 (sym (is_eq-slice_cmp q.octets r.octets) ∙ ap is_eq second.1))
+    (same_bool q.wild r.wild first.0, ranked r.labels q.labels Equal (sym second.0), (bytes_decides q.octets r.octets).0 (sym (is_eq-slice_cmp q.octets r.octets) ∙ ap is_eq second.1))
 
 at_rank : (q : Rank) (p : PlainPattern) → rank_of p ≡ q → rank_order q (rank_of p) ≡ Equal
 at_rank q p e = ap (λ r. rank_order q r) e ∙ tied_itself rank_total q
@@ -133,9 +134,9 @@ module _ (laws : Laws) (name : List (List ℕ)) (lower_case : lowered name ≡ n
   pub at_exact : IsName name → rank_order (exact_rank name) (rank_of p) ≡ Equal → matches p name ≡ true
   at_exact is_name h =
       let ties = tied (exact_rank name) (rank_of p) h in
-      exact_matches (sym ties.0) (laws.told p.base name key.name is_name (sym ties.1))
+      exact_matches (sym ties.0) (laws.told p.base name key.name is_name (sym ties.2))
 
   pub at_wild : (count : ℕ) → count < length name → IsName (drop (length name - count) name) → rank_order (wild_rank name count) (rank_of p) ≡ Equal → matches p name ≡ true
   at_wild count fits is_name h =
       let ties = tied (wild_rank name count) (rank_of p) h in
-      wild_matches (length name - count) (sym ties.0) (laws.told p.base (drop (length name - count) name) key.name is_name (sym ties.1)) (omega (arith, fits)) (omega (arith, fits))
+      wild_matches (length name - count) (sym ties.0) (laws.told p.base (drop (length name - count) name) key.name is_name (sym ties.2)) (omega (arith, fits)) (omega (arith, fits))

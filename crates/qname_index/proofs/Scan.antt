@@ -12,6 +12,7 @@ use Rattle.dns_name.specs.Labels.{IsName, lowered}
 use Rattle.qname_index.specs.Best.{pattern_order, best}
 use Rattle.qname_index.specs.Index.{IsKey, IsIndex}
 use Rattle.qname_index.specs.Rank.{Rank, rank_of, rank_order, rank_total, exact_rank, wild_rank, has_rank}
+use Rattle.qname_index.proofs.Entries.{Each, each}
 use Rattle.qname_index.proofs.Ranks.{Laws, IsLeft, after_exact, after_wild, before_exact, before_wild, at_exact, at_wild}
 
 abbrev Misses : Rank → PlainPattern → Type 0
@@ -29,13 +30,6 @@ abbrev IsOff : List (List ℕ) → PlainPattern → Type 0
 IsOff name p = matches p name ≡ false
 
 module _ {V : Type 0} where
-  abbrev Each : (PlainPattern → Type 0) → List (PlainPattern × V) → Type 0
-  Each P es = AllByRecursion (λ e. P e.0) es
-
-  each : (P Q : PlainPattern → Type 0) (es : List (PlainPattern × V)) → ((p : PlainPattern) → P p → Q p) → Each P es → Each Q es
-  each P Q [] f h = tt
-  each P Q (e ∷ es) f h = (f e.0 h.0, each P Q es f h.1)
-
   both : (P Q : PlainPattern → Type 0) (es : List (PlainPattern × V)) → Each P es → Each Q es → Each (λ p. P p × Q p) es
   both P Q [] h k = tt
   both P Q (e ∷ es) h k = ((h.0, k.0), both P Q es h.1 k.1)

@@ -126,6 +126,13 @@ impl Key {
         &self.pattern
     }
 
+    // How many labels the base has.
+    pub(crate) fn labels(&self) -> usize
+        ensures { result ≡ length self.now.base }
+    {
+        self.labels
+    }
+
     pub(crate) fn into_pattern(self) -> Pattern
         ensures { result ≡ self }
     {

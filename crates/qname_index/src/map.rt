@@ -1,12 +1,13 @@
 //! The map.
 
-ghost use Rattle.std.specs.Prelude.{◌≡◌, [], length, IfOk, OnOk, OnErr};
+ghost use Rattle.std.specs.Prelude.{◌≡◌, true, false, [], length, IfOk, OnOk, OnErr, slice_index_or};
 ghost use Rattle.std.specs.BTreeMap.{insert_entry, is_at};
 ghost use Rattle.std.specs.Map.{keys_of, lookup, lookup_entry, remove_entry};
 ghost use Rattle.std.specs.Option.{option_map, option_copied};
+ghost use Rattle.dns_name.specs.Alike.{PlainPattern};
 ghost use Rattle.dns_name.specs.Labels.{lowered};
 ghost use Rattle.qname_index.specs.Best.{pattern_order, best};
-ghost use Rattle.qname_index.specs.Index.{IsIndex};
+ghost use Rattle.qname_index.specs.Index.{IsIndex, IsMarked};
 ghost use Rattle.qname_index.specs.Rank.{has_rank};
 
 use crate::key::{Asked, Key, head_of};
@@ -16,23 +17,46 @@ use std::alloc::{AllocError, Global};
 use std::collections::BTreeMap;
 use std::marker::Model;
 
+// One more than the labels that a name can have: each takes two octets or more, of 255, and one octet is the zero.
+const DEPTHS: usize = 128;
+
 /// A map from patterns of names to values. Contracts see its entries in order of precedence: exact patterns
 /// before wild ones, then the base of more labels first.
 #[derive(Drop)]
 pub struct NameMap<V> {
     entries: BTreeMap<Key, V>,
+    // Whether a wild pattern may have a base of so many labels. Without it a look-up searches the entries once for
+    // each ancestor of the name, of which most can't be there. A removal clears no mark.
+    wild_depths: [bool; DEPTHS],
 }
 
 impl<V> Model for NameMap<V> {
     ghost use Rattle.std.specs.Prelude.{List};
     ghost use Rattle.dns_name.specs.Alike.{PlainPattern};
-    ghost use Rattle.qname_index.specs.Index.{IsIndex};
+    ghost use Rattle.qname_index.specs.Index.{IsIndex, AreMarked};
 
     ghost Value = { List (PlainPattern × V) };
 
     ghost view = { λ m. m.entries.entries };
 
-    ghost invariant = { λ m. IsIndex m.entries.entries };
+    ghost invariant = { λ m. IsIndex m.entries.entries × AreMarked m.wild_depths m.entries.entries };
+}
+
+// Marks how many labels the base of the pattern has, where the pattern is wild.
+fn mark(depths: &mut [bool; DEPTHS], key: &Key)
+    ensures marked { IsMarked depths.new key.now }
+    ensures kept { (pattern : PlainPattern) → IsMarked depths.old pattern → IsMarked depths.new pattern }
+{
+    if key.pattern().is_wild() {
+        depths[key.labels()] = true;
+    }
+}
+
+// Whether so many labels are marked.
+fn is_marked(depths: &[bool; DEPTHS], labels: usize) -> bool
+    ensures { result ≡ slice_index_or depths.now labels false }
+{
+    labels < DEPTHS && depths[labels]
 }
 
 impl<V> NameMap<V> {
@@ -42,6 +66,7 @@ impl<V> NameMap<V> {
     {
         NameMap {
             entries: BTreeMap::new(alloc),
+            wild_depths: [false; DEPTHS],
         }
     }
 
@@ -62,7 +87,9 @@ impl<V> NameMap<V> {
         ensures ok { OnOk result (self.new ≡ insert_entry pattern_order self.old pattern value) }
         ensures err { OnErr result (self.new ≡ self.old) }
     {
-        Ok(self.entries.insert(Key::new(pattern), value)?)
+        let key = Key::new(pattern);
+        mark(&mut self.wild_depths, &key);
+        Ok(self.entries.insert(key, value)?)
     }
 
     /// The value at the pattern. It takes no memory, and its time is logarithmic in the number of entries.
@@ -107,9 +134,29 @@ impl<V> NameMap<V> {
         }
     }
 
+    // The entry of the wild pattern with this base. The entries are searched only where a wild pattern may have a
+    // base of so many labels.
+    fn find_wild(&self, labels: usize, octets: &[u8]) -> Option<(&Pattern, &V)>
+        ensures found { option_map (λ e. (e.0.now, e.1.now)) result
+            ≡ lookup_entry (has_rank (record { wild = true; labels = labels; octets = octets.now })) self.now }
+        ensures index { IsIndex self.now }
+    {
+        if is_marked(&self.wild_depths, labels) {
+            self.find(Asked {
+                wild: true,
+                labels,
+                octets,
+                head: head_of(octets),
+            })
+        } else {
+            None
+        }
+    }
+
     /// The first entry in order of precedence whose pattern is about the name: the exact one, and then the wild one of
     /// the longest base. The name is in lower case ([`Name::lower`]), as bases are. It takes no memory; its time is
-    /// that of as many look-ups as the name has labels, and one.
+    /// that of at most as many look-ups as the name has labels, and one. An ancestor of so many labels as no base of a
+    /// wild pattern ever had in this map isn't looked up.
     pub fn best(&self, name: &Name) -> Option<(&Pattern, &V)>
         requires { lowered name.now ≡ name.now }
         ensures { option_map (λ e. (e.0.now, e.1.now)) result ≡ best name.now self.now }
@@ -134,14 +181,7 @@ impl<V> NameMap<V> {
         while left > 0 {
             let _label = labels.next_label();
             left -= 1;
-            let octets = labels.octets();
-            let wild = Asked {
-                wild: true,
-                labels: left,
-                octets,
-                head: head_of(octets),
-            };
-            if let Some(found) = self.find(wild) {
+            if let Some(found) = self.find_wild(left, labels.octets()) {
                 return Some(found);
             }
         }
