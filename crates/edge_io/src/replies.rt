@@ -1,0 +1,161 @@
+// Where replies go, and a place for them in memory.
+ghost use Rattle.std.specs.Prelude.{◌≡◌, ◌≤◌, ℕ, List, [], Option, Some, None, Err};
+ghost use Rattle.std.specs.Option.{option_map};
+ghost use Rattle.edge_io.specs.Edge.{Rose};
+ghost use Rattle.edge_io.specs.Told.{PlainReply, Closings, more_if_ok, closed_more};
+ghost use Rattle.edge_io.specs.declared.replies.SendError.TheVariants.{OutOfMemory};
+
+use crate::{Endpoint, Schedule, Sink, Source};
+use dns_name::Octets;
+use std::alloc::{AllocError, AllocFailed, Global};
+use std::marker::Model;
+
+/// How a connection ended.
+#[derive(Clone, Copy, Debug, PartialEq, Eq)]
+pub enum StreamEnd {
+    /// It ended between two messages.
+    End,
+    /// It had as many messages as a connection may have.
+    Limit,
+    /// It ended inside a message.
+    Cut,
+    /// A read has failed.
+    ReadFault,
+    /// A write has failed.
+    WriteFault,
+    OutOfMemory,
+}
+
+/// Why a reply was not sent.
+#[derive(Clone, Copy, Debug, PartialEq, Eq)]
+pub enum SendError {
+    /// There was no room for it. That is no fault: the count of faults stands still.
+    OutOfMemory,
+    /// A fault of sending. The count of faults has risen in this call.
+    Failed,
+}
+
+impl From<AllocError> for SendError {
+    ghost from_gives = { λ _ e. e ≡ OutOfMemory };
+
+    fn from(_: AllocError) -> Self {
+        SendError::OutOfMemory
+    }
+}
+
+impl<T: Drop> From<AllocFailed<T>> for SendError {
+    ghost from_gives = { λ _ e. e ≡ OutOfMemory };
+
+    fn from(_: AllocFailed<T>) -> Self {
+        SendError::OutOfMemory
+    }
+}
+
+/// Where replies to datagrams go, and where connections are closed.
+///
+/// One in memory tells what was sent and which connection was closed last. One over sockets doesn't.
+pub trait Replies<S: Source, K: Sink> {
+    /// The replies that were sent, in order, where it tells. One that was not sent is not among them.
+    ghost sent: { Self → Option (List PlainReply) };
+
+    /// How many connections were closed, and the last of them, where it tells.
+    ghost closings: { Self → Option (Closings S K) };
+
+    /// How often a send has failed. It never falls, and stands still at 2^64 - 1.
+    ghost faults: { Self → ℕ };
+
+    /// Sends a reply as one datagram.
+    fn send(&mut self, peer: Endpoint, bytes: &[u8]) -> Result<(), SendError>
+        ensures sent { sent self.new ≡
+            more_if_ok (sent self.old) result (record { peer = peer; bytes = bytes.now }) }
+        ensures closings { closings self.new ≡ closings self.old }
+        ensures count { faults self.old ≤ faults self.new }
+        ensures failed { result ≡ Err SendError.Failed → Rose (faults self.old) (faults self.new) }
+        ensures no_room { result ≡ Err SendError.OutOfMemory → faults self.new ≡ faults self.old };
+
+    /// Closes a connection that has ended. It never fails.
+    fn close(&mut self, source: S, sink: K, end: StreamEnd)
+        ensures sent { sent self.new ≡ sent self.old }
+        ensures closings { closings self.new ≡
+            closed_more (closings self.old) (record { source = source; sink = sink; why = end }) }
+        ensures count { faults self.new ≡ faults self.old };
+}
+
+/// A reply that was sent. Contracts see its peer and its bytes.
+#[derive(Drop)]
+pub struct SentReply {
+    pub peer: Endpoint,
+    pub bytes: Octets,
+}
+
+impl Model for SentReply {
+    ghost Value = { PlainReply };
+
+    ghost view = { λ r. record { peer = r.peer; bytes = r.bytes } };
+}
+
+impl SentReply {
+    fn new(peer: Endpoint, bytes: Octets) -> Self
+        ensures peer { result.peer ≡ peer }
+        ensures bytes { result.bytes ≡ bytes }
+    {
+        SentReply { peer, bytes }
+    }
+}
+
+/// Replies in memory: it keeps what is sent, counts the connections that are closed, at most 2^64 - 1, and keeps the
+/// last of them. A send fails where it is told to; one that finds no memory is no fault.
+#[derive(Drop)]
+pub struct ListReplies<S: Source + Drop, K: Sink + Drop> {
+    alloc: Global,
+    /// What was sent, in order.
+    pub sent: Vec<SentReply>,
+    /// How many connections were closed.
+    pub closed: u64,
+    /// The connection that was closed last, and how it ended.
+    pub last: Option<(S, K, StreamEnd)>,
+    schedule: Schedule,
+}
+
+impl<S: Source + Drop, K: Sink + Drop> ListReplies<S, K> {
+    /// Nothing is sent yet. The sends of the numbers in `failing` fail, and the first send is send 0.
+    pub fn new(alloc: Global, failing: Vec<u64>) -> Self
+        ensures sent { ⟦<ListReplies<S, K> as Replies<S, K>>⟧.sent result ≡ Some [] }
+        ensures closings { ⟦<ListReplies<S, K> as Replies<S, K>>⟧.closings result ≡
+            Some (record { count = 0; last = None }) }
+        ensures no_fault { ⟦<ListReplies<S, K> as Replies<S, K>>⟧.faults result ≡ 0 }
+    {
+        ListReplies {
+            alloc,
+            sent: Vec::new(alloc),
+            closed: 0,
+            last: None,
+            schedule: Schedule::new(failing),
+        }
+    }
+}
+
+impl<S: Source + Drop, K: Sink + Drop> Replies<S, K> for ListReplies<S, K> {
+    ghost sent = { λ r. Some r.sent.items };
+
+    ghost closings = { λ r. Some (record {
+      count = r.closed;
+      last = option_map (λ e. record { source = e.0; sink = e.1; why = e.2 }) r.last;
+    }) };
+
+    ghost faults = { λ r. r.schedule.faults };
+
+    fn send(&mut self, peer: Endpoint, bytes: &[u8]) -> Result<(), SendError> {
+        if self.schedule.fails_now() {
+            return Err(SendError::Failed);
+        }
+        let bytes = Octets::from_slice(self.alloc, bytes)?;
+        self.sent.push(SentReply::new(peer, bytes))?;
+        Ok(())
+    }
+
+    fn close(&mut self, source: S, sink: K, end: StreamEnd) {
+        self.closed = self.closed.saturating_add(1);
+        self.last = Some((source, sink, end));
+    }
+}
