@@ -5,3 +5,4 @@ pub mod Feeding
 pub mod Streams
 pub mod Own
 pub mod Taking
+pub mod Short

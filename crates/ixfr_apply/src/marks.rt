@@ -1,7 +1,7 @@
 //! Which zones are asked for whole next.
 
 ghost use Rattle.std.specs.Prelude.{◌≡◌, length, IfOk};
-ghost use Rattle.rpz_core.specs.Marks.{mark_at, no_marks, with_mark};
+ghost use Rattle.ixfr_apply.specs.Marks.{mark_at, no_marks, with_mark};
 
 use dns_name::Name;
 use std::alloc::{AllocError, Global};
@@ -9,7 +9,7 @@ use std::marker::Model;
 
 /// Which zones are marked, so that all of them is asked for next. Contracts see their list; the first is zone 1.
 #[derive(Drop)]
-pub(crate) struct Marks {
+pub struct Marks {
     marks: Vec<bool>,
 }
 
@@ -23,7 +23,7 @@ impl Model for Marks {
 
 impl Marks {
     /// No zone of these origins is marked.
-    pub(crate) fn new(alloc: Global, origins: &[Name]) -> Result<Self, AllocError>
+    pub fn new(alloc: Global, origins: &[Name]) -> Result<Self, AllocError>
         ensures { IfOk result (λ marks. marks ≡ no_marks origins.now) }
     {
         let marks = origins.iter().map(|_origin| false).collect(alloc)?;
@@ -31,7 +31,7 @@ impl Marks {
     }
 
     /// Whether the zone of this number is marked.
-    pub(crate) fn get(&self, number: u32) -> bool
+    pub fn get(&self, number: u32) -> bool
         ensures { result ≡ mark_at self.now number }
     {
         let place = number.saturating_sub(1) as usize;
@@ -39,7 +39,7 @@ impl Marks {
     }
 
     /// Marks the zone of this number, or no more.
-    pub(crate) fn set(&mut self, number: u32, marked: bool)
+    pub fn set(&mut self, number: u32, marked: bool)
         ensures { self.new ≡ with_mark self.old number marked }
     {
         let place = number.saturating_sub(1) as usize;

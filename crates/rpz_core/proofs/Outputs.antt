@@ -20,8 +20,9 @@ use Rattle.rpz_core.specs.declared.event.Event.TheVariants.{Transfer, Full, Quer
 use Rattle.rpz_core.specs.declared.event.Output.{Output}
 use Rattle.rpz_core.specs.declared.event.Output.TheVariants as output
 use Rattle.rpz_core.specs.Faults.{IsQuiet}
-use Rattle.rpz_core.specs.Marks.{mark_at, with_mark}
-use Rattle.rpz_core.specs.Offer.{Offer, takes, is_current, refuses, offer, offer_output}
+use Rattle.ixfr_apply.specs.Marks.{mark_at, with_mark}
+use Rattle.ixfr_apply.specs.Offer.{Offer, takes, is_current, refuses, offer}
+use Rattle.rpz_core.specs.Offer.{offer_output}
 use Rattle.rpz_core.specs.Resolving.{Resolved, resolve}
 use Rattle.rpz_core.specs.Sessions.{PendingQuery, SessionsState, answered_step, caching, facts_with, learned_by, pending_step, query_step, resolved_step, resumed_step, turn_step, with_cached}
 use Rattle.rpz_core.specs.World.{World, clock_step, policy_of, transfer_step, full_step, with_sessions, world_step}
@@ -64,7 +65,7 @@ transfer_keeps w next number stream (Some zone) out e =
 
 transfer_speaks : (w next : World) (number : ℕ) (stream : List ℕ) (zone : Option PlainZone) (out : Output) → transfer_step w number stream zone ≡ Ok (next, out) → Speaks out
 transfer_speaks w next number stream None out e = absurd (refused _ next out e)
-transfer_speaks w next number stream (Some zone) out e = subst (λ (g : World × Output). Speaks g.1) (given _ next out e) (offer_speaks number (offer (mark_at w.marks number) zone stream))
+transfer_speaks w next number stream (Some zone) out e = subst (λ (g : World × Output). Speaks g.1) (given _ next out e) (offer_speaks number (offer 0 (mark_at w.marks number) zone stream))
 
 full_is : (w next : World) (number : ℕ) (zone : Option PlainZone) (out : Output) → full_step w number zone ≡ Ok (next, out) → Keeps w next × (out ≡ output.None)
 full_is w next number None out e = absurd (refused _ next out e)

@@ -8,15 +8,17 @@ use Rattle.zone_rows.specs.Zone.{apply_outcome}
 use Rattle.axfr_apply.specs.declared.taken.Taken.TheVariants as taken
 use Rattle.axfr_apply.specs.Reading.{Outcome}
 use Rattle.ixfr_apply.specs.Stream.{reading}
-use Rattle.policy_snapshot.specs.Policy.{PlainPolicy, Entry, zone_at, policy_after}
+use Rattle.policy_snapshot.specs.declared.entry.Entry.{Entry}
+use Rattle.policy_snapshot.specs.Policy.{PlainPolicy, zone_at, policy_after}
 use Rattle.policy_snapshot.specs.Stands.{next_count, count_of}
 use Rattle.policy_snapshot.proofs.Standing.{policy_next, count_after}
 use Rattle.rpz_core.specs.declared.event.CoreFault.{CoreFault}
 use Rattle.rpz_core.specs.declared.event.Event.{Event}
 use Rattle.rpz_core.specs.declared.event.Event.TheVariants.{Transfer, Full, Query, Give, Fail, Clock}
 use Rattle.rpz_core.specs.declared.event.Output.{Output}
-use Rattle.rpz_core.specs.Marks.{mark_at, with_mark}
-use Rattle.rpz_core.specs.Offer.{Offer, takes, is_current, refuses, offer, offer_by_outcome, offer_by_reading, request_of, content_taken, mark_after, wanted_of}
+use Rattle.ixfr_apply.specs.Marks.{mark_at, with_mark}
+use Rattle.ixfr_apply.specs.Offer.{Offer, takes, is_current, refuses, offer, offer_by_outcome, offer_by_reading, request_of, mark_after, wanted_of}
+use Rattle.rpz_core.specs.Offer.{content_taken}
 use Rattle.rpz_core.specs.Sessions.{SessionsState, take_query, take_answer, take_failure}
 use Rattle.rpz_core.specs.State as core
 use Rattle.rpz_core.specs.State.{CoreState, state_of, seen, core_after_offer}
@@ -61,7 +63,7 @@ transfer_seen : (w : World) (number : ℕ) (stream : List ℕ) (zone : Option Pl
 transfer_seen w number stream None at = refl
 transfer_seen w number stream (Some zone) at =
     let marked = mark_at w.marks number in
-    ap (λ (g : CoreState × Output). Ok g) (offer_seen w number zone stream (offer marked zone stream) at (reading_takes zone (reading (request_of marked zone) stream).0))
+    ap (λ (g : CoreState × Output). Ok g) (offer_seen w number zone stream (offer 0 marked zone stream) at (reading_takes zone (reading (request_of 0 marked zone) stream).0))
 
 full_seen : (w : World) (number : ℕ) (zone : Option PlainZone) → core.full_step (state_of w) number zone ≡ seen (full_step w number zone)
 full_seen w number None = refl

@@ -2,13 +2,14 @@
 use Rattle.std.proofs.Common.{◌≡◌, ◌≢◌, ℕ, ◌-◌, false, List, Option, Some, None, Result, Ok, Err, refl, ap, subst}
 use Rattle.std.proofs.lemmas.List.{get_or-set_other}
 use Rattle.zone_rows.specs.declared.zone.PlainZone.{PlainZone}
-use Rattle.policy_snapshot.specs.Policy.{Entry}
+use Rattle.policy_snapshot.specs.declared.entry.Entry.{Entry}
 use Rattle.rpz_core.specs.declared.event.CoreFault.{CoreFault}
 use Rattle.rpz_core.specs.declared.event.Output.{Output}
 use Rattle.rpz_core.specs.declared.event.Output.TheVariants.{Refused}
-use Rattle.rpz_core.specs.declared.event.Refusal.{Refusal}
-use Rattle.rpz_core.specs.Offer.{Offer, takes, is_current, refuses, offer, offer_output}
-use Rattle.rpz_core.specs.Marks.{mark_at}
+use Rattle.ixfr_apply.specs.declared.refusal.Refusal.{Refusal}
+use Rattle.ixfr_apply.specs.Offer.{Offer, takes, is_current, refuses, offer}
+use Rattle.rpz_core.specs.Offer.{offer_output}
+use Rattle.ixfr_apply.specs.Marks.{mark_at}
 use Rattle.rpz_core.specs.World.{World, accepted_after, world_after_offer, transfer_step}
 
 gave : (gives next : World) (out other : Output) → ◌≡◌ {A = Result (World × Output) CoreFault} (Ok (gives, out)) (Ok (next, other)) → (gives ≡ next) × (out ≡ other)
@@ -29,7 +30,7 @@ refused_adds_none accepted number zone why (refuses refusal) e = refl
 pub refused_keeps : (w next : World) (number zone : ℕ) (stream : List ℕ) (why : Refusal) (found : Option PlainZone) → transfer_step w number stream found ≡ Ok (next, Refused zone why) → next.accepted ≡ w.accepted
 refused_keeps w next number zone stream why None e = absurd (failed _ next _ e)
 refused_keeps w next number zone stream why (Some z) e =
-    let offered = offer (mark_at w.marks number) z stream in
+    let offered = offer 0 (mark_at w.marks number) z stream in
     let same = gave (world_after_offer w number z offered).0 next (offer_output number offered) (Refused zone why) e in
     subst (λ (x : World). x.accepted ≡ w.accepted) same.0 (refused_adds_none w.accepted number zone why offered same.1)
 
@@ -37,7 +38,7 @@ refused_keeps w next number zone stream why (Some z) e =
 pub keeps_sessions : (w next : World) (number : ℕ) (stream : List ℕ) (found : Option PlainZone) (out : Output) → transfer_step w number stream found ≡ Ok (next, out) → next.sessions ≡ w.sessions
 keeps_sessions w next number stream None out e = absurd (failed _ next out e)
 keeps_sessions w next number stream (Some z) out e =
-    let offered = offer (mark_at w.marks number) z stream in
+    let offered = offer 0 (mark_at w.marks number) z stream in
     let same = gave (world_after_offer w number z offered).0 next (offer_output number offered) out e in
     subst (λ (x : World). x.sessions ≡ w.sessions) same.0 refl
 
@@ -46,6 +47,6 @@ pub keeps_marks : (w next : World) (number other : ℕ) (stream : List ℕ) (fou
     → mark_at next.marks other ≡ mark_at w.marks other
 keeps_marks w next number other stream None out e differs = absurd (failed _ next out e)
 keeps_marks w next number other stream (Some z) out e differs =
-    let offered = offer (mark_at w.marks number) z stream in
+    let offered = offer 0 (mark_at w.marks number) z stream in
     let same = gave (world_after_offer w number z offered).0 next (offer_output number offered) out e in
     subst (λ (x : World). mark_at x.marks other ≡ mark_at w.marks other) same.0 (get_or-set_other w.marks (number - 1) (other - 1) _ false differs)

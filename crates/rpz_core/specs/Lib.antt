@@ -1,4 +1,3 @@
-pub mod Marks
 pub mod Resolving
 pub mod Answered
 pub mod Sessions

@@ -7,8 +7,9 @@ use Rattle.rpz_core.specs.declared.event.Output.{Output}
 use Rattle.rpz_core.specs.declared.event.Output.TheVariants as output
 use Rattle.rpz_core.specs.declared.offer.Offered.{Offered}
 use Rattle.rpz_core.specs.declared.offer.Offered.TheVariants.{Takes, Current, Refuses}
-use Rattle.rpz_core.specs.Offer.{Offer, takes, is_current, refuses, asks_newer, zone_taken}
-use Rattle.rpz_core.specs.Marks.{with_mark}
+use Rattle.ixfr_apply.specs.Offer.{Offer, takes, is_current, refuses, asks_newer}
+use Rattle.rpz_core.specs.Offer.{zone_taken}
+use Rattle.ixfr_apply.specs.Marks.{with_mark}
 use Rattle.rpz_core.specs.State.{CoreState, with_zone}
 
 -- what code keeps of an offer to the zone of this number

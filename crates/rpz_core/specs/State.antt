@@ -12,8 +12,9 @@ use Rattle.rpz_core.specs.declared.event.Event.{Event}
 use Rattle.rpz_core.specs.declared.event.Event.TheVariants as event
 use Rattle.rpz_core.specs.declared.event.Output.{Output}
 use Rattle.rpz_core.specs.declared.event.Output.TheVariants as output
-use Rattle.rpz_core.specs.Marks.{mark_at, no_marks, with_mark}
-use Rattle.rpz_core.specs.Offer.{Offer, takes, is_current, refuses, offer, offer_output, mark_after, wanted_of}
+use Rattle.ixfr_apply.specs.Marks.{mark_at, no_marks, with_mark}
+use Rattle.ixfr_apply.specs.Offer.{Offer, takes, is_current, refuses, offer, mark_after, wanted_of}
+use Rattle.rpz_core.specs.Offer.{offer_output}
 use Rattle.rpz_core.specs.Sessions.{PendingQuery, SessionsState, with_worker, no_sessions, uncached, take_query, take_answer, take_failure}
 use Rattle.rpz_core.specs.World.{World, policy_of}
 
@@ -53,7 +54,7 @@ core_after_offer core number zone offered =
 
 abbrev pub transfer_step : CoreState → ℕ → List ℕ → Option PlainZone → Result (CoreState × Output) CoreFault
 transfer_step core number stream None = Err fault.NoZone
-transfer_step core number stream (Some zone) = Ok (core_after_offer core number zone (offer (mark_at core.marks number) zone stream))
+transfer_step core number stream (Some zone) = Ok (core_after_offer core number zone (offer 0 (mark_at core.marks number) zone stream))
 
 abbrev pub full_step : CoreState → ℕ → Option PlainZone → Result (CoreState × Output) CoreFault
 full_step core number None = Err fault.NoZone

@@ -1,15 +1,17 @@
 -- The world of the core, and what each event does to it.
 use Rattle.std.specs.Prelude.{ℕ, Bool, true, List, [], ◌∷◌, ◌++◌, Option, Some, None, Result, Ok, Err}
 use Rattle.zone_rows.specs.declared.zone.PlainZone.{PlainZone}
-use Rattle.policy_snapshot.specs.Policy.{PlainPolicy, Entry, zone_at, policy_after}
+use Rattle.policy_snapshot.specs.declared.entry.Entry.{Entry}
+use Rattle.policy_snapshot.specs.Policy.{PlainPolicy, zone_at, policy_after}
 use Rattle.rpz_core.specs.declared.event.CoreFault.{CoreFault}
 use Rattle.rpz_core.specs.declared.event.CoreFault.TheVariants as fault
 use Rattle.rpz_core.specs.declared.event.Event.{Event}
 use Rattle.rpz_core.specs.declared.event.Event.TheVariants.{Transfer, Full, Query, Give, Fail, Clock}
 use Rattle.rpz_core.specs.declared.event.Output.{Output}
 use Rattle.rpz_core.specs.declared.event.Output.TheVariants as output
-use Rattle.rpz_core.specs.Marks.{mark_at, no_marks, with_mark}
-use Rattle.rpz_core.specs.Offer.{Offer, takes, is_current, refuses, offer, offer_output, mark_after, wanted_of}
+use Rattle.ixfr_apply.specs.Marks.{mark_at, no_marks, with_mark}
+use Rattle.ixfr_apply.specs.Offer.{Offer, takes, is_current, refuses, offer, mark_after, wanted_of}
+use Rattle.rpz_core.specs.Offer.{offer_output}
 use Rattle.rpz_core.specs.Sessions.{SessionsState, no_sessions, take_query, take_answer, take_failure}
 
 -- the origins of the policy's zones, the accepted transfers in order, which zones are marked, so that all of them is asked for
@@ -50,7 +52,7 @@ world_after_offer world number zone offered =
 
 abbrev pub transfer_step : World → ℕ → List ℕ → Option PlainZone → Result (World × Output) CoreFault
 transfer_step world number stream None = Err fault.NoZone
-transfer_step world number stream (Some zone) = Ok (world_after_offer world number zone (offer (mark_at world.marks number) zone stream))
+transfer_step world number stream (Some zone) = Ok (world_after_offer world number zone (offer 0 (mark_at world.marks number) zone stream))
 
 -- a zone is marked
 abbrev pub full_step : World → ℕ → Option PlainZone → Result (World × Output) CoreFault

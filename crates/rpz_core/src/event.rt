@@ -3,11 +3,10 @@
 ghost use Rattle.std.specs.Prelude.{◌≡◌};
 ghost use Rattle.rpz_core.specs.declared.event.CoreError.TheVariants.{OutOfMemory, Fault as AFault};
 
-use axfr_apply::TransferFault;
 use dns_name::Octets;
 use ip_prefix::{Addr, Transport};
+use ixfr_apply::Refusal;
 use std::alloc::{AllocError, AllocFailed};
-use zone_rows::ApplyFault;
 
 /// What happens to the core.
 #[derive(Debug, Drop)]
@@ -41,15 +40,6 @@ pub enum Event {
     Clock {
         seconds: u32,
     },
-}
-
-/// Why a transfer is refused.
-#[derive(Clone, Copy, Debug, PartialEq, Eq)]
-pub enum Refusal {
-    /// The stream has this fault.
-    Transfer(TransferFault),
-    /// The zone can't take what the stream has.
-    Apply(ApplyFault),
 }
 
 /// What an event outputs.

@@ -16,9 +16,9 @@ ghost use Rattle.rpz_core.specs.declared.event.Event.{Event};
 ghost use Rattle.rpz_core.specs.declared.event.Event.TheVariants.{Transfer};
 ghost use Rattle.rpz_core.specs.declared.event.Output.{Output};
 ghost use Rattle.rpz_core.specs.declared.event.Output.TheVariants as output;
-ghost use Rattle.rpz_core.specs.declared.event.Refusal.{Refusal};
+ghost use Rattle.ixfr_apply.specs.declared.refusal.Refusal.{Refusal};
 ghost use Rattle.rpz_core.specs.Faults.{IsQuiet, fault_of};
-ghost use Rattle.rpz_core.specs.Marks.{mark_at};
+ghost use Rattle.ixfr_apply.specs.Marks.{mark_at};
 ghost use Rattle.rpz_core.specs.State.{CoreState, core_step, seen, state_of};
 ghost use Rattle.rpz_core.specs.World.{World, world_step};
 

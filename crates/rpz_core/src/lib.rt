@@ -4,13 +4,12 @@
 
 mod event;
 pub mod laws;
-mod marks;
 mod offer;
 mod pending;
 mod policy_core;
 mod resolving;
 mod sessions;
 
-pub use event::{CoreError, CoreFault, Event, Output, Refusal};
+pub use event::{CoreError, CoreFault, Event, Output};
 pub use policy_core::Core;
 pub use sessions::WORKERS;

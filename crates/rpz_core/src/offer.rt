@@ -6,31 +6,19 @@ ghost use Rattle.ixfr_apply.specs.Stream.{reading};
 ghost use Rattle.policy_snapshot.specs.Policy.{zone_at};
 ghost use Rattle.zone_rows.specs.declared.zone.PlainZone.{PlainZone};
 ghost use Rattle.zone_rows.specs.Zone.{apply_outcome};
-ghost use Rattle.rpz_core.specs.Offer.{content_size, offer, offer_by_outcome, request_of, wanted_of, zone_taken};
-ghost use Rattle.rpz_core.specs.Offer as form;
+ghost use Rattle.ixfr_apply.specs.Offer.{content_size, offer, offer_by_outcome, request_of};
+ghost use Rattle.rpz_core.specs.Offer.{zone_taken};
 ghost use Rattle.rpz_core.specs.Offered.{IsOffer, offered_mark, offered_output};
 
-use crate::event::{Output, Refusal};
+use crate::event::Output;
 use axfr_apply::{Taken, TransferError, Wanted};
 use dns_name::Octets;
 use edge_io::Bytes;
-use ixfr_apply::read_transfer;
+use ixfr_apply::{Refusal, asks_newer, read_transfer, wanted};
 use policy_snapshot::Snapshot;
 use std::alloc::{AllocError, Global};
 use zone_index::Zone;
 use zone_rows::{ApplyError, Transfer};
-
-/// What is asked for of a zone that is marked or not: what is newer than what is loaded; all of it where nothing is, or where it
-/// is marked.
-pub(crate) fn wanted(marked: bool, zone: &Zone) -> Wanted
-    ensures { result ≡ wanted_of marked zone.now.content }
-{
-    match zone.serial() {
-        None => Wanted::Whole { have: None },
-        Some(serial) if marked => Wanted::Whole { have: Some(serial) },
-        Some(serial) => Wanted::Newer { have: serial },
-    }
-}
 
 /// What a policy does with a stream that comes as the transfer of a zone.
 #[derive(Drop)]
@@ -53,7 +41,7 @@ pub(crate) fn read_offer(
     stream: Octets,
 ) -> Result<Offered, AllocError>
     requires { zone_at policy.now.zones number ≡ Some zone.now }
-    ensures { IfOk result (λ offered. IsOffer offered policy.now number (offer marked zone.now stream)) }
+    ensures { IfOk result (λ offered. IsOffer offered policy.now number (offer 0 marked zone.now stream)) }
 {
     match read_stream(alloc, stream, marked, zone) {
         Ok(Taken::Current { theirs }) => Ok(Offered::Current(theirs)),
@@ -88,10 +76,16 @@ fn read_stream(
     marked: bool,
     zone: &Zone,
 ) -> Result<Taken, TransferError>
-    ensures { Gives result (reading (request_of marked zone.now) stream).0 }
+    ensures { Gives result (reading (request_of 0 marked zone.now) stream).0 }
 {
     let mut source = Bytes::new(stream.into_vec());
-    read_transfer(alloc, &mut source, 0, zone.origin(), wanted(marked, zone))
+    read_transfer(
+        alloc,
+        &mut source,
+        0,
+        zone.origin(),
+        wanted(marked, zone.serial()),
+    )
 }
 
 impl Offered {
@@ -120,16 +114,6 @@ impl Offered {
                 refusal: *refusal,
             },
         }
-    }
-}
-
-// Whether what is newer is wanted.
-fn asks_newer(wanted: Wanted) -> bool
-    ensures { result ≡ form.asks_newer wanted }
-{
-    match wanted {
-        Wanted::Whole { .. } => false,
-        Wanted::Newer { .. } => true,
     }
 }
 

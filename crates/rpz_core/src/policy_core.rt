@@ -9,10 +9,10 @@ ghost use Rattle.rpz_core.specs.World.{World, world_step};
 
 use crate::event::{CoreError, CoreFault, Event, Output};
 use crate::laws::the_core_does_what_the_world_does;
-use crate::marks::Marks;
-use crate::offer::{Offered, read_offer, wanted};
+use crate::offer::{Offered, read_offer};
 use crate::sessions::{Sessions, WORKERS};
 use dns_name::{Name, Octets};
+use ixfr_apply::{Marks, wanted};
 use policy_snapshot::Snapshot;
 use std::alloc::{AllocError, Global};
 use std::marker::Model;
@@ -150,7 +150,7 @@ impl Core {
         let Some(zone) = self.policy.zone(number) else {
             return Err(CoreError::Fault(CoreFault::NoZone));
         };
-        let wanted = wanted(marked, zone);
+        let wanted = wanted(marked, zone.serial());
         let offered = read_offer(self.alloc, &self.policy, number, marked, zone, stream)?;
         let mark = offered.mark_after(marked, wanted);
         Ok(self.settle(number, mark, offered)?)

@@ -15,7 +15,7 @@ use Rattle.rpz_core.specs.declared.event.Event.{Event}
 use Rattle.rpz_core.specs.declared.event.Event.TheVariants as event
 use Rattle.rpz_core.specs.declared.event.Output.{Output}
 use Rattle.rpz_core.specs.Sessions.{no_sessions}
-use Rattle.rpz_core.specs.Marks.{no_marks}
+use Rattle.ixfr_apply.specs.Marks.{no_marks}
 use Rattle.rpz_core.specs.State.{CoreState, core_step, state_of, seen}
 use Rattle.rpz_core.specs.World.{World, world_step}
 use Rattle.rpz_core.proofs.Seen as core

@@ -18,8 +18,8 @@ use Rattle.rpz_core.specs.declared.event.Event.{Event}
 use Rattle.rpz_core.specs.declared.event.Event.TheVariants as event
 use Rattle.rpz_core.specs.declared.event.Output.{Output}
 use Rattle.rpz_core.specs.declared.event.Output.TheVariants as output
-use Rattle.rpz_core.specs.declared.event.Refusal.{Refusal}
-use Rattle.rpz_core.specs.declared.event.Refusal.TheVariants as refusal
+use Rattle.ixfr_apply.specs.declared.refusal.Refusal.{Refusal}
+use Rattle.ixfr_apply.specs.declared.refusal.Refusal.TheVariants as refusal
 use Rattle.rpz_core.specs.World.{World, new_world, world_step}
 use Rattle.script_loop.specs.Abstraction.{outcome_along}
 use Rattle.script_loop.specs.Fold as fold

@@ -3,7 +3,8 @@
 ghost use Rattle.std.specs.Prelude.{◌≡◌};
 ghost use Rattle.rpz_program.specs.Script.{reason_of as reason, shown_of};
 
-use rpz_core::{Output, Refusal};
+use ixfr_apply::Refusal;
+use rpz_core::Output;
 use script_codec::{Refusal as Reason, Shown};
 
 /// What the transcript shows of an output; `None` where there is nothing to show.
