@@ -18,7 +18,8 @@ use Rattle.zone_rows.specs.Repeats.{without_repeats}
 use Rattle.zone_rows.specs.Steps.{steps_outcome}
 use Rattle.zone_rows.specs.Zone.{newer_soa, fewer_rows, apply_outcome, apply_outcome_within}
 use Rattle.zone_index.specs.Indexed.{HasRows}
-use Rattle.policy_snapshot.specs.Policy.{PlainPolicy, Entry, zone_at, zone_by, zone_after, with_zone_after, policy_with, policy_after}
+use Rattle.policy_snapshot.specs.declared.entry.Entry.{Entry}
+use Rattle.policy_snapshot.specs.Policy.{PlainPolicy, zone_at, zone_by, zone_after, with_zone_after, policy_with, policy_after}
 use Rattle.policy_snapshot.specs.Stands.{HaveRows, PlainSnapshot, Stands, next_count, count_of, origins_of}
 
 pub policy_after-push : (origins : List (List (List ℕ))) (entries : List Entry) (entry : Entry) → policy_after origins (entries ++ entry ∷ []) ≡ policy_with (policy_after origins entries) entry

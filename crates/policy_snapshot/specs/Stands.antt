@@ -5,7 +5,8 @@ use Rattle.zone_rows.specs.declared.fault.ApplyFault.{ApplyFault}
 use Rattle.zone_rows.specs.declared.zone.PlainZone.{PlainZone}
 use Rattle.zone_rows.specs.Content.{unloaded}
 use Rattle.zone_index.specs.Indexed.{HasRows}
-use Rattle.policy_snapshot.specs.Policy.{PlainPolicy, Entry, policy_after}
+use Rattle.policy_snapshot.specs.declared.entry.Entry.{Entry}
+use Rattle.policy_snapshot.specs.Policy.{AreAccepted, PlainPolicy, policy_after}
 
 -- the zones of a snapshot, and how many transfers they have accepted
 pub record PlainSnapshot : Type 0 where
@@ -31,6 +32,12 @@ new_snapshot origins = record { zones = map unloaded origins; accepted = 0 }
 pub record Stands (snapshot : PlainSnapshot) (entries : List Entry) : Type 0 where
   pub zones : snapshot.zones ≡ policy_after (origins_of snapshot.zones) entries
   pub accepted : snapshot.accepted ≡ count_of (length entries)
+
+-- The snapshot is the policy of these origins after a list of accepted transfers.
+pub record StandsFor (origins : List (List (List ℕ))) (snapshot : PlainSnapshot) (entries : List Entry) : Type 0 where
+  pub origins_are : origins_of snapshot.zones ≡ origins
+  pub stands : Stands snapshot entries
+  pub accepted : AreAccepted origins entries
 
 -- The snapshot with this zone at the place of a number, one transfer more accepted; or the fault.
 abbrev pub with_zone : PlainSnapshot → ℕ → Result PlainZone ApplyFault → Result PlainSnapshot ApplyFault

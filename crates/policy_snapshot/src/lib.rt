@@ -2,10 +2,12 @@
 #![tactic(auto)]
 
 mod deciding;
+mod entry;
 pub mod laws;
 mod lookup;
 mod questions;
 mod sight;
 mod snapshot;
 
+pub use entry::Entry;
 pub use snapshot::Snapshot;

@@ -5,7 +5,8 @@ ghost use Rattle.std.specs.Arc.{arc_value};
 ghost use Rattle.zone_rows.specs.declared.zone.TheConstants.{ZONE_LIMIT};
 ghost use Rattle.zone_rows.specs.Content.{unloaded};
 ghost use Rattle.zone_rows.specs.Zone.{Gives, apply_outcome};
-ghost use Rattle.policy_snapshot.specs.Policy.{Entry, zone_at};
+ghost use Rattle.policy_snapshot.specs.declared.entry.Entry.{Entry};
+ghost use Rattle.policy_snapshot.specs.Policy.{zone_at};
 ghost use Rattle.policy_snapshot.specs.Stands.{HaveRows, Stands, new_snapshot, with_zone};
 
 use dns_name::Name;
