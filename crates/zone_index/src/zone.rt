@@ -1,6 +1,6 @@
 //! A policy zone with its rules.
 
-ghost use Rattle.std.specs.Prelude.{◌≡◌, option_copied, IfOk};
+ghost use Rattle.std.specs.Prelude.{◌≡◌, option_copied, option_map, IfOk};
 ghost use Rattle.zone_rows.specs.Content.{content_count, content_serial, unloaded};
 ghost use Rattle.zone_rows.specs.Distinct.{HasDistinctRows};
 ghost use Rattle.zone_rows.specs.Zone.{Gives, apply_outcome};
@@ -9,7 +9,7 @@ ghost use Rattle.zone_index.specs.Indexed.{HasRows, content_rule, index_of};
 use crate::rules::Rules;
 use action_codec::Action;
 use dns_name::Name;
-use dns_record::Record;
+use dns_record::{Record, Soa};
 use std::alloc::{AllocError, Global};
 use std::marker::Model;
 use trigger_codec::Trigger;
@@ -85,6 +85,16 @@ impl Zone {
         match &self.zone.content {
             None => None,
             Some(content) => Some(content.soa.serial),
+        }
+    }
+
+    /// The SOA of what is loaded; `None` where nothing is.
+    pub fn soa(&self) -> Option<&Soa>
+        ensures { option_copied result ≡ option_map (λ content. content.soa) self.now.content }
+    {
+        match &self.zone.content {
+            None => None,
+            Some(content) => Some(&content.soa),
         }
     }
 
