@@ -1,6 +1,6 @@
 //! A session: one message of a client, from its coming to what is said.
 
-ghost use Rattle.std.specs.Prelude.{◌≡◌, ◌∷◌, [], true, ◌++◌, length, Some, None, IfOk, IsSome, OnOk, OnErr, option_copied, is_some};
+ghost use Rattle.std.specs.Prelude.{◌≡◌, ◌≤◌, ◌∷◌, [], true, ◌++◌, length, Some, None, IfOk, IsSome, OnOk, OnErr, option_copied, is_some};
 ghost use Rattle.dns_message.specs.declared.question.Question as questions;
 ghost use Rattle.dns_message.specs.Request.{incoming_of};
 ghost use Rattle.upstream_link.specs.declared.fact.Fact as told;
@@ -84,10 +84,12 @@ impl Session {
         }
     }
 
-    /// What is done at this point, which is the same until a fact is given.
+    /// What is done at this point, which is the same until a fact is given. What it asks isn't known yet, and fewer than
+    /// [`FACT_LIMIT`](upstream_link::FACT_LIMIT) facts are.
     pub fn turn(&mut self) -> Result<Turn, AllocError>
         ensures turn { IfOk result (λ turn. turn ≡ turn_of self.old) }
         ensures ok { OnOk result (self.new ≡ after_turn self.old) }
+        ensures anew { IfOk result (λ turn. AsksAnew self.old.facts (asks turn)) }
         ensures err { OnErr result (self.new ≡ self.old) }
     {
         let (turn, passed) = self.next_turn()?;
@@ -125,11 +127,13 @@ impl Session {
     }
 
     /// Takes back all facts but the first `count`, so that the session waits for the answer to the question of the next one
-    /// again: what undoes [`give`](Session::give) where what was to follow can't be done.
+    /// again: what undoes [`give`](Session::give) where what was to follow can't be done. Where no more than these are known,
+    /// nothing changes.
     pub fn take_back(&mut self, count: usize)
-        ensures { (before after : PlainFacts) (question : questions.Question) (fact : told.Fact) →
+        ensures taken { (before after : PlainFacts) (question : questions.Question) (fact : told.Fact) →
             self.old.facts ≡ before ++ (question, fact) ∷ after → length before ≡ count →
             self.new ≡ awaiting self.old before question }
+        ensures few { length self.old.facts ≤ count → self.new ≡ self.old }
     {
         self.passed = false;
         if let Some(question) = take_from(&mut self.facts, count) {
@@ -159,6 +163,7 @@ fn take_from(facts: &mut Facts, count: usize) -> Option<Question>
         (facts.new ≡ before) × (result ≡ Some question) }
     ensures anew { AsksAnew facts.new result }
     ensures none { result ≡ None → facts.new ≡ facts.old }
+    ensures few { length facts.old ≤ count → result ≡ None }
 {
     if count >= facts.len() {
         return None;

@@ -1,6 +1,6 @@
 //! What is kept of an answer.
 
-ghost use Rattle.std.specs.Prelude.{◌≡◌, ◌++◌, length, option_copied, true, IfOk, OnOk};
+ghost use Rattle.std.specs.Prelude.{◌≡◌, ◌++◌, length, take, option_copied, true, IfOk, OnOk};
 ghost use Rattle.std.specs.List.{find, flat_map, list_any};
 ghost use Rattle.dns_message.specs.Spelling.{records_octets};
 ghost use Rattle.dns_message.specs.Written.{lasting_octets};
@@ -135,7 +135,8 @@ impl Answer {
     /// Writes the answers at the end, with what is left of their TTLs. An `Err` leaves what was written before, and maybe some
     /// of the answers behind it.
     pub fn write_answers(&self, out: &mut Octets) -> Result<(), AllocError>
-        ensures { OnOk result (out.new ≡ out.old ++ records_octets (aged_answers self.now)) }
+        ensures ok { OnOk result (out.new ≡ out.old ++ records_octets (aged_answers self.now)) }
+        ensures begins { take (length out.old) out.new ≡ out.old }
     {
         self.kept.written.write_aged(out, self.age)
     }

@@ -12,3 +12,7 @@ invariant_of-self c = (
       (asks_anew c.self.inside.policy.value.zones c.self.inside.incoming c.self.inside.facts),
   λ passed. subst (λ (s : SessionState). IsPassed s.policy s.incoming s.facts) (sym c.self.view_is) (c.in_ok-turn.ensures.passes passed),
 )
+
+pub returns-clause-anew : goal.returns-clause-anew
+returns-clause-anew c =
+    subst (AsksAnew c.args.self.now.facts) (sym (ap question_in c.in_ok-turn.ensures.turn)) (asks_anew c.args.self.now.policy c.args.self.now.incoming c.args.self.now.facts)
