@@ -147,12 +147,20 @@ message_error asked reader before now after (errors.Fault Cut) come takes = if_s
 message_error asked reader before now after (errors.Fault EndedEarly) come takes = if_some before _ _ (λ bytes comes. none_ends asked come.messages bytes now after comes takes) come.bytes
 message_error asked reader before now after (errors.Fault fault) come takes = absurd takes
 
+-- what was taken of the stream where no message was read
+pub error_taken : (now after : Option (List ℕ)) (e : TransferError) → TakesMessage (Err e) now after → TakesSome now after
+error_taken now after errors.OutOfMemory takes = takes
+error_taken now after (errors.Fault ReadFault) takes = takes
+error_taken now after (errors.Fault Cut) takes = (takes.octets, takes.taken)
+error_taken now after (errors.Fault EndedEarly) takes = subst (TakesSome now) (sym takes.stays) (takes_none now)
+error_taken now after (errors.Fault fault) takes = absurd takes
+
 -- a message that is another name for this one
 pub retold : (message items : List ℕ) (now after : Option (List ℕ)) → message ≡ items → TakesFrame items now after → TakesFrame message now after
 retold message items now after e takes = subst (λ (m : List ℕ). TakesFrame m now after) (sym e) takes
 
 -- a message that was read of the stream
-frame_taken : (message : List ℕ) (now after : Option (List ℕ)) → TakesFrame message now after → TakesSome now after
+pub frame_taken : (message : List ℕ) (now after : Option (List ℕ)) → TakesFrame message now after → TakesSome now after
 frame_taken message now after takes = (frame_octets message, takes.taken)
 
 -- how a message that was fed ends the transfer

@@ -2,6 +2,7 @@
 
 ghost use Rattle.std.specs.Prelude.{◌≡◌, ◌≢◌, ◌≤◌, [], Err, IfErr};
 ghost use Rattle.edge_io.specs.Edge.{Rose};
+ghost use Rattle.edge_io.specs.Frame.{TakesSome};
 ghost use Rattle.axfr_apply.specs.declared.asked.TheConstants.{MOST};
 ghost use Rattle.axfr_apply.specs.declared.fault.TransferError.TheVariants.{Fault as AFault};
 ghost use Rattle.axfr_apply.specs.declared.fault.TransferFault.TheVariants.{ReadFault as AReadFault};
@@ -41,6 +42,7 @@ pub fn read_transfer<S: Source>(
 ) -> Result<Taken, TransferError>
     ensures reads { Reads (record { id = id; origin = origin.now; wanted = wanted; most = MOST }) result
         (S.left source.old) (S.left source.new) }
+    ensures taken { TakesSome (S.left source.old) (S.left source.new) }
     ensures fault { IfErr result (λ error.
         BlamesSource error (Rose (S.faults source.old) (S.faults source.new))) }
     ensures count { S.faults source.old ≤ S.faults source.new }
@@ -59,6 +61,7 @@ fn read_on<S: Source>(
 ) -> Result<Taken, TransferError>
     requires { Waits reader.old [] }
     ensures reads { Reads reader.old.asked result (S.left source.old) (S.left source.new) }
+    ensures taken { TakesSome (S.left source.old) (S.left source.new) }
     ensures fault { IfErr result (λ error.
         BlamesSource error (Rose (S.faults source.old) (S.faults source.new))) }
     ensures count { S.faults source.old ≤ S.faults source.new }

@@ -1,6 +1,6 @@
 use Rattle.std.proofs.Common.{refl, arith}
 use Rattle.std.proofs.lemmas.Result.{err_from_is_err_and}
-use Rattle.ixfr_apply.proofs.Streams.{first_come, message_error, fed_error, fed_current, fed_done, comes_on, retold}
+use Rattle.ixfr_apply.proofs.Streams.{first_come, message_error, error_taken, frame_taken, takes_more, fed_error, fed_current, fed_done, comes_on, retold}
 use Rattle.ixfr_apply.proofs.stream.read_on.Goals as goal
 
 pub loop-message-init : goal.loop-message-init
@@ -27,6 +27,18 @@ returns-in-Current-clause-reads g c =
 pub returns-in-Done-clause-reads : goal.returns-in-Done-clause-reads
 returns-in-Done-clause-reads g c =
     fed_done _ c.loop-message.reader c.feed.new.self _ _ _ _ c.in-Done.transfer c.loop-message.invariant.come (retold _ _ _ _ c.as_slice.ensures c.in_ok-message.ensures.takes) (rw c.in-Done.is at c.in_ok-feed.ensures.fed)
+
+pub returns-in_err-message-clause-taken : goal.returns-in_err-message-clause-taken
+returns-in_err-message-clause-taken g c = takes_more _ _ _ c.loop-message.invariant.come.taken (error_taken _ _ _ c.in_err-message.ensures.takes)
+
+pub returns-in_err-feed-clause-taken : goal.returns-in_err-feed-clause-taken
+returns-in_err-feed-clause-taken g c = takes_more _ _ _ c.loop-message.invariant.come.taken (frame_taken _ _ _ c.in_ok-message.ensures.takes)
+
+pub returns-in-Current-clause-taken : goal.returns-in-Current-clause-taken
+returns-in-Current-clause-taken g c = takes_more _ _ _ c.loop-message.invariant.come.taken (frame_taken _ _ _ c.in_ok-message.ensures.takes)
+
+pub returns-in-Done-clause-taken : goal.returns-in-Done-clause-taken
+returns-in-Done-clause-taken g c = takes_more _ _ _ c.loop-message.invariant.come.taken (frame_taken _ _ _ c.in_ok-message.ensures.takes)
 
 pub loop-message-preserved : goal.loop-message-preserved
 loop-message-preserved g c = record {
