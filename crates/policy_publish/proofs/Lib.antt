@@ -1,0 +1,5 @@
+pub mod Fronts
+pub mod Adding
+pub mod Taking
+pub mod Opening
+pub mod Publications

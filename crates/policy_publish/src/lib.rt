@@ -1,0 +1,18 @@
+//! A policy that one thread publishes, version by version, and others read without waiting.
+#![tactic(auto)]
+
+mod front;
+mod publication;
+mod publisher;
+mod reader;
+mod rule;
+mod showing;
+mod shown;
+mod store;
+mod versions;
+
+pub use front::StoreName;
+pub use publication::Publication;
+pub use publisher::Publisher;
+pub use reader::{PolicyReader, Told};
+pub use store::{Parts, READER_LIMIT, start_store};

@@ -1,0 +1,127 @@
+//! How a store is started, and opened under a name.
+
+ghost use Rattle.std.specs.Prelude.{◌≡◌, ◌<◌, ◌≤◌, [], IfOk, length, vec_len, All};
+ghost use Rattle.std.specs.Arc.{arc_value};
+ghost use Rattle.zone_rows.specs.declared.zone.TheConstants.{ZONE_LIMIT};
+ghost use Rattle.policy_snapshot.specs.Stands.{StandsFor};
+ghost use Rattle.policy_publish.specs.Lists.{IsNew};
+
+use crate::front::{Front, Line, LogWriter, StoreName, open_book};
+use crate::publisher::Publisher;
+use crate::reader::PolicyReader;
+use crate::shown::Shown;
+use dns_name::Name;
+use ixfr_apply::Marks;
+use policy_snapshot::Snapshot;
+use std::alloc::{AllocError, Global};
+use std::marker::Model;
+use std::sync::{Arc, Wait};
+
+/// How many readers a store has at most.
+pub const READER_LIMIT: usize = 16;
+
+/// A store that has no name yet. Contracts see the book of its publications, the origins of its zones, and how many readers it has.
+#[derive(Drop)]
+pub struct Parts {
+    log_writer: LogWriter,
+    line: Line,
+    origins: Vec<Name>,
+    readers: usize,
+}
+
+impl Model for Parts {
+    ghost use Rattle.std.specs.Prelude.{◌≡◌, ◌<◌, ◌≤◌, [], length};
+    ghost use Rattle.zone_rows.specs.declared.zone.TheConstants.{ZONE_LIMIT};
+    ghost use Rattle.policy_publish.specs.Stores.{Store};
+    ghost use Rattle.policy_publish.specs.declared.store.TheConstants.{READER_LIMIT};
+
+    ghost Value = { Store };
+
+    ghost view = { λ p. record { book = p.log_writer; origins = p.origins.items; readers = p.readers } };
+
+    ghost invariant = { λ p. (p.line.book ≡ p.log_writer) × (p.line.entries ≡ []) ×
+        (length p.origins.items ≤ ZONE_LIMIT) × (0 < p.readers) × (p.readers ≤ READER_LIMIT) };
+}
+
+/// A store with zones of these origins in this order, at most 32, and so many readers, 1 to 16. It waits for nobody and takes no memory.
+pub fn start_store(origins: Vec<Name>, readers: usize) -> Parts
+    requires origins { length origins.items ≤ ZONE_LIMIT }
+    requires readers { (0 < readers) × (readers ≤ READER_LIMIT) }
+    ensures { (result.origins ≡ origins.items) × (result.readers ≡ readers) }
+{
+    let (log_writer, line) = open_book();
+    Parts {
+        log_writer,
+        line,
+        origins,
+        readers,
+    }
+}
+
+impl Parts {
+    ghost use Rattle.std.specs.Prelude.{◌≡◌, [], IfOk, vec_len, All};
+    ghost use Rattle.ixfr_apply.specs.Marks.{no_marks};
+    ghost use Rattle.policy_snapshot.specs.Stands.{StandsFor};
+    ghost use Rattle.policy_publish.specs.Lists.{IsNew};
+
+    /// The publisher and the readers of the store, which is then the one that `N` names. Nothing is published, nothing is loaded, and no
+    /// zone is marked. It waits for nobody.
+    pub fn open<N: StoreName, R: Wait>(
+        self,
+        rt: &R,
+        alloc: Global,
+    ) -> Result<(Publisher<N>, Vec<PolicyReader<N>>), AllocError>
+        requires { self ≡ N.store }
+        ensures list { IfOk result (λ r. (r.0.list ≡ []) × StandsFor N.store.origins r.0.version []) }
+        ensures marks { IfOk result (λ r. r.0.marks ≡ no_marks N.store.origins) }
+        ensures readers { IfOk result (λ r. vec_len r.1 ≡ self.readers) }
+        ensures new { IfOk result (λ r. All (λ k. IsNew k) r.1.items) }
+    {
+        let Parts {
+            log_writer,
+            line,
+            origins,
+            readers,
+        } = self;
+        let front: Front<N> = Front::over(line.again());
+        let marks = Marks::new(alloc, origins.as_slice())?;
+        let shown = first_shown(alloc, origins.as_slice(), line)?;
+        let publisher = Publisher::over(rt, alloc, shown, marks, log_writer, readers)?;
+        match all_readers(alloc, &publisher, &front, readers) {
+            Ok(all) => Ok((publisher, all)),
+            Err(_) => {
+                publisher.close(rt);
+                Err(AllocError)
+            }
+        }
+    }
+}
+
+// The version with nothing loaded, which stands for the line of no entry.
+fn first_shown(alloc: Global, origins: &[Name], line: Line) -> Result<Shown, AllocError>
+    requires limit { length origins.now ≤ ZONE_LIMIT }
+    requires empty { line.entries ≡ [] }
+    ensures line { IfOk result (λ shown. shown.line ≡ line) }
+    ensures stands { IfOk result (λ shown. StandsFor origins.now (arc_value shown.version) []) }
+{
+    let version = Arc::new(alloc, Snapshot::start(alloc, origins)?)?;
+    Ok(Shown { version, line })
+}
+
+// So many readers, which have seen nothing and were told nothing.
+fn all_readers<N: StoreName>(
+    alloc: Global,
+    publisher: &Publisher<N>,
+    front: &Front<N>,
+    readers: usize,
+) -> Result<Vec<PolicyReader<N>>, AllocError>
+    requires { front.now ≡ [] }
+    ensures readers { IfOk result (λ all. vec_len all ≡ readers) }
+    ensures new { IfOk result (λ all. All (λ k. IsNew k) all.items) }
+{
+    let mut all = Vec::new(alloc);
+    for _ in 0..readers {
+        all.push(publisher.reader(front)?)?;
+    }
+    Ok(all)
+}
