@@ -1,0 +1,4 @@
+pub mod FitBlocks
+pub mod FitStreams
+pub mod FitZones
+pub mod Written

@@ -1,0 +1,3 @@
+pub mod Poll
+pub mod Laws
+pub mod Taking

@@ -1,0 +1,46 @@
+-- What the parts of a poll do: see src/taking.rt.
+use Rattle.std.specs.Prelude.{◌≡◌, ℕ, false, List, Option, Result, Ok, Err}
+use Rattle.edge_io.specs.Frame.{TakesSome}
+use Rattle.zone_rows.specs.declared.transfer.Transfer.{Transfer}
+use Rattle.zone_rows.specs.declared.zone.PlainZone.{PlainZone}
+use Rattle.zone_rows.specs.Zone.{apply_outcome}
+use Rattle.axfr_apply.specs.declared.taken.Taken.{Taken}
+use Rattle.axfr_apply.specs.declared.taken.Taken.TheVariants as taken
+use Rattle.ixfr_apply.specs.Marks.{mark_at}
+use Rattle.ixfr_apply.specs.Offer.{request_of}
+use Rattle.ixfr_apply.specs.Stream.{Faults, ReadsAs}
+use Rattle.policy_publish.specs.Lists.{Published}
+use Rattle.policy_publish.specs.Publishing.{Publishes}
+use Rattle.policy_feed.specs.declared.fault.FeedError.{FeedError}
+use Rattle.policy_feed.specs.declared.fault.FeedError.TheVariants as errors
+use Rattle.policy_feed.specs.declared.fault.FeedFault.TheVariants.{WriteFault, Transfer as TransferFaulty, Apply}
+use Rattle.policy_feed.specs.declared.polling.Polled.{Polled}
+use Rattle.policy_feed.specs.declared.polling.Polled.TheVariants.{Current, New}
+use Rattle.policy_feed.specs.Poll.{marking, refusing}
+
+-- what a transfer that was read does: it is published, or memory runs out, or the zone can't take it
+abbrev pub Offers : ℕ → PlainZone → Transfer → Result Polled FeedError → Published → Published → Type 0
+Offers number zone transfer (Ok (Current theirs)) old new = ⊥
+Offers number zone transfer (Ok (New told)) old new = Publishes number zone transfer (Ok told) old new
+Offers number zone transfer (Err errors.OutOfMemory) old new = new ≡ old
+Offers number zone transfer (Err (errors.Fault WriteFault)) old new = ⊥
+Offers number zone transfer (Err (errors.Fault (TransferFaulty fault))) old new = ⊥
+Offers number zone transfer (Err (errors.Fault (Apply fault))) old new = (apply_outcome zone transfer ≡ Err fault) × (new ≡ refusing old number zone)
+
+-- where the source tells its bytes, it is read so as the answer to a request of this ID
+abbrev pub ReadsAnswer : ℕ → ℕ → PlainZone → Taken → Published → Option (List ℕ) → Option (List ℕ) → Type 0
+ReadsAnswer id number zone read old before after = ReadsAs (request_of id (mark_at old.marks number) zone) (Ok read) before after
+
+-- what a poll does whose request was written, by what was published and what is left of the source
+abbrev pub TakesAnswer : ℕ → ℕ → PlainZone → Result Polled FeedError → Published → Published → Option (List ℕ) → Option (List ℕ) → Type 0
+TakesAnswer id number zone (Ok (Current theirs)) old new before after =
+    ReadsAnswer id number zone (taken.Current theirs) old before after × (new ≡ marking old number false)
+TakesAnswer id number zone (Ok (New told)) old new before after =
+    (transfer : Transfer) × ReadsAnswer id number zone (taken.New transfer) old before after × Publishes number zone transfer (Ok told) old new
+TakesAnswer id number zone (Err errors.OutOfMemory) old new before after = TakesSome before after × (new ≡ old)
+TakesAnswer id number zone (Err (errors.Fault WriteFault)) old new before after = ⊥
+TakesAnswer id number zone (Err (errors.Fault (TransferFaulty fault))) old new before after =
+    Faults (request_of id (mark_at old.marks number) zone) fault before after × (new ≡ refusing old number zone)
+TakesAnswer id number zone (Err (errors.Fault (Apply fault))) old new before after =
+    (transfer : Transfer) × ReadsAnswer id number zone (taken.New transfer) old before after
+    × (apply_outcome zone transfer ≡ Err fault) × (new ≡ refusing old number zone)
