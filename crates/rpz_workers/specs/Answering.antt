@@ -1,0 +1,64 @@
+-- The answer of one query by a worker.
+use Rattle.std.specs.Prelude.{◌≡◌, ◌≤◌, ◌⊎◌, ℕ, List, [], ◌∷◌, ◌++◌, Option, Result, Ok, Err}
+use mathlib.Core.List.{IsPrefix}
+use Rattle.edge_io.specs.Chain.{Chain, Stage}
+use Rattle.dns_message.specs.Request.{incoming_of}
+use Rattle.upstream_link.specs.Vouched.{PlainLearned}
+use Rattle.policy_snapshot.specs.Policy.{policy_after}
+use Rattle.policy_publish.specs.Lists.{GoesOn, Known}
+use Rattle.query_session.specs.Session.{turn_by}
+use Rattle.reply_build.specs.declared.said.Said.{Said}
+use Rattle.reply_build.specs.declared.turn.Turn.TheVariants as turn
+use Rattle.rpz_workers.specs.declared.item.Job.{Job}
+use Rattle.rpz_workers.specs.declared.obtained.Obtained.{Obtained}
+use Rattle.rpz_workers.specs.Obtaining.{Inquiry, Obtains}
+
+-- what contracts see of a worker: the list of transfers that it saw last and the longest that it was told, the entries of its cache
+-- and how many there may be, the IDs that are still to come, where they are told, how often its link has failed, and what it
+-- obtained for its last query, in order
+pub record PlainWorker (L : Type 0) : Type 0 where
+  pub known : Known
+  pub cached : List PlainLearned
+  pub limit : ℕ
+  pub ids : Option (List ℕ)
+  pub link_faults : ℕ
+  pub obtained : List (Obtained L)
+
+-- where a query begins, nothing is known
+abbrev pub beginning : {L : Type 0} → PlainWorker L → Inquiry
+beginning worker = record { facts = []; cached = worker.cached; ids = worker.ids; link_faults = worker.link_faults }
+
+-- what was obtained, in order; the last stands first in the stages
+abbrev pub obtained_in : {L : Type 0} → List (Stage Inquiry (Obtained L)) → List (Obtained L)
+obtained_in [] = []
+obtained_in (stage ∷ stages) = obtained_in stages ++ stage.turn ∷ []
+
+-- The message is answered by the policy after the list of transfers that is then seen, which begins with the one that was seen
+-- before and with each that the worker was told, and by the facts that the query obtained, one after another, each for the question
+-- that comes next; after the last nothing is asked, and this is said.
+pub record IsAnswer {L : Type 0} (origins : List (List (List ℕ))) (gave : List ℕ → List ℕ → ℕ → Type 0) (job : Job) (now : ℕ) (said : Said) (old new : PlainWorker L) : Type 0 where
+  pub stages : List (Stage Inquiry (Obtained L))
+  pub last : Inquiry
+  pub obtains : Chain (Obtains gave old.limit now (policy_after origins new.known.seen) (incoming_of job.message job.peer.addr job.transport)) (beginning old) stages last
+  pub says : turn_by (policy_after origins new.known.seen) (incoming_of job.message job.peer.addr job.transport) last.facts ≡ turn.Said said
+  pub obtained : new.obtained ≡ obtained_in stages
+  pub goes_on : GoesOn old.known new.known.seen
+  pub told : new.known.told ≡ old.known.told
+  pub cached : new.cached ≡ last.cached
+  pub limit : new.limit ≡ old.limit
+  pub ids : new.ids ≡ last.ids
+  pub link_faults : new.link_faults ≡ last.link_faults
+
+-- Memory ran out. A later list may be seen, IDs may be used, and the cache is as it was, or empty.
+pub record IsNoAnswer {L : Type 0} (old new : PlainWorker L) : Type 0 where
+  pub seen : IsPrefix old.known.seen new.known.seen
+  pub told : new.known.told ≡ old.known.told
+  pub cached : (new.cached ≡ old.cached) ⊎ (new.cached ≡ [])
+  pub limit : new.limit ≡ old.limit
+  pub link_faults : old.link_faults ≤ new.link_faults
+  pub obtained : new.obtained ≡ []
+
+-- what is said to a message, or that memory ran out
+abbrev pub Answers : {L E : Type 0} → List (List (List ℕ)) → (List ℕ → List ℕ → ℕ → Type 0) → Job → ℕ → Result Said E → PlainWorker L → PlainWorker L → Type 0
+Answers origins gave job now (Ok said) old new = IsAnswer origins gave job now said old new
+Answers origins gave job now (Err e) old new = IsNoAnswer old new

@@ -1,0 +1,3 @@
+pub mod Obtaining
+pub mod Answering
+pub mod Turns
