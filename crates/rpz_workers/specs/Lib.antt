@@ -1,3 +1,4 @@
 pub mod Obtaining
 pub mod Answering
 pub mod Turns
+pub mod Laws

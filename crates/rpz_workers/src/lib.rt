@@ -3,6 +3,7 @@
 
 mod gate;
 mod item;
+pub mod laws;
 mod obtained;
 mod sources;
 mod worker;

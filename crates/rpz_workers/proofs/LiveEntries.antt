@@ -1,0 +1,243 @@
+-- A live entry of the cache stays where a query finds it.
+use Rattle.std.proofs.Common.{◌≡◌, ◌≤◌, ◌<◌, ◌+◌, ◌-◌, ◌==◌, ℕ, zero, suc, Bool, true, false, cond, List, [], ◌∷◌, Option, Some, None, refl, sym, ap, ◌∙◌, subst, inl, inr, length, take, arith, true≢false}
+use Rattle.std.specs.List.{AllByRecursion, find}
+use Rattle.std.specs.Option.{option_map_or}
+use Rattle.std.specs.Str.{bytes_eq}
+use Rattle.std.proofs.lemmas.Bool.{cond_both}
+use Rattle.std.proofs.lemmas.List.{take-take}
+use Rattle.std.proofs.lemmas.Slice.Eq.{bytes_eq-Decides}
+use Rattle.edge_io.specs.Chain.{Chain, Stage}
+use Rattle.dns_message.specs.declared.question.Question.{Question}
+use Rattle.dns_message.specs.declared.request.Incoming.{Incoming}
+use Rattle.upstream_link.specs.declared.facts.TheConstants.{FACT_LIMIT}
+use Rattle.upstream_link.specs.Facts.{PlainFacts}
+use Rattle.upstream_link.specs.Vouched.{PlainLearned, life, live}
+use Rattle.answer_cache.specs.Key.{key_of}
+use Rattle.answer_cache.specs.Recent.{found, if_live, is_about, kept, put_first, touched, without}
+use Rattle.policy_snapshot.specs.Policy.{PlainPolicy}
+use Rattle.query_session.specs.Session.{AsksAnew, question_in, turn_by}
+use Rattle.query_session.proofs.FreshQuestions.{asks_anew}
+use Rattle.reply_build.specs.declared.turn.Turn.{Turn}
+use Rattle.reply_build.specs.declared.turn.Turn.TheVariants as turn
+use Rattle.rpz_workers.specs.declared.obtained.Obtained.{Obtained}
+use Rattle.rpz_workers.specs.declared.obtained.Obtained.TheVariants.{Learned, Failed}
+use Rattle.rpz_workers.specs.Laws.{HitsFor, IsHit}
+use Rattle.rpz_workers.specs.Obtaining.{Inquiry, MayKeep, Obtains, ObtainsFor}
+use Rattle.rpz_workers.proofs.Stages.{one_fact_more}
+
+-- ---- the first that passes a test
+
+-- it stays the first where more are looked at
+found_within : {X : Type 0} (test : X → Bool) (m n : ℕ) (xs : List X) (y : X) → m ≤ n → find test (take m xs) ≡ Some y → find test (take n xs) ≡ Some y
+found_within test zero n xs y le e = absurd (cc)
+found_within test (suc m) n [] y le e = absurd (cc)
+found_within test (suc m) zero (x ∷ xs) y le e = absurd (omega arith)
+found_within test (suc m) (suc n) (x ∷ xs) y le e = (elim (test x) as (λ b. cond b (Some x) (find test (take m xs)) ≡ Some y → cond b (Some x) (find test (take n xs)) ≡ Some y) [
+  | true ↦ λ h. h
+  | false ↦ λ h. found_within test m n xs y (omega arith) h
+]) e
+
+found_of_all : {X : Type 0} (test : X → Bool) (m : ℕ) (xs : List X) (y : X) → find test (take m xs) ≡ Some y → find test xs ≡ Some y
+found_of_all test zero xs y e = absurd (cc)
+found_of_all test (suc m) [] y e = absurd (cc)
+found_of_all test (suc m) (x ∷ xs) y e = (elim (test x) as (λ b. cond b (Some x) (find test (take m xs)) ≡ Some y → cond b (Some x) (find test xs) ≡ Some y) [
+  | true ↦ λ h. h
+  | false ↦ λ h. found_of_all test m xs y h
+]) e
+
+passes : {X : Type 0} (test : X → Bool) (xs : List X) (y : X) → find test xs ≡ Some y → test y ≡ true
+passes test [] y e = absurd (cc)
+passes test (x ∷ xs) y e = (elim (test x) as (λ b. test x ≡ b → cond b (Some x) (find test xs) ≡ Some y → test y ≡ true) [
+  | true ↦ λ t h. let same : x ≡ y = cc in subst (λ z. test z ≡ true) same t
+  | false ↦ λ t h. passes test xs y h
+]) refl e
+
+-- one in front that doesn't pass moves it by one
+behind_one : {X : Type 0} (test : X → Bool) (x : X) (xs : List X) (o : Option X) → test x ≡ false → find test xs ≡ o → find test (x ∷ xs) ≡ o
+behind_one test x xs o t e = ap (λ b. cond b (Some x) (find test xs)) t ∙ e
+
+in_front : {X : Type 0} (test : X → Bool) (x : X) (xs : List X) → test x ≡ true → find test (x ∷ xs) ≡ Some x
+in_front test x xs t = ap (λ b. cond b (Some x) (find test xs)) t
+
+-- ---- questions that are not alike
+
+module _ (p q : Question) (differ : bytes_eq (key_of p) (key_of q) ≡ false) where
+  -- an entry about the one isn't about the other
+  apart : (x : PlainLearned) → is_about p x ≡ true → is_about q x ≡ false
+  apart x about = (elim (is_about q x) as (λ b. is_about q x ≡ b → b ≡ false) [
+    | true ↦ λ t.
+        let one = (bytes_eq-Decides (key_of p) (key_of x.question)).0 about in
+        let other = (bytes_eq-Decides (key_of q) (key_of x.question)).0 t in
+        absurd (true≢false (sym ((bytes_eq-Decides (key_of p) (key_of q)).1 (one ∙ sym other)) ∙ differ))
+    | false ↦ λ t. refl
+  ]) refl
+
+  stays_without : (m : ℕ) (xs : List PlainLearned) (y : PlainLearned) → find (is_about q) (take m xs) ≡ Some y → find (is_about q) (take m (without p xs)) ≡ Some y
+  stays_without zero xs y e = absurd (cc)
+  stays_without (suc m) [] y e = absurd (cc)
+  stays_without (suc m) (x ∷ xs) y e = (elim (is_about p x) as (λ b. is_about p x ≡ b → find (is_about q) (take (suc m) (cond b xs (x ∷ without p xs))) ≡ Some y) [
+    | true ↦ λ t. found_within (is_about q) m (suc m) xs y (omega arith) (ap (λ b. cond b (Some x) (find (is_about q) (take m xs))) (sym (apart x t)) ∙ e)
+    | false ↦ λ t. (elim (is_about q x) as (λ b. cond b (Some x) (find (is_about q) (take m xs)) ≡ Some y → cond b (Some x) (find (is_about q) (take m (without p xs))) ≡ Some y) [
+      | true ↦ λ h. h
+      | false ↦ λ h. stays_without m xs y h
+    ]) e
+  ]) refl
+
+  touched_by : (m : ℕ) (xs : List PlainLearned) (y : PlainLearned) (o : Option PlainLearned) → find (is_about p) xs ≡ o → find (is_about q) (take m xs) ≡ Some y
+      → find (is_about q) (take (suc m) (option_map_or (λ entry. entry ∷ without p xs) o xs)) ≡ Some y
+  touched_by m xs y None is e = found_within (is_about q) m (suc m) xs y (omega arith) e
+  touched_by m xs y (Some x) is e = behind_one (is_about q) x (take m (without p xs)) (Some y) (apart x (passes (is_about p) xs x is)) (stays_without m xs y e)
+
+  stays_touched : (m : ℕ) (xs : List PlainLearned) (y : PlainLearned) → find (is_about q) (take m xs) ≡ Some y → find (is_about q) (take (suc m) (touched p xs)) ≡ Some y
+  stays_touched m xs y e = touched_by m xs y (find (is_about p) xs) refl e
+
+  without_by : (m : ℕ) (xs : List PlainLearned) (y : PlainLearned) (o : Option PlainLearned) → find (is_about p) xs ≡ o → find (is_about q) (take m xs) ≡ Some y
+      → find (is_about q) (take m (without p (option_map_or (λ entry. entry ∷ without p xs) o xs))) ≡ Some y
+  without_by m xs y None is e = stays_without m xs y e
+  without_by m xs y (Some x) is e =
+      ap (λ b. find (is_about q) (take m (cond b (without p xs) (x ∷ without p (without p xs))))) (passes (is_about p) xs x is) ∙ stays_without m xs y e
+
+  stays_put : (limit m : ℕ) (entry : PlainLearned) (xs : List PlainLearned) (y : PlainLearned) → suc m ≤ limit → is_about p entry ≡ true → find (is_about q) (take m (without p xs)) ≡ Some y
+      → find (is_about q) (take (suc m) (take limit (entry ∷ without p xs))) ≡ Some y
+  stays_put limit m entry xs y room about e =
+      ap (find (is_about q)) (take-take (suc m) limit (entry ∷ without p xs) room)
+      ∙ behind_one (is_about q) entry (take m (without p xs)) (Some y) (apart entry about) e
+
+  stays_kept : (limit m : ℕ) (entry : PlainLearned) (xs : List PlainLearned) (y : PlainLearned) → suc m ≤ limit → entry.question ≡ p → find (is_about q) (take m xs) ≡ Some y
+      → find (is_about q) (take (suc m) (kept limit entry (touched p xs))) ≡ Some y
+  stays_kept limit m entry xs y room is e =
+      let about : is_about p entry ≡ true = (bytes_eq-Decides (key_of p) (key_of entry.question)).1 (ap key_of (sym is)) in
+      cond_both (life entry == 0) (touched p xs) (put_first limit entry (touched p xs)) (λ l. find (is_about q) (take (suc m) l) ≡ Some y)
+      (λ _. stays_touched m xs y e)
+      (λ _. ap (λ (r : Question). find (is_about q) (take (suc m) (take limit (entry ∷ without r (touched p xs))))) is
+      ∙ stays_put limit m entry (touched p xs) y room about (without_by m xs y (find (is_about p) xs) refl e))
+
+  stays_may_keep : (limit m : ℕ) (entry : PlainLearned) (xs after : List PlainLearned) (y : PlainLearned) → suc m ≤ limit → entry.question ≡ p → MayKeep limit entry (touched p xs) after → find (is_about q) (take m xs) ≡ Some y
+      → find (is_about q) (take (suc m) after) ≡ Some y
+  stays_may_keep limit m entry xs after y room is (inl same) e = ap (λ l. find (is_about q) (take (suc m) l)) same ∙ stays_kept limit m entry xs y room is e
+  stays_may_keep limit m entry xs after y room is (inr same) e = ap (λ l. find (is_about q) (take (suc m) l)) same ∙ stays_touched m xs y e
+
+-- ---- a live entry among the first
+
+-- among the first so many the first entry about the question is live
+pub record HasLive (question : Question) (now m : ℕ) (entries : List PlainLearned) : Type 0 where
+  pub entry : PlainLearned
+  pub first : find (is_about question) (take m entries) ≡ Some entry
+  pub is_live : live now entry ≡ true
+
+live_if : (now : ℕ) (o : Option PlainLearned) (entry : PlainLearned) → if_live now o ≡ Some entry → (o ≡ Some entry) × (live now entry ≡ true)
+live_if now None entry e = absurd (cc)
+live_if now (Some x) entry e = (elim (live now x) as (λ b. live now x ≡ b → cond b (Some x) None ≡ Some entry → (Some x ≡ Some entry) × (live now entry ≡ true)) [
+  | true ↦ λ t h. let same : x ≡ entry = cc in (h, subst (λ z. live now z ≡ true) same t)
+  | false ↦ λ t h. absurd (cc)
+]) refl e
+
+if_lives : (now : ℕ) (o : Option PlainLearned) (entry : PlainLearned) → o ≡ Some entry → live now entry ≡ true → if_live now o ≡ Some entry
+if_lives now o entry e t = ap (if_live now) e ∙ ap (λ b. cond b (Some entry) None) t
+
+has_live : (question : Question) (now m : ℕ) (entries : List PlainLearned) (entry : PlainLearned) → found question now (take m entries) ≡ Some entry → HasLive question now m entries
+has_live question now m entries entry e =
+    let is = live_if now (find (is_about question) (take m entries)) entry e in record { entry = entry; first = is.0; is_live = is.1 }
+
+some_room : (question : Question) (now m : ℕ) (entries : List PlainLearned) → HasLive question now m entries → 1 ≤ m
+some_room question now zero entries has = let e = has.first in absurd (cc)
+some_room question now (suc m) entries has = omega arith
+
+-- a look-up for a question that is alike finds it
+finds : (p q : Question) (now m : ℕ) (entries : List PlainLearned) → key_of p ≡ key_of q → (has : HasLive q now m entries) → found p now entries ≡ Some has.entry
+finds p q now m entries alike has =
+    ap (λ (key : List ℕ). if_live now (find (λ e. bytes_eq key (key_of e.question)) entries)) alike
+    ∙ if_lives now (find (is_about q) entries) has.entry (found_of_all (is_about q) m entries has.entry has.first) has.is_live
+
+touched_first : (p : Question) (entries : List PlainLearned) (x : PlainLearned) → find (is_about p) entries ≡ Some x → touched p entries ≡ x ∷ without p entries
+touched_first p entries x e = ap (λ o. option_map_or (λ entry. entry ∷ without p entries) o entries) e
+
+-- and moves it to the front
+first_then : (p q : Question) (now m : ℕ) (entries : List PlainLearned) → key_of p ≡ key_of q → HasLive q now m entries → HasLive q now (suc m) (touched p entries)
+first_then p q now m entries alike has =
+    let here = live_if now (find (is_about p) entries) has.entry (finds p q now m entries alike has) in
+    let about : is_about q has.entry ≡ true = passes (is_about q) (take m entries) has.entry has.first in
+    record {
+      entry = has.entry;
+      first = ap (λ l. find (is_about q) (take (suc m) l)) (touched_first p entries has.entry here.0) ∙ in_front (is_about q) has.entry (take m (without p entries)) about;
+      is_live = has.is_live;
+    }
+
+-- ---- one stage
+
+module _ {L : Type 0} (gave : List ℕ → List ℕ → ℕ → Type 0) (limit now : ℕ) (p q : Question) (m : ℕ) (before after : Inquiry) (room : suc m ≤ limit) (has : HasLive q now m before.cached) where
+  one_alike : (one : Obtained L) → key_of p ≡ key_of q → ObtainsFor gave limit now p before one after → HasLive q now (suc m) after.cached × IsHit now p (record { turn = one; before = before })
+  one_alike (Learned entry) alike (inl hit) = (
+    subst (HasLive q now (suc m)) (sym hit.cached) (first_then p q now m before.cached alike has),
+    record { entry = entry; turn_is = refl; is_found = hit.is_found; serves = hit.serves },
+  )
+  one_alike (Learned entry) alike (inr asked) = let e = sym asked.not_found ∙ finds p q now m before.cached alike has in absurd (cc)
+  one_alike (Failed asked) alike (same, failed) = let e = sym failed.not_found ∙ finds p q now m before.cached alike has in absurd (cc)
+
+  one_other : (one : Obtained L) → bytes_eq (key_of p) (key_of q) ≡ false → ObtainsFor gave limit now p before one after → HasLive q now (suc m) after.cached
+  one_other (Learned entry) differ (inl hit) =
+      record { entry = has.entry; first = ap (λ l. find (is_about q) (take (suc m) l)) hit.cached ∙ stays_touched p q differ m before.cached has.entry has.first; is_live = has.is_live }
+  one_other (Learned entry) differ (inr asked) =
+      record { entry = has.entry; first = stays_may_keep p q differ limit m entry before.cached after.cached has.entry room asked.asks.0 asked.cached has.first; is_live = has.is_live }
+  one_other (Failed asked) differ (same, failed) =
+      record { entry = has.entry; first = ap (λ l. find (is_about q) (take (suc m) l)) failed.cached ∙ stays_touched p q differ m before.cached has.entry has.first; is_live = has.is_live }
+
+  one_stage : (one : Obtained L) → ObtainsFor gave limit now p before one after → HasLive q now (suc m) after.cached × (key_of p ≡ key_of q → IsHit now p (record { turn = one; before = before }))
+  one_stage one by = (elim (bytes_eq (key_of p) (key_of q)) as (λ b. bytes_eq (key_of p) (key_of q) ≡ b → HasLive q now (suc m) after.cached × (key_of p ≡ key_of q → IsHit now p (record { turn = one; before = before }))) [
+    | true ↦ λ t. let both = one_alike one ((bytes_eq-Decides (key_of p) (key_of q)).0 t) by in (both.0, λ _. both.1)
+    | false ↦ λ t. (one_other one t by, λ alike. absurd (true≢false (sym ((bytes_eq-Decides (key_of p) (key_of q)).1 alike) ∙ t)))
+  ]) refl
+
+-- ---- the stages of a query
+
+asks_within : (policy : PlainPolicy) (incoming : Incoming) (facts : PlainFacts) (question : Question) → turn_by policy incoming facts ≡ turn.Ask question → length facts < FACT_LIMIT
+asks_within policy incoming facts question e = (subst (λ (t : Turn). AsksAnew facts (question_in t)) e (asks_anew policy incoming facts)).1
+
+same_asked : (this : Turn) (p other : Question) → this ≡ turn.Ask p → this ≡ turn.Ask other → p ≡ other
+same_asked this p other e f = cc
+
+-- after these stages the entry is still found, each stage has brought one fact, and each that was alike hit the cache
+pub record Stood {L : Type 0} (policy : PlainPolicy) (incoming : Incoming) (now m : ℕ) (question : Question) (stages : List (Stage Inquiry (Obtained L))) (last : Inquiry) : Type 0 where
+  pub has : HasLive question now (m + length stages) last.cached
+  pub counted : length last.facts ≡ length stages
+  pub hits : AllByRecursion (HitsFor policy incoming now question) stages
+
+module _ {L : Type 0} (gave : List ℕ → List ℕ → ℕ → Type 0) (limit now : ℕ) (policy : PlainPolicy) (incoming : Incoming) (question : Question) (m : ℕ) (room : m + FACT_LIMIT ≤ limit) (first : Inquiry) (none : first.facts ≡ []) (has : HasLive question now m first.cached) where
+  stood_more : (stage : Stage Inquiry (Obtained L)) (stages : List (Stage Inquiry (Obtained L))) (last : Inquiry) → Obtains gave limit now policy incoming stage.before stage.turn last
+      → Stood policy incoming now m question stages stage.before → Stood policy incoming now m question (stage ∷ stages) last
+  stood_more stage stages last obtains was =
+      let within : length stage.before.facts < FACT_LIMIT = asks_within policy incoming stage.before.facts obtains.question obtains.asks in
+      let place : suc (m + length stages) ≤ limit = omega (arith, was.counted) in
+      let one = one_stage gave limit now obtains.question question (m + length stages) stage.before last place was.has stage.turn obtains.by in
+      let more : length last.facts ≡ length stage.before.facts + 1 = one_fact_more gave limit now obtains.question stage.before stage.turn last obtains.by in
+      let next : suc (m + length stages) ≡ m + suc (length stages) = omega arith in
+      record {
+        has = subst (λ (k : ℕ). HasLive question now k last.cached) next one.0;
+        counted = omega (arith, more, was.counted);
+        hits = (
+          λ asked e alike.
+              let same = same_asked (turn_by policy incoming stage.before.facts) obtains.question asked obtains.asks e in
+              subst (λ (a : Question). IsHit now a stage) same (one.1 (ap key_of same ∙ alike)),
+          was.hits,
+        );
+      }
+
+  stood : (stages : List (Stage Inquiry (Obtained L))) (last : Inquiry) → Chain (Obtains gave limit now policy incoming) first stages last → Stood policy incoming now m question stages last
+  stood [] last same =
+      let start : m ≡ m + 0 = omega arith in
+      record {
+        has = subst (λ (k : ℕ). HasLive question now k last.cached) start (subst (λ (x : Inquiry). HasLive question now m x.cached) (sym same) has);
+        counted = ap (λ (x : Inquiry). length x.facts) same ∙ ap length none;
+        hits = tt;
+      }
+  stood (stage ∷ stages) last (obtains, chain) = stood_more stage stages last obtains (stood stages stage.before chain)
+
+pub live_entry_answers : {L : Type 0} (gave : List ℕ → List ℕ → ℕ → Type 0) (limit now : ℕ) (policy : PlainPolicy) (incoming : Incoming) (first last : Inquiry) (stages : List (Stage Inquiry (Obtained L))) (question : Question) (entry : PlainLearned)
+    → first.facts ≡ [] → Chain (Obtains gave limit now policy incoming) first stages last
+    → found question now (take (limit - FACT_LIMIT) first.cached) ≡ Some entry
+    → AllByRecursion (HitsFor policy incoming now question) stages
+live_entry_answers gave limit now policy incoming first last stages question entry none chain e =
+    let has = has_live question now (limit - FACT_LIMIT) first.cached entry e in
+    let some = some_room question now (limit - FACT_LIMIT) first.cached has in
+    let room : (limit - FACT_LIMIT) + FACT_LIMIT ≤ limit = omega arith in
+    (stood gave limit now policy incoming question (limit - FACT_LIMIT) room first none has stages last chain).hits

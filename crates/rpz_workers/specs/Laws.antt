@@ -1,0 +1,26 @@
+-- What a live entry of the cache comes to.
+use Rattle.std.specs.Prelude.{◌≡◌, ℕ, Some}
+use Rattle.edge_io.specs.Chain.{Stage}
+use Rattle.dns_message.specs.declared.question.Question.{Question}
+use Rattle.dns_message.specs.declared.request.Incoming.{Incoming}
+use Rattle.upstream_link.specs.Vouched.{PlainLearned}
+use Rattle.answer_cache.specs.Key.{key_of}
+use Rattle.answer_cache.specs.Recent.{Serves, found}
+use Rattle.policy_snapshot.specs.Policy.{PlainPolicy}
+use Rattle.query_session.specs.Session.{turn_by}
+use Rattle.reply_build.specs.declared.turn.Turn.TheVariants as turn
+use Rattle.rpz_workers.specs.declared.obtained.Obtained.{Obtained}
+use Rattle.rpz_workers.specs.declared.obtained.Obtained.TheVariants.{Learned}
+use Rattle.rpz_workers.specs.Obtaining.{Inquiry}
+
+-- what was obtained is an entry that the cache had, live and about the question
+pub record IsHit {L : Type 0} (now : ℕ) (asked : Question) (stage : Stage Inquiry (Obtained L)) : Type 0 where
+  pub entry : PlainLearned
+  pub turn_is : stage.turn ≡ Learned entry
+  pub is_found : found asked now stage.before.cached ≡ Some entry
+  pub serves : Serves asked now entry
+
+-- if this stage asks a question like this one, the cache answers it
+abbrev pub HitsFor : {L : Type 0} → PlainPolicy → Incoming → ℕ → Question → Stage Inquiry (Obtained L) → Type 0
+HitsFor policy incoming now question stage =
+    (asked : Question) → turn_by policy incoming stage.before.facts ≡ turn.Ask asked → key_of asked ≡ key_of question → IsHit now asked stage
