@@ -13,7 +13,7 @@ use Rattle.upstream_link.specs.declared.facts.TheConstants.{FACT_LIMIT}
 use Rattle.upstream_link.specs.Facts.{PlainFacts}
 use Rattle.upstream_link.specs.Vouched.{PlainLearned, life, live}
 use Rattle.answer_cache.specs.Key.{key_of}
-use Rattle.answer_cache.specs.Recent.{found, if_live, is_about, kept, put_first, touched, without}
+use Rattle.answer_cache.specs.Recent.{Serves, found, if_live, is_about, kept, put_first, touched, without}
 use Rattle.policy_snapshot.specs.Policy.{PlainPolicy}
 use Rattle.query_session.specs.Session.{AsksAnew, question_in, turn_by}
 use Rattle.query_session.proofs.FreshQuestions.{asks_anew}
@@ -119,9 +119,8 @@ module _ (p q : Question) (differ : bytes_eq (key_of p) (key_of q) ≡ false) wh
 
 -- ---- a live entry among the first
 
--- among the first so many the first entry about the question is live
-pub record HasLive (question : Question) (now m : ℕ) (entries : List PlainLearned) : Type 0 where
-  pub entry : PlainLearned
+-- among the first so many this is the first entry about the question, and it is live
+pub record HasLive (question : Question) (entry : PlainLearned) (now m : ℕ) (entries : List PlainLearned) : Type 0 where
   pub first : find (is_about question) (take m entries) ≡ Some entry
   pub is_live : live now entry ≡ true
 
@@ -135,55 +134,65 @@ live_if now (Some x) entry e = (elim (live now x) as (λ b. live now x ≡ b →
 if_lives : (now : ℕ) (o : Option PlainLearned) (entry : PlainLearned) → o ≡ Some entry → live now entry ≡ true → if_live now o ≡ Some entry
 if_lives now o entry e t = ap (if_live now) e ∙ ap (λ b. cond b (Some entry) None) t
 
-has_live : (question : Question) (now m : ℕ) (entries : List PlainLearned) (entry : PlainLearned) → found question now (take m entries) ≡ Some entry → HasLive question now m entries
+has_live : (question : Question) (now m : ℕ) (entries : List PlainLearned) (entry : PlainLearned) → found question now (take m entries) ≡ Some entry → HasLive question entry now m entries
 has_live question now m entries entry e =
-    let is = live_if now (find (is_about question) (take m entries)) entry e in record { entry = entry; first = is.0; is_live = is.1 }
+    let is = live_if now (find (is_about question) (take m entries)) entry e in record { first = is.0; is_live = is.1 }
 
-some_room : (question : Question) (now m : ℕ) (entries : List PlainLearned) → HasLive question now m entries → 1 ≤ m
-some_room question now zero entries has = let e = has.first in absurd (cc)
-some_room question now (suc m) entries has = omega arith
+some_room : (question : Question) (entry : PlainLearned) (now m : ℕ) (entries : List PlainLearned) → HasLive question entry now m entries → 1 ≤ m
+some_room question entry now zero entries has = let e = has.first in absurd (cc)
+some_room question entry now (suc m) entries has = omega arith
 
 -- a look-up for a question that is alike finds it
-finds : (p q : Question) (now m : ℕ) (entries : List PlainLearned) → key_of p ≡ key_of q → (has : HasLive q now m entries) → found p now entries ≡ Some has.entry
-finds p q now m entries alike has =
+finds : (p q : Question) (y : PlainLearned) (now m : ℕ) (entries : List PlainLearned) → key_of p ≡ key_of q → HasLive q y now m entries → found p now entries ≡ Some y
+finds p q y now m entries alike has =
     ap (λ (key : List ℕ). if_live now (find (λ e. bytes_eq key (key_of e.question)) entries)) alike
-    ∙ if_lives now (find (is_about q) entries) has.entry (found_of_all (is_about q) m entries has.entry has.first) has.is_live
+    ∙ if_lives now (find (is_about q) entries) y (found_of_all (is_about q) m entries y has.first) has.is_live
 
 touched_first : (p : Question) (entries : List PlainLearned) (x : PlainLearned) → find (is_about p) entries ≡ Some x → touched p entries ≡ x ∷ without p entries
 touched_first p entries x e = ap (λ o. option_map_or (λ entry. entry ∷ without p entries) o entries) e
 
 -- and moves it to the front
-first_then : (p q : Question) (now m : ℕ) (entries : List PlainLearned) → key_of p ≡ key_of q → HasLive q now m entries → HasLive q now (suc m) (touched p entries)
-first_then p q now m entries alike has =
-    let here = live_if now (find (is_about p) entries) has.entry (finds p q now m entries alike has) in
-    let about : is_about q has.entry ≡ true = passes (is_about q) (take m entries) has.entry has.first in
+first_then : (p q : Question) (y : PlainLearned) (now m : ℕ) (entries : List PlainLearned) → key_of p ≡ key_of q → HasLive q y now m entries → HasLive q y now (suc m) (touched p entries)
+first_then p q y now m entries alike has =
+    let here = live_if now (find (is_about p) entries) y (finds p q y now m entries alike has) in
+    let about : is_about q y ≡ true = passes (is_about q) (take m entries) y has.first in
     record {
-      entry = has.entry;
-      first = ap (λ l. find (is_about q) (take (suc m) l)) (touched_first p entries has.entry here.0) ∙ in_front (is_about q) has.entry (take m (without p entries)) about;
+      first = ap (λ l. find (is_about q) (take (suc m) l)) (touched_first p entries y here.0) ∙ in_front (is_about q) y (take m (without p entries)) about;
       is_live = has.is_live;
     }
 
 -- ---- one stage
 
-module _ {L : Type 0} (gave : List ℕ → List ℕ → ℕ → Type 0) (limit now : ℕ) (p q : Question) (m : ℕ) (before after : Inquiry) (room : suc m ≤ limit) (has : HasLive q now m before.cached) where
-  one_alike : (one : Obtained L) → key_of p ≡ key_of q → ObtainsFor gave limit now p before one after → HasLive q now (suc m) after.cached × IsHit now p (record { turn = one; before = before })
-  one_alike (Learned entry) alike (inl hit) = (
-    subst (HasLive q now (suc m)) (sym hit.cached) (first_then p q now m before.cached alike has),
-    record { entry = entry; turn_is = refl; is_found = hit.is_found; serves = hit.serves },
-  )
-  one_alike (Learned entry) alike (inr asked) = let e = sym asked.not_found ∙ finds p q now m before.cached alike has in absurd (cc)
-  one_alike (Failed asked) alike (same, failed) = let e = sym failed.not_found ∙ finds p q now m before.cached alike has in absurd (cc)
+hit_at : {L : Type 0} (now : ℕ) (p : Question) (entry y : PlainLearned) (before : Inquiry) → found p now before.cached ≡ Some entry → Serves p now entry → entry ≡ y
+    → IsHit {L = L} now p y (record { turn = Learned entry; before = before })
+hit_at {L} now p entry y before is serves same =
+    record {
+      turn_is = ap (λ (z : PlainLearned). let t : Obtained L = Learned z in t) same;
+      is_found = is ∙ ap (λ (z : PlainLearned). Some z) same;
+      serves = subst (Serves p now) same serves;
+    }
 
-  one_other : (one : Obtained L) → bytes_eq (key_of p) (key_of q) ≡ false → ObtainsFor gave limit now p before one after → HasLive q now (suc m) after.cached
+module _ {L : Type 0} (gave : List ℕ → List ℕ → ℕ → Type 0) (limit now : ℕ) (p q : Question) (y : PlainLearned) (m : ℕ) (before after : Inquiry) (room : suc m ≤ limit) (has : HasLive q y now m before.cached) where
+  one_alike : (one : Obtained L) → key_of p ≡ key_of q → ObtainsFor gave limit now p before one after → HasLive q y now (suc m) after.cached × IsHit now p y (record { turn = one; before = before })
+  one_alike (Learned entry) alike (inl hit) =
+      let found_twice = sym hit.is_found ∙ finds p q y now m before.cached alike has in
+      let same : entry ≡ y = cc in (
+        subst (HasLive q y now (suc m)) (sym hit.cached) (first_then p q y now m before.cached alike has),
+        hit_at now p entry y before hit.is_found hit.serves same,
+      )
+  one_alike (Learned entry) alike (inr asked) = let e = sym asked.not_found ∙ finds p q y now m before.cached alike has in absurd (cc)
+  one_alike (Failed asked) alike (same, failed) = let e = sym failed.not_found ∙ finds p q y now m before.cached alike has in absurd (cc)
+
+  one_other : (one : Obtained L) → bytes_eq (key_of p) (key_of q) ≡ false → ObtainsFor gave limit now p before one after → HasLive q y now (suc m) after.cached
   one_other (Learned entry) differ (inl hit) =
-      record { entry = has.entry; first = ap (λ l. find (is_about q) (take (suc m) l)) hit.cached ∙ stays_touched p q differ m before.cached has.entry has.first; is_live = has.is_live }
+      record { first = ap (λ l. find (is_about q) (take (suc m) l)) hit.cached ∙ stays_touched p q differ m before.cached y has.first; is_live = has.is_live }
   one_other (Learned entry) differ (inr asked) =
-      record { entry = has.entry; first = stays_may_keep p q differ limit m entry before.cached after.cached has.entry room asked.asks.0 asked.cached has.first; is_live = has.is_live }
+      record { first = stays_may_keep p q differ limit m entry before.cached after.cached y room asked.asks.0 asked.cached has.first; is_live = has.is_live }
   one_other (Failed asked) differ (same, failed) =
-      record { entry = has.entry; first = ap (λ l. find (is_about q) (take (suc m) l)) failed.cached ∙ stays_touched p q differ m before.cached has.entry has.first; is_live = has.is_live }
+      record { first = ap (λ l. find (is_about q) (take (suc m) l)) failed.cached ∙ stays_touched p q differ m before.cached y has.first; is_live = has.is_live }
 
-  one_stage : (one : Obtained L) → ObtainsFor gave limit now p before one after → HasLive q now (suc m) after.cached × (key_of p ≡ key_of q → IsHit now p (record { turn = one; before = before }))
-  one_stage one by = (elim (bytes_eq (key_of p) (key_of q)) as (λ b. bytes_eq (key_of p) (key_of q) ≡ b → HasLive q now (suc m) after.cached × (key_of p ≡ key_of q → IsHit now p (record { turn = one; before = before }))) [
+  one_stage : (one : Obtained L) → ObtainsFor gave limit now p before one after → HasLive q y now (suc m) after.cached × (key_of p ≡ key_of q → IsHit now p y (record { turn = one; before = before }))
+  one_stage one by = (elim (bytes_eq (key_of p) (key_of q)) as (λ b. bytes_eq (key_of p) (key_of q) ≡ b → HasLive q y now (suc m) after.cached × (key_of p ≡ key_of q → IsHit now p y (record { turn = one; before = before }))) [
     | true ↦ λ t. let both = one_alike one ((bytes_eq-Decides (key_of p) (key_of q)).0 t) by in (both.0, λ _. both.1)
     | false ↦ λ t. (one_other one t by, λ alike. absurd (true≢false (sym ((bytes_eq-Decides (key_of p) (key_of q)).1 alike) ∙ t)))
   ]) refl
@@ -197,36 +206,36 @@ same_asked : (this : Turn) (p other : Question) → this ≡ turn.Ask p → this
 same_asked this p other e f = cc
 
 -- after these stages the entry is still found, each stage has brought one fact, and each that was alike hit the cache
-pub record Stood {L : Type 0} (policy : PlainPolicy) (incoming : Incoming) (now m : ℕ) (question : Question) (stages : List (Stage Inquiry (Obtained L))) (last : Inquiry) : Type 0 where
-  pub has : HasLive question now (m + length stages) last.cached
+pub record Stood {L : Type 0} (policy : PlainPolicy) (incoming : Incoming) (now m : ℕ) (question : Question) (entry : PlainLearned) (stages : List (Stage Inquiry (Obtained L))) (last : Inquiry) : Type 0 where
+  pub has : HasLive question entry now (m + length stages) last.cached
   pub counted : length last.facts ≡ length stages
-  pub hits : AllByRecursion (HitsFor policy incoming now question) stages
+  pub hits : AllByRecursion (HitsFor policy incoming now question entry) stages
 
-module _ {L : Type 0} (gave : List ℕ → List ℕ → ℕ → Type 0) (limit now : ℕ) (policy : PlainPolicy) (incoming : Incoming) (question : Question) (m : ℕ) (room : m + FACT_LIMIT ≤ limit) (first : Inquiry) (none : first.facts ≡ []) (has : HasLive question now m first.cached) where
+module _ {L : Type 0} (gave : List ℕ → List ℕ → ℕ → Type 0) (limit now : ℕ) (policy : PlainPolicy) (incoming : Incoming) (question : Question) (entry : PlainLearned) (m : ℕ) (room : m + FACT_LIMIT ≤ limit) (first : Inquiry) (none : first.facts ≡ []) (has : HasLive question entry now m first.cached) where
   stood_more : (stage : Stage Inquiry (Obtained L)) (stages : List (Stage Inquiry (Obtained L))) (last : Inquiry) → Obtains gave limit now policy incoming stage.before stage.turn last
-      → Stood policy incoming now m question stages stage.before → Stood policy incoming now m question (stage ∷ stages) last
+      → Stood policy incoming now m question entry stages stage.before → Stood policy incoming now m question entry (stage ∷ stages) last
   stood_more stage stages last obtains was =
       let within : length stage.before.facts < FACT_LIMIT = asks_within policy incoming stage.before.facts obtains.question obtains.asks in
       let place : suc (m + length stages) ≤ limit = omega (arith, was.counted) in
-      let one = one_stage gave limit now obtains.question question (m + length stages) stage.before last place was.has stage.turn obtains.by in
+      let one = one_stage gave limit now obtains.question question entry (m + length stages) stage.before last place was.has stage.turn obtains.by in
       let more : length last.facts ≡ length stage.before.facts + 1 = one_fact_more gave limit now obtains.question stage.before stage.turn last obtains.by in
       let next : suc (m + length stages) ≡ m + suc (length stages) = omega arith in
       record {
-        has = subst (λ (k : ℕ). HasLive question now k last.cached) next one.0;
+        has = subst (λ (k : ℕ). HasLive question entry now k last.cached) next one.0;
         counted = omega (arith, more, was.counted);
         hits = (
           λ asked e alike.
               let same = same_asked (turn_by policy incoming stage.before.facts) obtains.question asked obtains.asks e in
-              subst (λ (a : Question). IsHit now a stage) same (one.1 (ap key_of same ∙ alike)),
+              subst (λ (a : Question). IsHit now a entry stage) same (one.1 (ap key_of same ∙ alike)),
           was.hits,
         );
       }
 
-  stood : (stages : List (Stage Inquiry (Obtained L))) (last : Inquiry) → Chain (Obtains gave limit now policy incoming) first stages last → Stood policy incoming now m question stages last
+  stood : (stages : List (Stage Inquiry (Obtained L))) (last : Inquiry) → Chain (Obtains gave limit now policy incoming) first stages last → Stood policy incoming now m question entry stages last
   stood [] last same =
       let start : m ≡ m + 0 = omega arith in
       record {
-        has = subst (λ (k : ℕ). HasLive question now k last.cached) start (subst (λ (x : Inquiry). HasLive question now m x.cached) (sym same) has);
+        has = subst (λ (k : ℕ). HasLive question entry now k last.cached) start (subst (λ (x : Inquiry). HasLive question entry now m x.cached) (sym same) has);
         counted = ap (λ (x : Inquiry). length x.facts) same ∙ ap length none;
         hits = tt;
       }
@@ -235,9 +244,9 @@ module _ {L : Type 0} (gave : List ℕ → List ℕ → ℕ → Type 0) (limit n
 pub live_entry_answers : {L : Type 0} (gave : List ℕ → List ℕ → ℕ → Type 0) (limit now : ℕ) (policy : PlainPolicy) (incoming : Incoming) (first last : Inquiry) (stages : List (Stage Inquiry (Obtained L))) (question : Question) (entry : PlainLearned)
     → first.facts ≡ [] → Chain (Obtains gave limit now policy incoming) first stages last
     → found question now (take (limit - FACT_LIMIT) first.cached) ≡ Some entry
-    → AllByRecursion (HitsFor policy incoming now question) stages
+    → AllByRecursion (HitsFor policy incoming now question entry) stages
 live_entry_answers gave limit now policy incoming first last stages question entry none chain e =
     let has = has_live question now (limit - FACT_LIMIT) first.cached entry e in
-    let some = some_room question now (limit - FACT_LIMIT) first.cached has in
+    let some = some_room question entry now (limit - FACT_LIMIT) first.cached has in
     let room : (limit - FACT_LIMIT) + FACT_LIMIT ≤ limit = omega arith in
-    (stood gave limit now policy incoming question (limit - FACT_LIMIT) room first none has stages last chain).hits
+    (stood gave limit now policy incoming question entry (limit - FACT_LIMIT) room first none has stages last chain).hits

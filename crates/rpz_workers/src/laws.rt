@@ -23,5 +23,5 @@ pub fn a_live_entry_answers<L: Link>()
         (question : Question) (entry : PlainLearned) → first.facts ≡ [] →
         Chain (Obtains L.gave limit now policy incoming) first stages last →
         found question now (take (limit - FACT_LIMIT) first.cached) ≡ Some entry →
-        AllByRecursion (HitsFor policy incoming now question) stages }
+        AllByRecursion (HitsFor policy incoming now question entry) stages }
 {}
