@@ -1,0 +1,10 @@
+//! Tests of the published policy among threads, of polls and of workers, and nothing else. They show what no proof can: that calls
+//! succeed where memory suffices, and that threads follow each other's publications.
+#![tactic(auto)]
+
+#[cfg(test)]
+mod answers;
+#[cfg(test)]
+mod polls;
+#[cfg(test)]
+mod publishing;

@@ -1,0 +1,83 @@
+//! Polls of a zone over streams in memory.
+
+ghost use Rattle.std.specs.Prelude.{◌≡◌};
+
+use dns_name::Name;
+use edge_io::{ListSink, ListSource};
+use policy_feed::{FeedError, FeedFault, Polled, poll_zone};
+use policy_publish::{Parts, Publication, Publisher, StoreName, start_store};
+use std::alloc::Global;
+use std::marker::Brand;
+use std::process::Abort;
+use std::sync::Wait;
+use std::test::Fail;
+
+// The request of the ID 0 for all of `rpz.example`, behind its length (RFC 5936, section 2.1).
+const WHOLE: &[u8] = b"\0\x1d\0\0\0\0\0\x01\0\0\0\0\0\0\x03rpz\x07example\0\0\xfc\0\x01";
+
+// The request of the ID 0 for what is newer than the serial 1 (RFC 1995, section 3): the question, and our SOA as authority.
+const NEWER: &[u8] =
+    b"\0\x4a\0\0\0\0\0\x01\0\0\0\x01\0\0\x03rpz\x07example\0\0\xfb\0\x01\x03rpz\x07example\0\0\x06\0\x01\0\0\0<\0\x16\0\0\0\0\0\x01\0\0\x0e\x10\0\0\x02X\0\x01Q\x80\0\0\0<";
+
+// A transfer of the zone `rpz.example` in one message behind its length: the serial 1, and the row `bad.example` CNAME `.`.
+const STREAM: &[u8] =
+    b"\0\x9b\0\0\x84\0\0\x01\0\x03\0\0\0\0\x03rpz\x07example\0\0\xfc\0\x01\x03rpz\x07example\0\0\x06\0\x01\0\0\0<\0\x16\0\0\0\0\0\x01\0\0\x0e\x10\0\0\x02X\0\x01Q\x80\0\0\0<\x03bad\x07example\x03rpz\x07example\0\0\x05\0\x01\0\0\0<\0\x01\0\x03rpz\x07example\0\0\x06\0\x01\0\0\0<\0\x16\0\0\0\0\0\x01\0\0\x0e\x10\0\0\x02X\0\x01Q\x80\0\0\0<";
+
+// The answer that the serial 1 is the newest, to what is newer.
+const CURRENT: &[u8] =
+    b"\0\x4a\0\0\x84\0\0\x01\0\x01\0\0\0\0\x03rpz\x07example\0\0\xfb\0\x01\x03rpz\x07example\0\0\x06\0\x01\0\0\0<\0\x16\0\0\0\0\0\x01\0\0\x0e\x10\0\0\x02X\0\x01Q\x80\0\0\0<";
+
+// What a poll gives over this stream, three bytes a call, and what it writes. The writes of the numbers in `failing` fail.
+fn polled<N: StoreName, R: Wait>(
+    rt: &R,
+    alloc: Global,
+    publisher: &mut Publisher<N>,
+    stream: &[u8],
+    failing: Vec<u64>,
+) -> Result<(Result<Polled, FeedError>, Vec<u8>), Fail> {
+    if !publisher.has_zone(1) {
+        return Err("a zone".into());
+    }
+    let mut source = ListSource::new(stream.to_vec(alloc)?, 3, Vec::new(alloc));
+    let mut sink = ListSink::new(Vec::new(alloc), 5, failing);
+    let polled = poll_zone(rt, alloc, publisher, &mut source, &mut sink, 0, 1);
+    Ok((polled, sink.bytes))
+}
+
+#[test]
+fn a_zone_is_polled(rt: HostRuntime) -> Result<(), Fail> {
+    let alloc = rt.alloc();
+    let origins = vec![in alloc; Name::from_text(alloc, b"rpz.example")?]?;
+    run::<Brand, _>(rt, alloc, start_store(origins, 1))
+}
+
+fn run<N: StoreName, R: Wait + Abort + Drop>(rt: R, alloc: Global, parts: Parts) -> Result<(), Fail>
+    requires { parts ≡ N.store }
+{
+    let (mut publisher, _readers) = parts.open::<N, R>(&rt, alloc).map_err(|_| "memory")?;
+    let done = poll_all(&rt, alloc, &mut publisher);
+    publisher.close(&rt);
+    done
+}
+
+// A write that fails, all of the zone, what is newer where there is nothing newer, and what is newer from a stream without a message,
+// after which all of the zone is asked for.
+fn poll_all<N: StoreName, R: Wait + Abort>(
+    rt: &R,
+    alloc: Global,
+    publisher: &mut Publisher<N>,
+) -> Result<(), Fail> {
+    let (failed, _) = polled(rt, alloc, publisher, STREAM, vec![in alloc; 2]?)?;
+    assert_eq!(rt; failed, Err(FeedError::Fault(FeedFault::WriteFault)));
+    let (new, sent) = polled(rt, alloc, publisher, STREAM, Vec::new(alloc))?;
+    assert_eq!(rt; sent.as_slice(), WHOLE);
+    assert_eq!(rt; new, Ok(Polled::New(Publication { serial: 1, rows: 1 })));
+    let (current, sent) = polled(rt, alloc, publisher, CURRENT, Vec::new(alloc))?;
+    assert_eq!(rt; sent.as_slice(), NEWER);
+    assert_eq!(rt; current, Ok(Polled::Current { theirs: 1 }));
+    let (ended, _) = polled(rt, alloc, publisher, b"", Vec::new(alloc))?;
+    assert!(rt; ended.is_err());
+    let (_, sent) = polled(rt, alloc, publisher, b"", Vec::new(alloc))?;
+    assert_eq!(rt; sent.as_slice(), WHOLE);
+    Ok(())
+}

@@ -1,0 +1,202 @@
+//! One thread publishes, and two readers follow.
+
+ghost use Rattle.std.specs.Prelude.{◌≡◌};
+
+use crossbeam_channel::{Receiver, Sender, unbounded};
+use dns_name::{Name, Pattern};
+use dns_record::{Row, Soa, class, read_record};
+use policy_publish::{Parts, PolicyReader, Publisher, StoreName, Told, start_store};
+use policy_snapshot::Snapshot;
+use std::alloc::Global;
+use std::marker::Brand;
+use std::process::Abort;
+use std::sync::Wait;
+use std::test::Fail;
+use std::thread;
+use std::thread::{JoinHandle, Threads};
+use trigger_codec::Trigger;
+use zone_rows::{Rows, Transfer};
+
+pub const PUBLICATIONS: u32 = 1_000;
+
+const READERS: usize = 2;
+
+// What a reader is told: a list, and how many publications it has.
+#[derive(Drop)]
+struct News<N: StoreName> {
+    told: Told<N>,
+    count: u64,
+}
+
+// `x.example.rpz.example` CNAME `.`: the name `x.example` doesn't exist.
+const RULE: &[u8] = b"\x01x\x07example\x03rpz\x07example\0\0\x05\0\x01\0\0\0<\0\x01\0";
+
+// The row of the rule.
+fn rule(alloc: Global) -> Option<Row> {
+    let (rr, _) = read_record(alloc, RULE, 0).ok()?;
+    if rr.class() != class::IN {
+        return None;
+    }
+    Row::of(alloc, &rr).ok()
+}
+
+// Whether the version has the rule in its first zone; `None` out of memory.
+fn has_rule(alloc: Global, version: &Snapshot) -> Option<bool> {
+    let base = Name::from_text(alloc, b"x.example").ok()?;
+    let pattern = Pattern::new(alloc, &base, false).ok()?;
+    let rule = version.zone(1)?.rule(&Trigger::Qname(pattern));
+    Some(rule.is_some())
+}
+
+/// A whole transfer of this serial: the last one has the rule, the others no row.
+pub fn transfer(alloc: Global, serial: u32) -> Option<Transfer> {
+    let mut rows = Rows::new(alloc);
+    if serial == PUBLICATIONS {
+        rows.push(rule(alloc)?).ok()?;
+    }
+    let soa = Soa {
+        mname: Name::from_text(alloc, b"ns.example").ok()?,
+        rname: Name::from_text(alloc, b"root.example").ok()?,
+        serial,
+        refresh: 3_600,
+        retry: 600,
+        expire: 86_400,
+        minimum: 60,
+        ttl: 60,
+    };
+    Some(Transfer::Whole { soa, rows })
+}
+
+// The version that is published: for how many publications it stands, and whether it has the rule.
+fn look<N: StoreName>(alloc: Global, reader: &mut PolicyReader<N>) -> (u64, bool) {
+    match reader.pin() {
+        Ok(version) => (
+            version.accepted(),
+            has_rule(alloc, &version).unwrap_or(false),
+        ),
+        Err(_) => (0, false),
+    }
+}
+
+// Learns what it is told, and takes a version behind each list: how often that stood for fewer publications than the list had, or
+// than the version before; how many the last one stood for, and whether it had the rule.
+fn follow<N: StoreName, R: Wait>(
+    rt: &R,
+    alloc: Global,
+    reader: &mut PolicyReader<N>,
+    news: &Receiver<News<N>>,
+) -> (u32, u64, bool) {
+    let mut faults = 0u32;
+    let mut last = (0u64, false);
+    for _ in rt.forever() {
+        let Ok(News { told, count }) = news.recv(rt) else {
+            return (faults, last.0, last.1);
+        };
+        reader.learn(told);
+        let seen = look(alloc, reader);
+        if seen.0 < count || seen.0 < last.0 {
+            faults = faults.wrapping_add(1);
+        }
+        last = seen;
+    }
+    unreachable!()
+}
+
+// A reader in a thread of its own.
+fn start<
+    N: StoreName + Send + Sync + 'static,
+    R: Threads + Wait + Copy + Drop + Send + Sync + 'static,
+>(
+    rt: R,
+    alloc: Global,
+    mut reader: PolicyReader<N>,
+    news: Receiver<News<N>>,
+) -> Result<JoinHandle<(u32, u64, bool)>, Fail> {
+    Ok(thread::spawn(&rt, move || follow(&rt, alloc, &mut reader, &news)).map_err(|_| "a thread")?)
+}
+
+// Publishes one transfer after another, and tells each reader of each: how often that failed.
+fn publish_all<N: StoreName, R: Wait>(
+    rt: &R,
+    alloc: Global,
+    publisher: &mut Publisher<N>,
+    readers: &[Sender<News<N>>],
+) -> u32 {
+    let mut faults = 0u32;
+    for serial in 1..=PUBLICATIONS {
+        if !publish_one(rt, alloc, publisher, readers, serial) {
+            faults = faults.wrapping_add(1);
+        }
+    }
+    faults
+}
+
+fn publish_one<N: StoreName, R: Wait>(
+    rt: &R,
+    alloc: Global,
+    publisher: &mut Publisher<N>,
+    readers: &[Sender<News<N>>],
+    serial: u32,
+) -> bool {
+    if !publisher.has_zone(1) {
+        return false;
+    }
+    let Some(transfer) = transfer(alloc, serial) else {
+        return false;
+    };
+    let published = publisher.publish(rt, 1, transfer).is_ok();
+    let mut told = true;
+    for reader in readers {
+        let news = News {
+            told: publisher.tell(),
+            count: u64::from(serial),
+        };
+        told = told && reader.send(rt, news).is_ok();
+    }
+    published && told
+}
+
+#[test]
+fn readers_follow_the_publisher(rt: HostRuntime) -> Result<(), Fail> {
+    let alloc = rt.alloc();
+    let origins = vec![in alloc; Name::from_text(alloc, b"rpz.example")?]?;
+    run::<Brand, _>(rt, alloc, start_store(origins, READERS))
+}
+
+fn run<
+    N: StoreName + Send + Sync + 'static,
+    R: Threads + Wait + Abort + Copy + Drop + Send + Sync + 'static,
+>(rt: R, alloc: Global, parts: Parts) -> Result<(), Fail>
+    requires { parts ≡ N.store }
+{
+    let (mut publisher, readers) = parts.open::<N, R>(&rt, alloc).map_err(|_| "memory")?;
+    let followed = follow_all(rt, alloc, &mut publisher, readers);
+    publisher.close(&rt);
+    assert_eq!(rt; followed?, 0);
+    Ok(())
+}
+
+// How many publications failed, while each reader saw all of them in their order.
+fn follow_all<
+    N: StoreName + Send + Sync + 'static,
+    R: Threads + Wait + Abort + Copy + Drop + Send + Sync + 'static,
+>(
+    rt: R,
+    alloc: Global,
+    publisher: &mut Publisher<N>,
+    readers: Vec<PolicyReader<N>>,
+) -> Result<u32, Fail> {
+    let mut to = Vec::new(alloc);
+    let mut threads = Vec::new(alloc);
+    for reader in readers {
+        let (sender, receiver) = unbounded(alloc)?;
+        to.push(sender)?;
+        threads.push(start(rt, alloc, reader, receiver)?)?;
+    }
+    let faults = publish_all(&rt, alloc, publisher, to.as_slice());
+    drop(to);
+    for thread in threads {
+        assert_eq!(rt; thread.join(&rt), (0, u64::from(PUBLICATIONS), true));
+    }
+    Ok(faults)
+}
