@@ -255,6 +255,13 @@ impl<N: StoreName> Front<N> {
         }
     }
 
+    /// How many entries it has.
+    pub fn len(&self) -> u64
+        ensures { result ≡ length self.now }
+    {
+        self.line.len()
+    }
+
     /// A copy.
     pub fn again(&self) -> Front<N>
         ensures { result ≡ self.now }

@@ -106,7 +106,7 @@ impl<N: StoreName> Publisher<N> {
         let Some(writer) = &self.writer else {
             return Err(AllocError);
         };
-        Ok(PolicyReader::over(writer.factory().reader()?, front))
+        Ok(PolicyReader::over(self.alloc, writer.factory().reader()?, front))
     }
 
     /// Publishes the policy after one more transfer, whole or in steps, of the zone of this number, the first of which is zone 1, and

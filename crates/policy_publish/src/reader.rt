@@ -1,6 +1,6 @@
 //! The threads that take versions.
 
-ghost use Rattle.std.specs.Prelude.{◌≡◌, IfOk};
+ghost use Rattle.std.specs.Prelude.{◌≡◌, IfOk, IfSome};
 ghost use Rattle.std.specs.Arc.{arc_value};
 ghost use Rattle.policy_publish.specs.Shows.{IsOf};
 
@@ -46,27 +46,49 @@ pub struct PolicyReader<N: StoreName> {
     reader: Option<Reader<Shown, (), OfStore<N>>>,
     seen: Front<N>,
     told: Front<N>,
+    // The version that stands for what was seen, behind a count of holders of this reader's own: threads that count one another's
+    // holders wait for the same word of memory.
+    own: Option<Arc<Snapshot, Global>>,
+    alloc: Global,
 }
 
 impl<N: StoreName> Model for PolicyReader<N> {
+    ghost use Rattle.std.specs.Prelude.{IfSome};
+    ghost use Rattle.std.specs.Arc.{arc_value};
+    ghost use Rattle.policy_snapshot.specs.Stands.{StandsFor};
     ghost use Rattle.policy_publish.specs.Lists.{Known};
 
     ghost Value = { Known };
 
     ghost view = { λ r. record { seen = r.seen; told = r.told } };
 
-    ghost invariant = { λ r. Unit {0} };
+    ghost invariant = { λ r. IfSome r.own (λ version. StandsFor N.store.origins (arc_value version) r.seen) };
 }
 
-// Takes the version that is published, and its list.
+// What is shown once more; `None` where it has no more entries than these.
+fn newer(shown: &Shown, entries: Option<u64>) -> Result<Option<Shown>, AllocError>
+    ensures { IfOk result (λ taken. IfSome taken (λ s. (arc_value s.version ≡ arc_value shown.now.version) ×
+        (s.line ≡ shown.now.line))) }
+{
+    match entries {
+        Some(count) if shown.line.len() <= count => Ok(None),
+        _ => Ok(Some(shown.again()?)),
+    }
+}
+
+// Takes the version that is published, and its list; `None` where that has no more entries than these.
 fn enter<N: StoreName>(
     reader: Reader<Shown, (), OfStore<N>>,
-) -> (Reader<Shown, (), OfStore<N>>, Result<Shown, AllocError>)
-    ensures { IfOk result.1 (λ shown. IsOf N.store shown) }
+    entries: Option<u64>,
+) -> (
+    Reader<Shown, (), OfStore<N>>,
+    Result<Option<Shown>, AllocError>,
+)
+    ensures { IfOk result.1 (λ taken. IfSome taken (λ shown. IsOf N.store shown)) }
 {
     match reader.enter_as::<OfStore<N>>() {
         Ok(reading) => {
-            let taken = reading.get().again();
+            let taken = newer(reading.get(), entries);
             (reading.leave(), taken)
         }
         Err(reader) => (reader, Err(AllocError)),
@@ -79,39 +101,83 @@ impl<N: StoreName> PolicyReader<N> {
     ghost use Rattle.policy_publish.specs.Lists.{GoesOn, WasTold, KeepsTold};
 
     // A reader that has seen and was told the entries of the front.
-    pub(crate) fn over(reader: Reader<Shown, (), OfStore<N>>, front: &Front<N>) -> PolicyReader<N>
+    pub(crate) fn over(
+        alloc: Global,
+        reader: Reader<Shown, (), OfStore<N>>,
+        front: &Front<N>,
+    ) -> PolicyReader<N>
         ensures { (result.seen ≡ front.now) × (result.told ≡ front.now) }
     {
         PolicyReader {
             reader: Some(reader),
             seen: front.again(),
             told: front.again(),
+            own: None,
+            alloc,
         }
     }
 
-    /// Takes the version that is published. It waits for nobody, and takes no memory but the count of the version. It answers an error
-    /// where that count can't rise, and is as it was then.
+    // How many entries were seen, where the reader has the version that stands for them and was told of no more.
+    fn entries(&self) -> Option<u64> {
+        match &self.own {
+            Some(_) if self.told.begins(&self.seen) => Some(self.seen.len()),
+            _ => None,
+        }
+    }
+
+    // The version that the reader has, once more; an error where it has none, or was told of more.
+    fn own_again(&self) -> Result<Arc<Snapshot, Global>, AllocError>
+        ensures stands { IfOk result (λ version. StandsFor N.store.origins (arc_value version) self.now.seen) }
+        ensures later { OnOk result (GoesOn self.now self.now.seen) }
+    {
+        match &self.own {
+            Some(own) if self.told.begins(&self.seen) => Ok(Arc::try_clone(own)?),
+            _ => Err(AllocError),
+        }
+    }
+
+    // Takes a version that was entered, and has it from now on behind a count of its own.
     #[tactic(auto, using(crate::proofs::Fronts::prefix_trans))]
-    pub fn pin(&mut self) -> Result<Arc<Snapshot, Global>, AllocError>
+    fn take(&mut self, shown: Shown) -> Result<Arc<Snapshot, Global>, AllocError>
+        requires { IsOf N.store shown }
         ensures stands { IfOk result (λ version. StandsFor N.store.origins (arc_value version) self.new.seen) }
         ensures later { OnOk result (GoesOn self.old self.new.seen) }
         ensures told { self.new.told ≡ self.old.told }
         ensures err { OnErr result (self.new ≡ self.old) }
     {
-        let Some(reader) = self.reader.take() else {
-            return Err(AllocError);
-        };
-        let (reader, taken) = enter(reader);
-        self.reader = Some(reader);
-        let shown = taken?;
         let Shown { version, line } = shown;
         let front = Front::over(line);
         // never so: what is entered is not older than what was seen or told; but no clause of `left_right` says it
         if !self.seen.begins(&front) || !self.told.begins(&front) {
             return Err(AllocError);
         }
+        let own = Arc::new(self.alloc, version.again(self.alloc)?)?;
+        let again = Arc::try_clone(&own)?;
         self.seen = front;
-        Ok(version)
+        self.own = Some(own);
+        Ok(again)
+    }
+
+    /// Takes the version that is published. It waits for nobody. Where that is the one that it took before, it takes no memory but
+    /// the count of its holders, which no other thread counts; else as much as there are zones, at most 32. It answers an error where
+    /// memory runs out, and is as it was then.
+    pub fn pin(&mut self) -> Result<Arc<Snapshot, Global>, AllocError>
+        ensures stands { IfOk result (λ version. StandsFor N.store.origins (arc_value version) self.new.seen) }
+        ensures later { OnOk result (GoesOn self.old self.new.seen) }
+        ensures told { self.new.told ≡ self.old.told }
+        ensures err { OnErr result (self.new ≡ self.old) }
+    {
+        let entries = self.entries();
+        let Some(reader) = self.reader.take() else {
+            return Err(AllocError);
+        };
+        let (reader, taken) = enter(reader, entries);
+        self.reader = Some(reader);
+        match taken {
+            Ok(Some(shown)) => self.take(shown),
+            Ok(None) => self.own_again(),
+            Err(error) => Err(error),
+        }
     }
 
     /// From now on `pin` gives no version before this list. It waits for nobody and takes no memory.

@@ -68,6 +68,17 @@ impl Snapshot {
         self.accepted
     }
 
+    /// The same policy, whose zones are shared, and behind which no other holds anything: a thread that holds it so counts its
+    /// holders alone.
+    pub fn again(&self, alloc: Global) -> Result<Snapshot, AllocError>
+        ensures { IfOk result (λ copy. copy ≡ self.now) }
+    {
+        Ok(Snapshot {
+            zones: shared(alloc, &self.zones)?,
+            accepted: self.accepted,
+        })
+    }
+
     /// The zones in order, the first of them zone 1.
     pub(crate) fn zones(&self) -> &[Arc<Zone, Global>]
         ensures zones { map arc_value result.now ≡ self.now.zones }
