@@ -5,6 +5,7 @@ ghost use Rattle.dns_message.specs.declared.question.Question as questions;
 ghost use Rattle.dns_message.specs.Request.{incoming_of};
 ghost use Rattle.upstream_link.specs.declared.fact.Fact as told;
 ghost use Rattle.upstream_link.specs.Facts.{PlainFacts};
+ghost use Rattle.reply_build.specs.Short.{SaysShort};
 ghost use Rattle.query_session.specs.Session.{AsksAnew, IsPassed, after_fact, after_turn, awaiting, new_session, question_in as asks, turn_of};
 
 use crate::turns::turn_about;
@@ -71,6 +72,7 @@ impl Session {
     fn next_turn(&self) -> Result<(Turn, bool), AllocError>
         ensures turn { IfOk result (λ turn. turn.0 ≡ turn_of self.now) }
         ensures passes { IfOk result (λ turn. turn.1 ≡ true → IsPassed self.now.policy self.now.incoming self.now.facts) }
+        ensures short { IfOk result (λ turn. SaysShort turn.0) }
     {
         match &self.incoming {
             Incoming::Silent => Ok((Turn::Said(Said::Silent), false)),
@@ -90,6 +92,7 @@ impl Session {
         ensures turn { IfOk result (λ turn. turn ≡ turn_of self.old) }
         ensures ok { OnOk result (self.new ≡ after_turn self.old) }
         ensures anew { IfOk result (λ turn. AsksAnew self.old.facts (asks turn)) }
+        ensures short { IfOk result SaysShort }
         ensures err { OnErr result (self.new ≡ self.old) }
     {
         let (turn, passed) = self.next_turn()?;

@@ -1,10 +1,11 @@
 //! What is done about a query at a point, by what is known.
 
-ghost use Rattle.std.specs.Prelude.{◌≡◌, ◌≤◌, [], ◌∷◌, length, take, drop, true, Some, option_map, IfOk};
+ghost use Rattle.std.specs.Prelude.{◌≡◌, ◌≤◌, [], ◌∷◌, length, take, drop, true, Some, option_map, IfOk, IfSome};
 ghost use Rattle.dns_message.specs.declared.question.Question.{Question};
 ghost use Rattle.policy_snapshot.specs.Next.{next, next_along, next_at, next_behind, next_in_chain};
 ghost use Rattle.policy_snapshot.specs.Rules.{rules};
 ghost use Rattle.query_session.specs.Session.{PassesName, turn_by_next, within_limit};
+ghost use Rattle.reply_build.specs.Short.{SaysShort};
 ghost use Rattle.upstream_link.specs.Chain as chains;
 ghost use Rattle.upstream_link.specs.Facts.{fact_about};
 ghost use Rattle.upstream_link.specs.Question as questions;
@@ -32,6 +33,7 @@ pub(crate) fn turn_about(
         ≡ within_limit query.now facts.now
         (turn_by_next query.now facts.now (next policy.now.zones query.now facts.now))) }
     ensures passes { IfOk result (λ turn. turn.1 ≡ true → PassesName policy.now.zones query.now facts.now) }
+    ensures short { IfOk result (λ turn. SaysShort turn.0) }
 {
     let (turn, passes) = unlimited_turn(alloc, policy, query, facts, passed)?;
     Ok((limited(alloc, query, facts, turn)?, passes))
@@ -39,7 +41,9 @@ pub(crate) fn turn_about(
 
 // A question is asked while there is room for one fact more.
 fn limited(alloc: Global, query: &Query, facts: &Facts, turn: Turn) -> Result<Turn, AllocError>
-    ensures { IfOk result (λ limited. limited ≡ within_limit query.now facts.now turn) }
+    requires { SaysShort turn }
+    ensures turn { IfOk result (λ limited. limited ≡ within_limit query.now facts.now turn) }
+    ensures short { IfOk result SaysShort }
 {
     match turn {
         Turn::Said(said) => Ok(Turn::Said(said)),
@@ -65,6 +69,7 @@ fn unlimited_turn(
     ensures turn { IfOk result (λ turn. turn.0
         ≡ turn_by_next query.now facts.now (next policy.now.zones query.now facts.now)) }
     ensures passes { IfOk result (λ turn. turn.1 ≡ true → PassesName policy.now.zones query.now facts.now) }
+    ensures short { IfOk result (λ turn. SaysShort turn.0) }
 {
     if passed {
         return Ok((turn_behind(alloc, policy, query, facts)?, true));
@@ -86,8 +91,9 @@ fn turn_at(
     name: &Name,
 ) -> Result<Option<Turn>, AllocError>
     requires { length before.now ≤ limits.CHAIN_LIMIT }
-    ensures { IfOk result (λ turn. turn ≡ option_map (turn_by_next query.now facts.now)
+    ensures turn { IfOk result (λ turn. turn ≡ option_map (turn_by_next query.now facts.now)
         (next_at (rules policy.now.zones) query.now facts.now before.now name.now)) }
+    ensures short { IfOk result (λ turn. IfSome turn SaysShort) }
 {
     match policy.best(alloc, query, facts, before.len() as u32, name) {
         Err(error) => Err(error),
@@ -116,9 +122,10 @@ fn turn_behind(
     query: &Query,
     facts: &Facts,
 ) -> Result<Turn, AllocError>
-    ensures { IfOk result (λ turn. turn ≡ turn_by_next query.now facts.now
+    ensures turn { IfOk result (λ turn. turn ≡ turn_by_next query.now facts.now
         (next_behind (rules policy.now.zones) query.now facts.now
         (fact_about facts.now (questions.main_question query.now)))) }
+    ensures short { IfOk result SaysShort }
 {
     match facts.get(&query.question.name, query.question.qtype) {
         None => Ok(Turn::Ask(main_question(query)?)),
@@ -134,9 +141,10 @@ fn turn_by_fact(
     facts: &Facts,
     fact: &Fact,
 ) -> Result<Turn, AllocError>
-    ensures { IfOk result (λ turn. turn ≡ turn_by_next query.now facts.now
+    ensures turn { IfOk result (λ turn. turn ≡ turn_by_next query.now facts.now
         (next_in_chain (rules policy.now.zones) query.now facts.now
         (chains.chain (questions.main_question query.now) fact.now))) }
+    ensures short { IfOk result SaysShort }
 {
     if has_no_alias(fact) {
         return build(alloc, query, Verdict::Pass, facts, reply_limit(query));
@@ -167,9 +175,10 @@ fn turn_along(
     names: &[Name],
 ) -> Result<Turn, AllocError>
     requires { length names.now ≤ limits.CHAIN_LIMIT }
-    ensures { IfOk result (λ turn. turn ≡ turn_by_next query.now facts.now
+    ensures turn { IfOk result (λ turn. turn ≡ turn_by_next query.now facts.now
         (next_along (rules policy.now.zones) query.now facts.now
         (take 1 names.now) (drop 1 names.now))) }
+    ensures short { IfOk result SaysShort }
 {
     for place in 1..names.len() {
         if let Some(turn) = turn_at(alloc, policy, query, facts, &names[..place], &names[place])? {

@@ -4,3 +4,5 @@ pub mod Reply
 pub mod Draft
 pub mod Seen
 pub mod Start
+pub mod Servfail
+pub mod Short

@@ -5,6 +5,7 @@ ghost use Rattle.reply_build.specs.Draft.{draft_outcome};
 ghost use Rattle.reply_build.specs.Reply as form;
 ghost use Rattle.reply_build.specs.Reply.{reply};
 ghost use Rattle.reply_build.specs.Seen.{place_seen};
+ghost use Rattle.reply_build.specs.Short.{SaysShort};
 ghost use Rattle.reply_build.specs.Verdict.{verdict_of};
 ghost use Rattle.upstream_link.specs.Chain.{followed};
 ghost use Rattle.upstream_link.specs.Facts.{main_records};
@@ -37,7 +38,8 @@ pub fn build(
 ) -> Result<Turn, AllocError>
     requires low { LEAST_LIMIT ≤ limit }
     requires high { limit ≤ GREATEST_LIMIT }
-    ensures { IfOk result (λ turn. turn ≡ reply limit query.now (verdict_of verdict.entry) facts.now) }
+    ensures turn { IfOk result (λ turn. turn ≡ reply limit query.now (verdict_of verdict.entry) facts.now) }
+    ensures short { IfOk result SaysShort }
 {
     let outcome = by_verdict(alloc, query, verdict, facts)?;
     match outcome {

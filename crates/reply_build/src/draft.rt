@@ -1,6 +1,6 @@
 //! A reply that is written but for its OPT record.
 
-ghost use Rattle.std.specs.Prelude.{◌≡◌, ◌≤◌, IfOk};
+ghost use Rattle.std.specs.Prelude.{◌≡◌, ◌≤◌, length, IfOk};
 ghost use Rattle.dns_message.specs.Limit.{spelling_within};
 ghost use Rattle.dns_message.specs.Request.{reply_edns as edns_of_reply};
 ghost use Rattle.dns_message.specs.Spelling.{opt_count as count_of_opt};
@@ -33,8 +33,9 @@ pub fn opt_count(query: &Query) -> usize
 pub fn finish(draft: Draft, query: &Query, limit: usize) -> Result<Octets, AllocError>
     requires low { LEAST_LIMIT ≤ limit }
     requires high { limit ≤ GREATEST_LIMIT }
-    ensures { (s : Sections) → draft ≡ draft_of query.now s →
+    ensures reply { (s : Sections) → draft ≡ draft_of query.now s →
         IfOk result (λ reply. reply ≡ spelling_within limit (reply_of query.now s)) }
+    ensures short { IfOk result (λ reply. length reply ≤ GREATEST_LIMIT) }
 {
     let Draft { header, octets } = draft;
     let mut reply = octets;

@@ -9,11 +9,13 @@ mod local;
 mod place;
 mod reply;
 mod said;
+mod servfail;
 mod target;
 mod turn;
 mod verdict;
 
 pub use building::build;
 pub use said::Said;
+pub use servfail::bare_servfail;
 pub use turn::Turn;
 pub use verdict::Verdict;
