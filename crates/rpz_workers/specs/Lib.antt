@@ -2,3 +2,10 @@ pub mod Obtaining
 pub mod Answering
 pub mod Turns
 pub mod Laws
+pub mod Replying
+pub mod Connections
+pub mod Items
+pub mod Reporting
+pub mod Reports
+pub mod Handling
+pub mod Working

@@ -1,8 +1,13 @@
 //! What a worker is given.
 
+ghost use Rattle.std.specs.Prelude.{List, Option};
+ghost use Rattle.rpz_workers.specs.Items.{NextItem};
+ghost use Rattle.rpz_workers.specs.declared.item.Item as items;
+
 use dns_name::Octets;
-use edge_io::Endpoint;
+use edge_io::{Endpoint, Sink, Source};
 use ip_prefix::Transport;
+use policy_publish::{StoreName, Told};
 
 /// A message of a client: where it came from, over which transport, and its bytes.
 #[derive(Debug, Drop)]
@@ -10,4 +15,33 @@ pub struct Job {
     pub peer: Endpoint,
     pub transport: Transport,
     pub message: Octets,
+}
+
+/// What a worker takes. Versions are those of the store that `N` names.
+#[derive(Drop)]
+pub enum Item<N: StoreName, S: Source + Drop, K: Sink + Drop> {
+    /// A message, whose reply goes out as one datagram.
+    Job(Job),
+    /// A connection of a client, with its messages.
+    Connection {
+        source: S,
+        sink: K,
+        client: Endpoint,
+    },
+    /// A list of transfers that was published.
+    Told(Told<N>),
+    /// The end of the run.
+    Stop,
+}
+
+/// Where items come from.
+///
+/// A list in memory tells which items are still to come. A channel doesn't.
+pub trait Items<N: StoreName, S: Source + Drop, K: Sink + Drop> {
+    /// The items that `next` is still to give, in order, where it tells. Behind the last comes `Stop`.
+    ghost coming: { Self → Option (List (items.Item N S K)) };
+
+    /// The next item.
+    fn next(&mut self) -> Item<N, S, K>
+        ensures { NextItem (coming self.old) result (coming self.new) };
 }

@@ -1,8 +1,9 @@
 //! Where a worker has its answers from.
 
-ghost use Rattle.std.specs.Prelude.{◌≡◌, ◌≤◌, [], length, Some, IfOk, IsSome, OnOk};
+ghost use Rattle.std.specs.Prelude.{◌≡◌, ◌≤◌, [], length, Some, IfOk, IfSome, IsSome, OnOk};
 ghost use Rattle.dns_message.specs.Request.{incoming_of};
 ghost use Rattle.query_session.specs.Session.{after_fact, turn_of};
+ghost use Rattle.reply_build.specs.Short.{IsShort};
 ghost use Rattle.upstream_link.specs.Vouched.{Tells, Vouched, fact_at};
 ghost use Rattle.rpz_workers.specs.Obtaining.{MayKeep, ObtainsFor};
 ghost use Rattle.rpz_workers.specs.Turns.{Asks, Says, TakesTurn, inquiry};
@@ -86,6 +87,7 @@ fn keep<L: Link, H: BuildHasher + Drop>(
 fn last_turn(session: &mut Session) -> Result<Said, AllocError>
     requires { FACT_LIMIT ≤ length session.old.facts }
     ensures says { IfOk result (λ said. turn_of session.old ≡ Turn.Said said) }
+    ensures short { IfOk result IsShort }
     ensures facts { session.new.facts ≡ session.old.facts }
 {
     let turn = session.turn()?;
@@ -170,6 +172,7 @@ impl<L: Link + Drop, H: BuildHasher + Drop, I: Ids + Drop, G: Gate + Drop> Sourc
             said obtained.old.items obtained.new.items
             (inquiry session.new.facts self.new.cache.entries
             (I.ids self.new.ids) (L.faults self.new.link))) }
+        ensures short { IfOk result (λ said. IfSome said IsShort) }
         ensures limit { self.new.cache.limit ≡ self.old.cache.limit }
         ensures count { L.faults self.old.link ≤ L.faults self.new.link }
         ensures policy { session.new.policy ≡ session.old.policy }
@@ -202,6 +205,7 @@ impl<L: Link + Drop, H: BuildHasher + Drop, I: Ids + Drop, G: Gate + Drop> Sourc
             (I.ids self.old.ids) (L.faults self.old.link))
             said obtained.new.items self.new.cache.entries
             (I.ids self.new.ids) (L.faults self.new.link)) }
+        ensures short { IfOk result IsShort }
         ensures limit { self.new.cache.limit ≡ self.old.cache.limit }
         ensures count { L.faults self.old.link ≤ L.faults self.new.link }
     {
@@ -229,6 +233,7 @@ impl<L: Link + Drop, H: BuildHasher + Drop, I: Ids + Drop, G: Gate + Drop> Sourc
             (I.ids self.old.ids) (L.faults self.old.link))
             said obtained.new.items self.new.cache.entries
             (I.ids self.new.ids) (L.faults self.new.link)) }
+        ensures short { IfOk result IsShort }
         ensures limit { self.new.cache.limit ≡ self.old.cache.limit }
         ensures count { L.faults self.old.link ≤ L.faults self.new.link }
     {

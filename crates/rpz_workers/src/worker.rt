@@ -1,7 +1,8 @@
 //! A worker, and its answer to one query.
 
-ghost use Rattle.std.specs.Prelude.{◌≡◌, []};
+ghost use Rattle.std.specs.Prelude.{◌≡◌, [], IfOk};
 ghost use Rattle.policy_publish.specs.Lists.{KeepsTold, WasTold};
+ghost use Rattle.reply_build.specs.Short.{IsShort};
 ghost use Rattle.rpz_workers.specs.Answering.{Answers};
 
 use crate::gate::Gate;
@@ -73,6 +74,11 @@ impl<N: StoreName, L: Link + Drop, H: BuildHasher + Drop, I: Ids + Drop, G: Gate
         }
     }
 
+    /// What this worker's memory is taken from.
+    pub(crate) fn alloc(&self) -> Global {
+        self.alloc
+    }
+
     /// From now on no query is answered by a version before this list of transfers.
     pub fn learn(&mut self, told: Told<N>)
         ensures learnt { WasTold self.new.known told }
@@ -87,7 +93,8 @@ impl<N: StoreName, L: Link + Drop, H: BuildHasher + Drop, I: Ids + Drop, G: Gate
     /// asked over the link only where no live entry of the cache answers it; what can't be cached, since an allocation failed,
     /// is used all the same. It takes no lock. Out of memory the cache is emptied, which gives memory back.
     pub fn answer(&mut self, job: &Job, now: u32) -> Result<Said, AllocError>
-        ensures { Answers N.store.origins L.gave job.now now result self.old self.new }
+        ensures answers { Answers N.store.origins L.gave job.now now result self.old self.new }
+        ensures short { IfOk result IsShort }
     {
         self.obtained.clear();
         let policy = self.reader.pin()?;

@@ -1,0 +1,115 @@
+//! Connections.
+
+ghost use Rattle.std.specs.Prelude.{◌≡◌, ◌≤◌, Err, IfOk, OnOk, OnErr};
+ghost use Rattle.edge_io.specs.Edge.{Rose, WritesPrefix, appended};
+ghost use Rattle.reply_build.specs.Short.{IsShort};
+ghost use Rattle.rpz_workers.specs.Connections.{CutsReply, Serves, WritesReply, connection_state, fault_counts, reply_frame};
+ghost use Rattle.rpz_workers.specs.Replying.{to_send};
+
+use crate::bare_reply::bare_reply;
+use crate::gate::Gate;
+use crate::item::Job;
+use crate::worker::Worker;
+use dns_name::Octets;
+use edge_io::{
+    Clock, Endpoint, FrameError, FrameFault, Ids, Link, Sink, SinkError, Source, StreamEnd,
+    read_frame, write_frame,
+};
+use ip_prefix::Transport;
+use policy_publish::StoreName;
+use reply_build::Said;
+use std::alloc::AllocError;
+use std::hash::BuildHasher;
+
+/// How many messages of a connection are answered. Behind them it ends.
+pub const FRAME_LIMIT: u32 = 4096;
+
+// Writes the reply to a message as a frame, where there is one.
+fn write_reply<K: Sink>(
+    sink: &mut K,
+    message: &[u8],
+    said: &Result<Said, AllocError>,
+) -> Result<(), SinkError>
+    requires { IfOk said.now IsShort }
+    ensures ok { OnOk result (K.held sink.new
+        ≡ appended (K.held sink.old) (reply_frame (to_send message.now said.now))) }
+    ensures err { OnErr result
+        (WritesPrefix (reply_frame (to_send message.now said.now)) (K.held sink.old) (K.held sink.new)) }
+    ensures count { K.faults sink.old ≤ K.faults sink.new }
+    ensures failed { result ≡ Err SinkError.WriteFault → Rose (K.faults sink.old) (K.faults sink.new) }
+{
+    match said {
+        Ok(Said::Reply(bytes)) => write_frame(sink, bytes.as_slice()),
+        Ok(Said::Silent) => Ok(()),
+        Err(AllocError) => match bare_reply(message) {
+            Some(bytes) => write_frame(sink, &bytes),
+            None => Ok(()),
+        },
+    }
+}
+
+impl<N: StoreName, L: Link + Drop, H: BuildHasher + Drop, I: Ids + Drop, G: Gate + Drop> Worker<
+    N,
+    L,
+    H,
+    I,
+    G,
+> {
+    // Answers a message of a connection.
+    fn answer_message<K: Sink, C: Clock>(
+        &mut self,
+        message: Octets,
+        client: Endpoint,
+        sink: &mut K,
+        clock: &mut C,
+    ) -> Result<(), SinkError>
+        ensures ok { OnOk result (WritesReply N.store.origins L.gave client message self.old self.new
+            (C.moments clock.old) (C.moments clock.new) (K.held sink.old) (K.held sink.new)) }
+        ensures err { OnErr result (CutsReply N.store.origins L.gave client message self.old self.new
+            (C.moments clock.old) (C.moments clock.new) (K.held sink.old) (K.held sink.new)) }
+        ensures count { K.faults sink.old ≤ K.faults sink.new }
+        ensures failed { result ≡ Err SinkError.WriteFault → Rose (K.faults sink.old) (K.faults sink.new) }
+    {
+        let job = Job {
+            peer: client,
+            transport: Transport::Tcp,
+            message,
+        };
+        let now = clock.now();
+        let said = self.answer(&job, now);
+        write_reply(sink, job.message.as_slice(), &said)
+    }
+
+    /// Serves a connection of a client: each message is answered over TCP, at the second that the clock gives for it. Where there is
+    /// no reply, nothing is written, and the next message follows. `OutOfMemory` comes only where reading a message or writing a
+    /// reply found no memory.
+    pub fn serve_stream<S: Source, K: Sink, C: Clock>(
+        &mut self,
+        source: &mut S,
+        sink: &mut K,
+        client: Endpoint,
+        clock: &mut C,
+    ) -> StreamEnd
+        ensures { Serves N.store.origins L.gave client
+            (fault_counts (S.faults source.old) (S.faults source.new) (K.faults sink.old) (K.faults sink.new))
+            (connection_state self.old (C.moments clock.old) (S.left source.old) (K.held sink.old))
+            result
+            (connection_state self.new (C.moments clock.new) (S.left source.new) (K.held sink.new)) }
+    {
+        let alloc = self.alloc();
+        for _ in 0..FRAME_LIMIT {
+            match read_frame(alloc, source) {
+                Ok(Some(message)) => match self.answer_message(message, client, sink, clock) {
+                    Ok(()) => {}
+                    Err(SinkError::WriteFault) => return StreamEnd::WriteFault,
+                    Err(SinkError::OutOfMemory) => return StreamEnd::OutOfMemory,
+                },
+                Ok(None) => return StreamEnd::End,
+                Err(FrameError::OutOfMemory) => return StreamEnd::OutOfMemory,
+                Err(FrameError::Fault(FrameFault::Cut)) => return StreamEnd::Cut,
+                Err(FrameError::Fault(FrameFault::ReadFault)) => return StreamEnd::ReadFault,
+            }
+        }
+        StreamEnd::Limit
+    }
+}

@@ -1,0 +1,136 @@
+//! Items, handled one after another.
+
+ghost use Rattle.std.specs.Prelude.{◌≡◌, ◌≤◌, ◌+◌, ◌-◌, ◌^◌, min};
+ghost use Rattle.edge_io.specs.Edge.{Rose};
+ghost use Rattle.rpz_workers.specs.Handling.{Handles, HandlesJob, Sends, stream_views, worker_state};
+ghost use Rattle.rpz_workers.specs.Reports.{counts_of};
+ghost use Rattle.rpz_workers.specs.Working.{Works, run_state};
+
+use crate::bare_reply::bare_reply;
+use crate::count::{count, nothing_done};
+use crate::gate::Gate;
+use crate::item::{Item, Items, Job};
+use crate::report::Report;
+use crate::took::Took;
+use crate::worker::Worker;
+use edge_io::{Clock, Endpoint, Ids, Link, Replies, SendError, Sink, Source};
+use policy_publish::StoreName;
+use reply_build::Said;
+use std::alloc::AllocError;
+use std::hash::BuildHasher;
+use std::sync::Wait;
+
+// Sends the reply to a message, where there is one, and says what became of the job.
+fn send_reply<S: Source, K: Sink, P: Replies<S, K>>(
+    replies: &mut P,
+    peer: Endpoint,
+    message: &[u8],
+    said: &Result<Said, AllocError>,
+) -> Took
+    ensures sends { Sends peer message.now said.now result (P.sent replies.old) (P.sent replies.new) }
+    ensures closings { P.closings replies.new ≡ P.closings replies.old }
+    ensures count { P.faults replies.old ≤ P.faults replies.new }
+    ensures failed { result ≡ Took.Failed → Rose (P.faults replies.old) (P.faults replies.new) }
+{
+    match said {
+        Ok(said) => match said {
+            Said::Silent => Took::Silent,
+            Said::Reply(bytes) => match replies.send(peer, bytes.as_slice()) {
+                Ok(()) => Took::Reply,
+                Err(SendError::Failed) => Took::Failed,
+                Err(SendError::OutOfMemory) => Took::Memory,
+            },
+        },
+        Err(AllocError) => match bare_reply(message) {
+            None => Took::Memory,
+            Some(bytes) => match replies.send(peer, &bytes) {
+                Err(SendError::Failed) => Took::Failed,
+                Ok(()) | Err(SendError::OutOfMemory) => Took::Memory,
+            },
+        },
+    }
+}
+
+impl<N: StoreName, L: Link + Drop, H: BuildHasher + Drop, I: Ids + Drop, G: Gate + Drop> Worker<
+    N,
+    L,
+    H,
+    I,
+    G,
+> {
+    // Answers a job.
+    fn take_job<S: Source, K: Sink, P: Replies<S, K>, C: Clock>(
+        &mut self,
+        job: &Job,
+        replies: &mut P,
+        clock: &mut C,
+    ) -> Took
+        ensures { HandlesJob N.store.origins L.gave job.now
+            (worker_state self.old (C.moments clock.old) (P.sent replies.old) (P.closings replies.old) (P.faults replies.old))
+            result
+            (worker_state self.new (C.moments clock.new) (P.sent replies.new) (P.closings replies.new) (P.faults replies.new)) }
+    {
+        let now = clock.now();
+        let said = self.answer(job, now);
+        send_reply(replies, job.peer, job.message.as_slice(), &said)
+    }
+
+    /// Handles an item: answers a job, serves and closes a connection, learns what is told. A job or a message of a connection is
+    /// answered at the second that the clock gives for it.
+    pub fn take<S: Source + Drop, K: Sink + Drop, P: Replies<S, K>, C: Clock>(
+        &mut self,
+        item: Item<N, S, K>,
+        replies: &mut P,
+        clock: &mut C,
+    ) -> Took
+        ensures { Handles N.store.origins L.gave (stream_views S.left S.faults K.held K.faults)
+            (worker_state self.old (C.moments clock.old) (P.sent replies.old) (P.closings replies.old) (P.faults replies.old))
+            item result
+            (worker_state self.new (C.moments clock.new) (P.sent replies.new) (P.closings replies.new) (P.faults replies.new)) }
+    {
+        match item {
+            Item::Job(job) => self.take_job(&job, replies, clock),
+            Item::Connection {
+                mut source,
+                mut sink,
+                client,
+            } => {
+                let end = self.serve_stream(&mut source, &mut sink, client, clock);
+                replies.close(source, sink, end);
+                Took::Closed
+            }
+            Item::Told(told) => {
+                self.learn(told);
+                Took::Learnt
+            }
+            Item::Stop => Took::Stop,
+        }
+    }
+
+    /// Handles items up to `Stop`, and says what became of the jobs. It waits for items, so it may never return.
+    pub fn work<
+        S: Source + Drop,
+        K: Sink + Drop,
+        Q: Items<N, S, K>,
+        P: Replies<S, K>,
+        C: Clock,
+        R: Wait,
+    >(&mut self, rt: &R, items: &mut Q, replies: &mut P, clock: &mut C) -> Report
+        ensures works { Works N.store.origins L.gave (stream_views S.left S.faults K.held K.faults)
+            (run_state (Q.coming items.old)
+            (worker_state self.old (C.moments clock.old) (P.sent replies.old) (P.closings replies.old) (P.faults replies.old)))
+            (counts_of result)
+            (run_state (Q.coming items.new)
+            (worker_state self.new (C.moments clock.new) (P.sent replies.new) (P.closings replies.new) (P.faults replies.new))) }
+        ensures failed { min (P.faults replies.old + result.failed) (2 ^ 64 - 1) ≤ P.faults replies.new }
+    {
+        let mut report = nothing_done();
+        for _ in rt.forever() {
+            match self.take(items.next(), replies, clock) {
+                Took::Stop => return report,
+                took => report = count(report, took),
+            }
+        }
+        unreachable!()
+    }
+}

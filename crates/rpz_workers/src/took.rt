@@ -1,0 +1,19 @@
+//! What became of an item.
+
+/// What became of an item.
+#[derive(Clone, Copy, Debug, PartialEq, Eq)]
+pub enum Took {
+    /// A job's reply was sent.
+    Reply,
+    /// Nothing is said to a job's message.
+    Silent,
+    /// Memory ran out for a job's reply, or for its send.
+    Memory,
+    /// A job's reply was not sent: a fault.
+    Failed,
+    /// A connection was served, and closed.
+    Closed,
+    /// What was told is known.
+    Learnt,
+    Stop,
+}
