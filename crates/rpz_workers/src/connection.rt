@@ -91,7 +91,8 @@ impl<N: StoreName, L: Link + Drop, H: BuildHasher + Drop, I: Ids + Drop, G: Gate
         clock: &mut C,
     ) -> StreamEnd
         ensures { Serves N.store.origins L.gave client
-            (fault_counts (S.faults source.old) (S.faults source.new) (K.faults sink.old) (K.faults sink.new))
+            (fault_counts (S.faults source.old) (S.faults source.new)
+            (K.faults sink.old) (K.faults sink.new))
             (connection_state self.old (C.moments clock.old) (S.left source.old) (K.held sink.old))
             result
             (connection_state self.new (C.moments clock.new) (S.left source.new) (K.held sink.new)) }

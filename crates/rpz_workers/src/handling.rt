@@ -66,9 +66,11 @@ impl<N: StoreName, L: Link + Drop, H: BuildHasher + Drop, I: Ids + Drop, G: Gate
         clock: &mut C,
     ) -> Took
         ensures { HandlesJob N.store.origins L.gave job.now
-            (worker_state self.old (C.moments clock.old) (P.sent replies.old) (P.closings replies.old) (P.faults replies.old))
+            (worker_state self.old (C.moments clock.old)
+            (P.sent replies.old) (P.closings replies.old) (P.faults replies.old))
             result
-            (worker_state self.new (C.moments clock.new) (P.sent replies.new) (P.closings replies.new) (P.faults replies.new)) }
+            (worker_state self.new (C.moments clock.new)
+            (P.sent replies.new) (P.closings replies.new) (P.faults replies.new)) }
     {
         let now = clock.now();
         let said = self.answer(job, now);
@@ -84,9 +86,11 @@ impl<N: StoreName, L: Link + Drop, H: BuildHasher + Drop, I: Ids + Drop, G: Gate
         clock: &mut C,
     ) -> Took
         ensures { Handles N.store.origins L.gave (stream_views S.left S.faults K.held K.faults)
-            (worker_state self.old (C.moments clock.old) (P.sent replies.old) (P.closings replies.old) (P.faults replies.old))
+            (worker_state self.old (C.moments clock.old)
+            (P.sent replies.old) (P.closings replies.old) (P.faults replies.old))
             item result
-            (worker_state self.new (C.moments clock.new) (P.sent replies.new) (P.closings replies.new) (P.faults replies.new)) }
+            (worker_state self.new (C.moments clock.new)
+            (P.sent replies.new) (P.closings replies.new) (P.faults replies.new)) }
     {
         match item {
             Item::Job(job) => self.take_job(&job, replies, clock),
@@ -118,10 +122,12 @@ impl<N: StoreName, L: Link + Drop, H: BuildHasher + Drop, I: Ids + Drop, G: Gate
     >(&mut self, rt: &R, items: &mut Q, replies: &mut P, clock: &mut C) -> Report
         ensures works { Works N.store.origins L.gave (stream_views S.left S.faults K.held K.faults)
             (run_state (Q.coming items.old)
-            (worker_state self.old (C.moments clock.old) (P.sent replies.old) (P.closings replies.old) (P.faults replies.old)))
+            (worker_state self.old (C.moments clock.old)
+            (P.sent replies.old) (P.closings replies.old) (P.faults replies.old)))
             (counts_of result)
             (run_state (Q.coming items.new)
-            (worker_state self.new (C.moments clock.new) (P.sent replies.new) (P.closings replies.new) (P.faults replies.new))) }
+            (worker_state self.new (C.moments clock.new)
+            (P.sent replies.new) (P.closings replies.new) (P.faults replies.new))) }
         ensures failed { min (P.faults replies.old + result.failed) (2 ^ 64 - 1) ≤ P.faults replies.new }
     {
         let mut report = nothing_done();
