@@ -2,12 +2,12 @@
 use Rattle.std.specs.Prelude.{◌≡◌, ℕ, List, [], ◌∷◌, ◌++◌, length, map, Option, Some, None, is_some, Result, Ok, Err}
 use Rattle.script_codec.specs.declared.line.Line.{Line}
 use Rattle.script_codec.specs.declared.line.Line.TheVariants.{Zone, Transfer, Full, Query, Give, Fail, Clock}
-use Rattle.script_codec.specs.declared.refusal.Refusal as reasons
-use Rattle.script_codec.specs.declared.refusal.Refusal.TheVariants as reason
 use Rattle.script_codec.specs.declared.shown.Shown.{Shown}
 use Rattle.script_codec.specs.declared.shown.Shown.TheVariants as shown
 use Rattle.script_codec.specs.declared.why.Why.{Why}
 use Rattle.script_codec.specs.declared.why.Why.TheVariants as why
+use Rattle.script_codec.specs.declared.zone_fault.ZoneFault.{ZoneFault}
+use Rattle.script_codec.specs.declared.zone_fault.ZoneFault.TheVariants as zone_fault
 use Rattle.script_codec.specs.Line.{unnumbered_line}
 use Rattle.script_codec.specs.Shown.{shown_line}
 use Rattle.script_codec.specs.State.{PlainState}
@@ -59,15 +59,15 @@ why_of fault.NoWorker = why.NoWorker
 why_of fault.Pending = why.Busy
 why_of fault.NotPending = why.Idle
 
-abbrev pub reason_of : Refusal → reasons.Refusal
-reason_of (refusal.Transfer fault) = reason.Transfer fault
-reason_of (refusal.Apply fault) = reason.Apply fault
+abbrev pub zone_fault_of : Refusal → ZoneFault
+zone_fault_of (refusal.Transfer fault) = zone_fault.Transfer fault
+zone_fault_of (refusal.Apply fault) = zone_fault.Apply fault
 
 -- what the transcript shows of an output
 abbrev pub shown_of : Output → Option Shown
 shown_of (output.Taken zone serial rows) = Some (shown.Taken zone serial rows)
 shown_of (output.Current zone serial) = Some (shown.Current zone serial)
-shown_of (output.Refused zone refusal) = Some (shown.Refused zone (reason_of refusal))
+shown_of (output.Refused zone refusal) = Some (shown.Refused zone (zone_fault_of refusal))
 shown_of (output.Ask worker message) = Some (shown.Ask worker message)
 shown_of (output.Reply worker message) = Some (shown.Reply worker message)
 shown_of (output.Silent worker) = Some (shown.Silent worker)

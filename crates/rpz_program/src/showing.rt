@@ -1,11 +1,11 @@
 //! What the transcript shows of an output.
 
 ghost use Rattle.std.specs.Prelude.{◌≡◌};
-ghost use Rattle.rpz_program.specs.Script.{reason_of as reason, shown_of};
+ghost use Rattle.rpz_program.specs.Script.{shown_of, zone_fault_of as zone_fault_by};
 
 use ixfr_apply::Refusal;
 use rpz_core::Output;
-use script_codec::{Refusal as Reason, Shown};
+use script_codec::{Shown, ZoneFault};
 
 /// What the transcript shows of an output; `None` where there is nothing to show.
 pub(crate) fn shown(output: Output) -> Option<Shown>
@@ -16,7 +16,7 @@ pub(crate) fn shown(output: Output) -> Option<Shown>
         Output::Current { zone, serial } => Some(Shown::Current { zone, serial }),
         Output::Refused { zone, refusal } => Some(Shown::Refused {
             zone,
-            why: reason_of(refusal),
+            why: zone_fault_of(refusal),
         }),
         Output::Ask { worker, message } => Some(Shown::Ask { worker, message }),
         Output::Reply { worker, message } => Some(Shown::Reply { worker, message }),
@@ -25,11 +25,11 @@ pub(crate) fn shown(output: Output) -> Option<Shown>
     }
 }
 
-fn reason_of(refusal: Refusal) -> Reason
-    ensures { result ≡ reason refusal }
+fn zone_fault_of(refusal: Refusal) -> ZoneFault
+    ensures { result ≡ zone_fault_by refusal }
 {
     match refusal {
-        Refusal::Transfer(fault) => Reason::Transfer(fault),
-        Refusal::Apply(fault) => Reason::Apply(fault),
+        Refusal::Transfer(fault) => ZoneFault::Transfer(fault),
+        Refusal::Apply(fault) => ZoneFault::Apply(fault),
     }
 }

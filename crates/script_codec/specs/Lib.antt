@@ -5,6 +5,6 @@ pub mod Field
 pub mod Names
 pub mod State
 pub mod Line
-pub mod Refusal
+pub mod ZoneFault
 pub mod Shown
 pub mod Within

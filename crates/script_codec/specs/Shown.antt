@@ -3,7 +3,7 @@ use Rattle.std.specs.Prelude.{ℕ, List, ◌++◌, codes, decimal}
 use Rattle.hex.specs.Hex.{encode_lower}
 use Rattle.script_codec.specs.declared.shown.Shown.{Shown}
 use Rattle.script_codec.specs.declared.shown.Shown.TheVariants.{Taken, Current, Refused, Ask, Reply, Silent}
-use Rattle.script_codec.specs.Refusal.{refused_line, word_of, numbers_of}
+use Rattle.script_codec.specs.ZoneFault.{refused_line, word_of, numbers_of}
 
 -- a word, the number of a worker, and a message in hexadecimal digits
 abbrev pub message_line : List ℕ → ℕ → List ℕ → List ℕ

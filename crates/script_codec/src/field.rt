@@ -30,7 +30,8 @@ pub fn name(alloc: Global, text: &[u8]) -> Result<Name, ReadError>
     }
 }
 
-/// The number that 1 to 10 decimal digits write, if it is at most 4,294,967,295.
+/// The number that 1 to 10 decimal digits write, from 0 to 4,294,967,295; leading zeros are allowed. Anything else is
+/// `Why::Number`, a sign among it.
 #[tactic(auto, unfolding(crate::specs::Field::number_of))]
 pub fn number(digits: &[u8]) -> Result<u32, Why>
     ensures { result ≡ number_of digits.now }
@@ -92,9 +93,10 @@ pub fn address(text: &[u8]) -> Result<Addr, Why>
     }
 }
 
-// An address of IP version 4: four decimals joined by dots.
+/// The address of IP version 4 that four decimals write: each has 1 to 3 digits and is at most 255, and they are joined
+/// by dots (RFC 3986, section 3.2.2, with leading zeros allowed). Anything else is `Why::Address`.
 #[tactic(auto, unfolding(crate::specs::Field::v4_of))]
-fn address_4(text: &[u8]) -> Result<Addr, Why>
+pub fn address_4(text: &[u8]) -> Result<Addr, Why>
     ensures { result ≡ v4_of text.now }
 {
     let (first, rest) = split_dot(text);

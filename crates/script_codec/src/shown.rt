@@ -1,6 +1,6 @@
 //! What a line of the transcript shows.
 
-use crate::refusal::Refusal;
+use crate::zone_fault::ZoneFault;
 use dns_name::Octets;
 
 /// What a line of the transcript shows.
@@ -11,7 +11,7 @@ pub enum Shown {
     /// The zone of this number is as new as the transfer.
     Current { zone: u32, serial: u32 },
     /// The zone of this number doesn't take the transfer, and is as before.
-    Refused { zone: u32, why: Refusal },
+    Refused { zone: u32, why: ZoneFault },
     /// The question that this worker asks the upstream.
     Ask { worker: u32, message: Octets },
     /// The reply to the query of this worker.

@@ -2,12 +2,12 @@
 
 ghost use Rattle.std.specs.Prelude.{◌≡◌, ◌++◌, IfOk, OnOk, string_bytes};
 ghost use Rattle.hex.specs.Hex.{encode_lower};
-ghost use Rattle.script_codec.specs.Refusal as refusal_form;
+ghost use Rattle.script_codec.specs.ZoneFault as fault_form;
 ghost use Rattle.script_codec.specs.Shown as shown_form;
 ghost use Rattle.script_codec.specs.Shown.{shown_line};
 
-use crate::refusal::Numbers;
 use crate::shown::Shown;
+use crate::zone_fault::Numbers;
 use dns_name::Octets;
 use std::alloc::{AllocError, Global};
 use std::fmt::Write;
@@ -36,7 +36,7 @@ pub fn write_shown(alloc: Global, shown: &Shown) -> Result<Octets, AllocError>
     Ok(Octets::from_vec(line.into_bytes()))
 }
 
-// The line of a refusal of this word and these numbers.
+// The line of a fault of this word and these numbers.
 fn refused_line(
     alloc: Global,
     zone: u32,
@@ -44,7 +44,7 @@ fn refused_line(
     numbers: Numbers,
 ) -> Result<String, AllocError>
     ensures { IfOk result (λ text. string_bytes text
-        ≡ refusal_form.refused_line zone word.now numbers) }
+        ≡ fault_form.refused_line zone word.now numbers) }
 {
     match numbers {
         Numbers::Without => format!(in alloc; "refused {zone} {word}\n"),

@@ -1,13 +1,13 @@
--- Why a transfer was refused, as text: the name of the fault, and its numbers in their order, each after one space.
+-- Why a zone doesn't take a transfer, as text: the name of the fault, and its numbers in their order, each after one space.
 use Rattle.std.specs.Prelude.{ℕ, List, ◌++◌, codes, decimal}
 use Rattle.axfr_apply.specs.declared.fault.TransferFault.{TransferFault}
 use Rattle.axfr_apply.specs.declared.fault.TransferFault.TheVariants as transfer
 use Rattle.zone_rows.specs.declared.fault.ApplyFault.{ApplyFault}
 use Rattle.zone_rows.specs.declared.fault.ApplyFault.TheVariants as apply
-use Rattle.script_codec.specs.declared.refusal.Numbers.{Numbers}
-use Rattle.script_codec.specs.declared.refusal.Numbers.TheVariants.{Without, One, Two}
-use Rattle.script_codec.specs.declared.refusal.Refusal.{Refusal}
-use Rattle.script_codec.specs.declared.refusal.Refusal.TheVariants.{Transfer, Apply}
+use Rattle.script_codec.specs.declared.zone_fault.Numbers.{Numbers}
+use Rattle.script_codec.specs.declared.zone_fault.Numbers.TheVariants.{Without, One, Two}
+use Rattle.script_codec.specs.declared.zone_fault.ZoneFault.{ZoneFault}
+use Rattle.script_codec.specs.declared.zone_fault.ZoneFault.TheVariants.{Fetch, Write, Transfer, Apply}
 
 abbrev pub transfer_word : TransferFault → List ℕ
 transfer_word transfer.ReadFault = codes "ReadFault"
@@ -52,15 +52,19 @@ apply_numbers (apply.DeleteAbsent step row) = Two step row
 apply_numbers (apply.AddPresent step row) = Two step row
 apply_numbers (apply.TooManyRows at) = One at
 
-abbrev pub word_of : Refusal → List ℕ
+abbrev pub word_of : ZoneFault → List ℕ
+word_of Fetch = codes "FetchFault"
+word_of Write = codes "WriteFault"
 word_of (Transfer fault) = transfer_word fault
 word_of (Apply fault) = apply_word fault
 
-abbrev pub numbers_of : Refusal → Numbers
+abbrev pub numbers_of : ZoneFault → Numbers
+numbers_of Fetch = Without
+numbers_of Write = Without
 numbers_of (Transfer fault) = transfer_numbers fault
 numbers_of (Apply fault) = apply_numbers fault
 
--- the line of a refusal of this word and these numbers
+-- the line of a fault of this word and these numbers
 abbrev pub refused_line : ℕ → List ℕ → Numbers → List ℕ
 refused_line zone word Without = codes "refused " ++ (decimal zone ++ (codes " " ++ (word ++ codes "\n")))
 refused_line zone word (One number) = codes "refused " ++ (decimal zone ++ (codes " " ++ (word ++ (codes " " ++ (decimal number ++ codes "\n")))))

@@ -1,21 +1,25 @@
-//! Why a transfer was refused.
+//! Why a zone doesn't take a transfer.
 
 ghost use Rattle.std.specs.Prelude.{◌≡◌};
-ghost use Rattle.script_codec.specs.Refusal.{apply_numbers, apply_word, numbers_of, transfer_numbers, transfer_word, word_of};
+ghost use Rattle.script_codec.specs.ZoneFault.{apply_numbers, apply_word, numbers_of, transfer_numbers, transfer_word, word_of};
 
 use axfr_apply::TransferFault;
 use zone_rows::ApplyFault;
 
-/// Why a transfer was refused.
+/// Why a zone doesn't take a transfer.
 #[derive(Clone, Copy, Debug, PartialEq, Eq)]
-pub enum Refusal {
+pub enum ZoneFault {
+    /// No connection to the primary could be opened.
+    Fetch,
+    /// The request for the transfer could not be written.
+    Write,
     /// The messages are no transfer of the zone.
     Transfer(TransferFault),
     /// The zone can't take the transfer.
     Apply(ApplyFault),
 }
 
-/// The numbers that a refusal keeps, in their order.
+/// The numbers that a fault keeps, in their order.
 #[derive(Clone, Copy, Debug, PartialEq, Eq)]
 pub(crate) enum Numbers {
     Without,
@@ -23,14 +27,16 @@ pub(crate) enum Numbers {
     Two(u32, u32),
 }
 
-impl Refusal {
+impl ZoneFault {
     /// The name of the fault.
     pub(crate) fn word(self) -> &'static str
         ensures { result.now ≡ word_of self }
     {
         match self {
-            Refusal::Transfer(fault) => word_of_transfer(fault),
-            Refusal::Apply(fault) => word_of_apply(fault),
+            ZoneFault::Fetch => "FetchFault",
+            ZoneFault::Write => "WriteFault",
+            ZoneFault::Transfer(fault) => word_of_transfer(fault),
+            ZoneFault::Apply(fault) => word_of_apply(fault),
         }
     }
 
@@ -39,8 +45,9 @@ impl Refusal {
         ensures { result ≡ numbers_of self }
     {
         match self {
-            Refusal::Transfer(fault) => numbers_of_transfer(fault),
-            Refusal::Apply(fault) => numbers_of_apply(fault),
+            ZoneFault::Fetch | ZoneFault::Write => Numbers::Without,
+            ZoneFault::Transfer(fault) => numbers_of_transfer(fault),
+            ZoneFault::Apply(fault) => numbers_of_apply(fault),
         }
     }
 }
