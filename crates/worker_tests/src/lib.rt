@@ -5,6 +5,22 @@
 #[cfg(test)]
 mod answers;
 #[cfg(test)]
+mod cases;
+#[cfg(test)]
+mod faults;
+#[cfg(test)]
+mod meetings;
+#[cfg(test)]
+mod messages;
+#[cfg(test)]
 mod polls;
 #[cfg(test)]
 mod publishing;
+#[cfg(test)]
+mod runs;
+#[cfg(test)]
+mod stores;
+#[cfg(test)]
+mod tasks;
+#[cfg(test)]
+mod workers;

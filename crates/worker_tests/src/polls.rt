@@ -1,13 +1,10 @@
 //! Polls of a zone over streams in memory.
 
-ghost use Rattle.std.specs.Prelude.{◌≡◌};
-
-use dns_name::Name;
+use crate::stores::{Trial, attempt};
 use edge_io::{ListSink, ListSource};
 use policy_feed::{FeedError, FeedFault, Polled, poll_zone};
-use policy_publish::{Parts, Publication, Publisher, StoreName, start_store};
+use policy_publish::{Publication, Publisher, StoreName};
 use std::alloc::Global;
-use std::marker::Brand;
 use std::process::Abort;
 use std::sync::Wait;
 use std::test::Fail;
@@ -27,8 +24,8 @@ const STREAM: &[u8] =
 const CURRENT: &[u8] =
     b"\0\x4a\0\0\x84\0\0\x01\0\x01\0\0\0\0\x03rpz\x07example\0\0\xfb\0\x01\x03rpz\x07example\0\0\x06\0\x01\0\0\0<\0\x16\0\0\0\0\0\x01\0\0\x0e\x10\0\0\x02X\0\x01Q\x80\0\0\0<";
 
-// What a poll gives over this stream, three bytes a call, and what it writes. The writes of the numbers in `failing` fail.
-fn polled<N: StoreName, R: Wait>(
+/// What a poll gives over this stream, three bytes a call, and what it writes. The writes of the numbers in `failing` fail.
+pub fn polled<N: StoreName, R: Wait>(
     rt: &R,
     alloc: Global,
     publisher: &mut Publisher<N>,
@@ -46,23 +43,12 @@ fn polled<N: StoreName, R: Wait>(
 
 #[test]
 fn a_zone_is_polled(rt: HostRuntime) -> Result<(), Fail> {
-    let alloc = rt.alloc();
-    let origins = vec![in alloc; Name::from_text(alloc, b"rpz.example")?]?;
-    run::<Brand, _>(rt, alloc, start_store(origins, 1))
+    attempt(rt, rt.alloc(), Trial::Polls)
 }
 
-fn run<N: StoreName, R: Wait + Abort + Drop>(rt: R, alloc: Global, parts: Parts) -> Result<(), Fail>
-    requires { parts ≡ N.store }
-{
-    let (mut publisher, _readers) = parts.open::<N, R>(&rt, alloc).map_err(|_| "memory")?;
-    let done = poll_all(&rt, alloc, &mut publisher);
-    publisher.close(&rt);
-    done
-}
-
-// A write that fails, all of the zone, what is newer where there is nothing newer, and what is newer from a stream without a message,
-// after which all of the zone is asked for.
-fn poll_all<N: StoreName, R: Wait + Abort>(
+/// A write that fails, all of the zone, what is newer where there is nothing newer, and what is newer from a stream without a message,
+/// after which all of the zone is asked for.
+pub fn poll_all<N: StoreName, R: Wait + Abort>(
     rt: &R,
     alloc: Global,
     publisher: &mut Publisher<N>,

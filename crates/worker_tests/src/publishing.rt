@@ -1,14 +1,12 @@
 //! One thread publishes, and two readers follow.
 
-ghost use Rattle.std.specs.Prelude.{◌≡◌};
-
+use crate::stores::{Trial, attempt};
 use crossbeam_channel::{Receiver, Sender, unbounded};
 use dns_name::{Name, Pattern};
 use dns_record::{Row, Soa, class, read_record};
-use policy_publish::{Parts, PolicyReader, Publisher, StoreName, Told, start_store};
+use policy_publish::{PolicyReader, Publisher, StoreName, Told};
 use policy_snapshot::Snapshot;
 use std::alloc::Global;
-use std::marker::Brand;
 use std::process::Abort;
 use std::sync::Wait;
 use std::test::Fail;
@@ -18,8 +16,6 @@ use trigger_codec::Trigger;
 use zone_rows::{Rows, Transfer};
 
 pub const PUBLICATIONS: u32 = 1_000;
-
-const READERS: usize = 2;
 
 // What a reader is told: a list, and how many publications it has.
 #[derive(Drop)]
@@ -112,7 +108,7 @@ fn start<
     mut reader: PolicyReader<N>,
     news: Receiver<News<N>>,
 ) -> Result<JoinHandle<(u32, u64, bool)>, Fail> {
-    Ok(thread::spawn(&rt, move || follow(&rt, alloc, &mut reader, &news)).map_err(|_| "a thread")?)
+    Ok(thread::spawn(&rt, move || follow(&rt, alloc, &mut reader, &news))?)
 }
 
 // Publishes one transfer after another, and tells each reader of each: how often that failed.
@@ -158,45 +154,30 @@ fn publish_one<N: StoreName, R: Wait>(
 
 #[test]
 fn readers_follow_the_publisher(rt: HostRuntime) -> Result<(), Fail> {
-    let alloc = rt.alloc();
-    let origins = vec![in alloc; Name::from_text(alloc, b"rpz.example")?]?;
-    run::<Brand, _>(rt, alloc, start_store(origins, READERS))
+    attempt(rt, rt.alloc(), Trial::Publishing)
 }
 
-fn run<
-    N: StoreName + Send + Sync + 'static,
-    R: Threads + Wait + Abort + Copy + Drop + Send + Sync + 'static,
->(rt: R, alloc: Global, parts: Parts) -> Result<(), Fail>
-    requires { parts ≡ N.store }
-{
-    let (mut publisher, readers) = parts.open::<N, R>(&rt, alloc).map_err(|_| "memory")?;
-    let followed = follow_all(rt, alloc, &mut publisher, readers);
-    publisher.close(&rt);
-    assert_eq!(rt; followed?, 0);
-    Ok(())
-}
-
-// How many publications failed, while each reader saw all of them in their order.
-fn follow_all<
+/// No publication fails, and each reader sees all of them in their order.
+pub fn follow_all<
     N: StoreName + Send + Sync + 'static,
     R: Threads + Wait + Abort + Copy + Drop + Send + Sync + 'static,
 >(
-    rt: R,
+    rt: &R,
     alloc: Global,
     publisher: &mut Publisher<N>,
     readers: Vec<PolicyReader<N>>,
-) -> Result<u32, Fail> {
+) -> Result<(), Fail> {
     let mut to = Vec::new(alloc);
     let mut threads = Vec::new(alloc);
     for reader in readers {
         let (sender, receiver) = unbounded(alloc)?;
         to.push(sender)?;
-        threads.push(start(rt, alloc, reader, receiver)?)?;
+        threads.push(start(*rt, alloc, reader, receiver)?)?;
     }
-    let faults = publish_all(&rt, alloc, publisher, to.as_slice());
+    assert_eq!(rt; publish_all(rt, alloc, publisher, to.as_slice()), 0);
     drop(to);
     for thread in threads {
-        assert_eq!(rt; thread.join(&rt), (0, u64::from(PUBLICATIONS), true));
+        assert_eq!(rt; thread.join(rt), (0, u64::from(PUBLICATIONS), true));
     }
-    Ok(faults)
+    Ok(())
 }

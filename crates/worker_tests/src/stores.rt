@@ -1,0 +1,75 @@
+//! A store with the zone `rpz.example`, and what is tried over it.
+
+ghost use Rattle.std.specs.Prelude.{◌≡◌};
+
+use crate::answers::answer_all;
+use crate::faults::fail_all;
+use crate::meetings::meet_all;
+use crate::polls::poll_all;
+use crate::publishing::follow_all;
+use crate::runs::run_all;
+use crate::tasks::start_one;
+use dns_name::Name;
+use policy_publish::{Parts, PolicyReader, Publisher, StoreName, start_store};
+use std::alloc::Global;
+use std::marker::Brand;
+use std::process::Abort;
+use std::sync::Wait;
+use std::test::Fail;
+use std::thread::Threads;
+use std::time::Clock;
+
+/// What is tried.
+#[derive(Clone, Copy)]
+pub enum Trial {
+    Answers,
+    Polls,
+    Publishing,
+    Runs,
+    Faults,
+    Tasks,
+    Meetings,
+}
+
+/// Tries something over a store of two readers, where nothing is published.
+pub fn attempt<R: Threads + Wait + Abort + Clock + Copy + Drop + Send + Sync + 'static>(
+    rt: R,
+    alloc: Global,
+    trial: Trial,
+) -> Result<(), Fail> {
+    let origins = vec![in alloc; Name::from_text(alloc, b"rpz.example")?]?;
+    open::<Brand, R>(rt, alloc, start_store(origins, 2), trial)
+}
+
+fn open<
+    N: StoreName + Send + Sync + 'static,
+    R: Threads + Wait + Abort + Clock + Copy + Drop + Send + Sync + 'static,
+>(rt: R, alloc: Global, parts: Parts, trial: Trial) -> Result<(), Fail>
+    requires { parts ≡ N.store }
+{
+    let (mut publisher, readers) = parts.open::<N, R>(&rt, alloc)?;
+    let done = attempt_over(&rt, alloc, &mut publisher, readers, trial);
+    publisher.close(&rt);
+    done
+}
+
+fn attempt_over<
+    N: StoreName + Send + Sync + 'static,
+    R: Threads + Wait + Abort + Clock + Copy + Drop + Send + Sync + 'static,
+>(
+    rt: &R,
+    alloc: Global,
+    publisher: &mut Publisher<N>,
+    readers: Vec<PolicyReader<N>>,
+    trial: Trial,
+) -> Result<(), Fail> {
+    match trial {
+        Trial::Answers => answer_all(rt, alloc, publisher, readers),
+        Trial::Polls => poll_all(rt, alloc, publisher),
+        Trial::Publishing => follow_all(rt, alloc, publisher, readers),
+        Trial::Runs => run_all(rt, alloc, publisher, readers),
+        Trial::Faults => fail_all(rt, alloc, publisher, readers),
+        Trial::Tasks => start_one(rt, alloc, publisher, readers),
+        Trial::Meetings => meet_all(rt, alloc, publisher, readers),
+    }
+}

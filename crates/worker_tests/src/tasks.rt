@@ -1,0 +1,42 @@
+//! A worker as a task.
+
+use crate::cases::MIXED;
+use crate::runs::{Kept, load, numbers, sent};
+use crate::stores::{Trial, attempt};
+use crate::workers::list_worker;
+use edge_io::{ListClock, ListReplies, Spawner, TaskSpawner};
+use policy_publish::{PolicyReader, Publisher, StoreName};
+use rpz_workers::{NoGate, Report, ServeTask};
+use std::alloc::Global;
+use std::collections::VecDeque;
+use std::process::Abort;
+use std::sync::Wait;
+use std::test::Fail;
+use std::thread::Threads;
+
+#[test]
+fn a_task_serves(rt: HostRuntime) -> Result<(), Fail> {
+    attempt(rt, rt.alloc(), Trial::Tasks)
+}
+
+/// A worker is a task that is run when it is started, over items that are there by then.
+pub fn start_one<
+    N: StoreName + Send + Sync + 'static,
+    R: Threads + Wait + Abort + Copy + Drop + Send + Sync + 'static,
+>(
+    rt: &R,
+    alloc: Global,
+    publisher: &mut Publisher<N>,
+    mut readers: Vec<PolicyReader<N>>,
+) -> Result<(), Fail> {
+    load(rt, alloc, publisher)?;
+    let worker = list_worker(alloc, &mut readers, Vec::new(alloc), NoGate)?;
+    let items = sent(rt, alloc, publisher, MIXED.items)?;
+    let replies: Kept = ListReplies::new(alloc, vec![in alloc; MIXED.failing_send]?);
+    let clock = ListClock::new(alloc, VecDeque::new(alloc));
+    let mut spawner: TaskSpawner<Report, R> = TaskSpawner::new(*rt, alloc, false, Vec::new(alloc));
+    spawner.start(rt, ServeTask::new(*rt, worker, items, replies, clock))?;
+    let report = spawner.gather().ok_or("a report")?;
+    assert_eq!(rt; numbers(&report), MIXED.report);
+    Ok(())
+}
