@@ -1,0 +1,5 @@
+pub mod Binding
+pub mod Forms
+pub mod Limits
+pub mod Taken
+pub mod ZoneLists

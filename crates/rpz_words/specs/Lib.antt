@@ -1,0 +1,5 @@
+pub mod Outcome
+pub mod Zones
+pub mod Values
+pub mod Words
+pub mod Limits

@@ -1,0 +1,22 @@
+-- What holds of what words ask for.
+use Rattle.std.specs.Prelude.{◌≤◌, length}
+use Rattle.zone_rows.specs.declared.zone.TheConstants.{ZONE_LIMIT}
+use Rattle.rpz_words.specs.declared.command.Command.{Command}
+use Rattle.rpz_words.specs.declared.command.Command.TheVariants.{Replay, Serve}
+use Rattle.rpz_words.specs.declared.settings.Settings.{Settings}
+use Rattle.rpz_words.specs.declared.settings.TheConstants.{WORKER_LIMIT}
+use Rattle.rpz_words.specs.Zones.{HasDistinctOrigins}
+
+-- what a server is to do is within its limits
+pub record IsServable (settings : Settings) : Type 0 where
+  pub some_turns : 1 ≤ settings.turns
+  pub some_workers : 1 ≤ settings.workers
+  pub few_workers : settings.workers ≤ WORKER_LIMIT
+  pub some_zones : 1 ≤ length settings.zones
+  pub few_zones : length settings.zones ≤ ZONE_LIMIT
+  pub distinct : HasDistinctOrigins settings.zones
+
+-- the same of all that words may ask for
+abbrev pub IsWithinLimits : Command → Type 0
+IsWithinLimits Replay = Unit {0}
+IsWithinLimits (Serve settings) = IsServable settings

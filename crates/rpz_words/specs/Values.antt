@@ -1,0 +1,76 @@
+-- What the value of an argument says, if it has the form.
+use Rattle.std.specs.Prelude.{ℕ, ◌==◌, ◌||◌, Bool, nat_lt, List, [], ◌∷◌, length, Option, Some}
+use Rattle.std.specs.List.{before_first, after_first}
+use Rattle.std.specs.Result.{result_ok}
+use Rattle.dns_name.specs.Text.{text_name}
+use Rattle.edge_io.specs.declared.endpoint.Endpoint.{Endpoint}
+use Rattle.script_codec.specs.Field.{number_of, v4_of}
+use Rattle.zone_rows.specs.declared.zone.TheConstants.{ZONE_LIMIT}
+use Rattle.rpz_words.specs.declared.settings.TheConstants.{TURN_LIMIT, WORKER_LIMIT}
+use Rattle.rpz_words.specs.declared.values.TheConstants.{PORT_DIGITS, PORT_LIMIT}
+use Rattle.rpz_words.specs.declared.zones.ZoneSetting.{ZoneSetting}
+use Rattle.rpz_words.specs.Outcome.{◌>>=◌, none_if}
+use Rattle.rpz_words.specs.Zones.{has_repeated}
+
+-- a number from 1 to `most`: 1 to 10 decimal digits, without a sign
+unfoldable pub number_to : ℕ → List ℕ → Option ℕ
+number_to most digits = do
+  number ← result_ok (number_of digits)
+  _ ← none_if (number == 0 || nat_lt most number)
+  Some number
+
+-- how many arrivals are taken: 1 to 4,294,967,295
+abbrev pub turns_of : List ℕ → Option ℕ
+turns_of digits = number_to TURN_LIMIT digits
+
+-- how many workers answer: 1 to 16
+abbrev pub workers_of : List ℕ → Option ℕ
+workers_of digits = number_to WORKER_LIMIT digits
+
+-- a port: 1 to 5 decimal digits, from 1 to 65,535
+unfoldable pub port_of : List ℕ → Option ℕ
+port_of digits = do
+  _ ← none_if (nat_lt PORT_DIGITS (length digits))
+  number_to PORT_LIMIT digits
+
+-- `:`, which stands before a port
+abbrev pub is_colon : ℕ → Bool
+is_colon b = b == 58
+
+-- `A.B.C.D:PORT`, split at the first colon
+unfoldable pub endpoint_of : List ℕ → Option Endpoint
+endpoint_of text = do
+  addr ← result_ok (v4_of (before_first is_colon text))
+  port ← port_of (after_first is_colon text)
+  Some (record { addr = addr; port = port })
+
+-- a name of letters, digits, `-`, `_` and `*`, with dots between its labels and one dot at its end or none
+abbrev pub origin_of : List ℕ → Option (List (List ℕ))
+origin_of text = result_ok (text_name text)
+
+-- `@`, which stands before a primary
+abbrev pub is_at_sign : ℕ → Bool
+is_at_sign b = b == 64
+
+-- `ZONE@PRIMARY`, split at the first `@`: a name and an endpoint
+unfoldable pub zone_setting_of : List ℕ → Option ZoneSetting
+zone_setting_of text = do
+  origin ← origin_of (before_first is_at_sign text)
+  primary ← endpoint_of (after_first is_at_sign text)
+  Some (record { origin = origin; primary = primary })
+
+-- each of the texts as a zone
+abbrev pub zone_settings_of : List (List ℕ) → Option (List ZoneSetting)
+zone_settings_of [] = Some []
+zone_settings_of (text ∷ texts) = do
+  zone ← zone_setting_of text
+  zones ← zone_settings_of texts
+  Some (zone ∷ zones)
+
+-- the zones of a policy: 1 to 32, of distinct names
+unfoldable pub zones_of : List (List ℕ) → Option (List ZoneSetting)
+zones_of texts = do
+  _ ← none_if (length texts == 0 || nat_lt ZONE_LIMIT (length texts))
+  zones ← zone_settings_of texts
+  _ ← none_if (has_repeated zones)
+  Some zones

@@ -1,0 +1,69 @@
+-- The words of a command line, as `clap` matches them, and what they ask for.
+use Rattle.std.specs.Prelude.{if◌then◌else◌, List, ◌∷◌, map, Option, Some, None, true, String, codes, string_bytes}
+use Rattle.std.specs.Str.{bytes_eq}
+use Rattle.std.specs.declared.alloc.Global.{Global}
+use Rattle.clap.specs.Lexer.{usize_max}
+use Rattle.clap.specs.Words.{App, Row, Rule, Text, all_of, first_of, new_app, new_rule, with_rule, with_subcommand}
+use Rattle.clap.specs.declared.builder.action.ArgAction.TheVariants.{Append, Set}
+use Rattle.rpz_words.specs.declared.command.Command.{Command}
+use Rattle.rpz_words.specs.declared.command.Command.TheVariants.{Replay, Serve}
+use Rattle.rpz_words.specs.declared.settings.Settings.{Settings}
+use Rattle.rpz_words.specs.declared.zones.ZoneSetting.{ZoneSetting}
+use Rattle.rpz_words.specs.Outcome.{◌>>=◌}
+use Rattle.rpz_words.specs.Values.{endpoint_of, turns_of, workers_of, zones_of}
+
+-- the words behind the program's name
+abbrev pub argv : List (String Global) → List Text
+argv words = codes "rpz" ∷ map string_bytes words
+
+-- an argument with one value
+abbrev pub one_value : Text → Rule
+one_value id = record (new_rule id) { required = true; action = Some Set }
+
+-- an argument with one value or more, which takes what is left of the words
+abbrev pub some_values : Text → Rule
+some_values id = record (new_rule id) {
+  required = true;
+  action = Some Append;
+  range = Some (record { start_inclusive = 1; end_inclusive = usize_max });
+}
+
+-- `serve LISTEN UPSTREAM TURNS WORKERS ZONE@PRIMARY...`
+abbrev pub serve_app : App
+serve_app = with_rule (with_rule (with_rule (with_rule (with_rule (new_app (codes "serve"))
+    (one_value (codes "LISTEN"))) (one_value (codes "UPSTREAM"))) (one_value (codes "TURNS")))
+    (one_value (codes "WORKERS"))) (some_values (codes "ZONE@PRIMARY"))
+
+-- the command set: `rpz replay` and `rpz serve`
+abbrev pub rpz_app : App
+rpz_app = with_subcommand (with_subcommand (new_app (codes "rpz")) (new_app (codes "replay")).top) serve_app.top
+
+-- what the value of an argument says, if it is there and has the form
+abbrev pub value_at : {A : Type 0} → (Text → Option A) → Text → List Row → Option A
+value_at form id rows = first_of id rows >>= form
+
+-- the zones that the values of an argument make
+abbrev pub zones_at : Text → List Row → Option (List ZoneSetting)
+zones_at id rows = all_of id rows >>= zones_of
+
+-- what the values of `serve` say, if each has its form
+unfoldable pub settings_of : List Row → Option Settings
+settings_of rows = do
+  listen ← value_at endpoint_of (codes "LISTEN") rows
+  upstream ← value_at endpoint_of (codes "UPSTREAM") rows
+  turns ← value_at turns_of (codes "TURNS") rows
+  workers ← value_at workers_of (codes "WORKERS") rows
+  zones ← zones_at (codes "ZONE@PRIMARY") rows
+  Some (record { listen = listen; upstream = upstream; turns = turns; workers = workers; zones = zones })
+
+-- what a subcommand of this name and these values asks for
+abbrev pub named_command : Text → List Row → Option Command
+named_command name rows =
+    if bytes_eq name (codes "replay") then Some Replay
+    else (if bytes_eq name (codes "serve") then (settings_of rows >>= λ settings. Some (Serve settings))
+    else None)
+
+-- what the matches of the words ask for, by the subcommand and its values
+abbrev pub command_of : Option (Text × List Row) → Option Command
+command_of None = None
+command_of (Some (name, rows)) = named_command name rows

@@ -1,0 +1,57 @@
+//! The command set, as `clap` takes it.
+
+ghost use Rattle.std.specs.Prelude.{◌≡◌, false, IfOk};
+ghost use Rattle.clap.specs.Words.{app_of, rule_of};
+ghost use Rattle.clap.specs.declared.builder.command.Command.TheViews.{out-Command as fields_of};
+ghost use Rattle.rpz_words.specs.Words.{one_value, rpz_app, serve_app, some_values};
+
+use clap::{Arg, ArgAction, Command};
+use std::alloc::{AllocError, Global};
+
+// An argument with one value.
+fn value_arg<'a>(alloc: Global, id: &'a str) -> Arg<'a>
+    ensures rule { rule_of result ≡ one_value id.entry.now }
+    ensures local { result.global ≡ false }
+{
+    Arg::new(alloc, id).required(true).action(ArgAction::Set)
+}
+
+// An argument with one value or more, which takes what is left of the words.
+fn list_arg<'a>(alloc: Global, id: &'a str) -> Arg<'a>
+    ensures rule { rule_of result ≡ some_values id.entry.now }
+    ensures local { result.global ≡ false }
+{
+    Arg::new(alloc, id)
+        .required(true)
+        .action(ArgAction::Append)
+        .num_args(1..)
+}
+
+// `serve LISTEN UPSTREAM TURNS WORKERS ZONE@PRIMARY...`
+fn serve_command<'a>(alloc: Global) -> Result<Command<'a>, AllocError>
+    ensures app { IfOk result (λ c. app_of c ≡ serve_app) }
+    ensures local { IfOk result (λ c. (fields_of c).has_globals ≡ false) }
+{
+    let listen = value_arg(alloc, "LISTEN");
+    let upstream = value_arg(alloc, "UPSTREAM");
+    let turns = value_arg(alloc, "TURNS");
+    let workers = value_arg(alloc, "WORKERS");
+    let zones = list_arg(alloc, "ZONE@PRIMARY");
+    let with_listen = Command::new(alloc, "serve").arg(listen)?;
+    let with_upstream = with_listen.arg(upstream)?;
+    let with_turns = with_upstream.arg(turns)?;
+    let with_workers = with_turns.arg(workers)?;
+    let with_zones = with_workers.arg(zones)?;
+    Ok(with_zones)
+}
+
+/// `rpz replay` and `rpz serve`.
+pub(crate) fn rpz_command<'a>(alloc: Global) -> Result<Command<'a>, AllocError>
+    ensures { IfOk result (λ c. app_of c ≡ rpz_app) }
+{
+    let serve = serve_command(alloc)?;
+    let replay = Command::new(alloc, "replay");
+    let with_replay = Command::new(alloc, "rpz").subcommand(replay)?;
+    let with_serve = with_replay.subcommand(serve)?;
+    Ok(with_serve)
+}

@@ -1,0 +1,20 @@
+//! What the words of a command line ask for.
+#![tactic(auto)]
+
+mod command;
+mod command_set;
+pub mod laws;
+mod reading;
+mod settings;
+mod values;
+mod words_error;
+mod zones;
+
+pub use command::Command;
+pub use reading::read_words;
+pub use settings::{Settings, WORKER_LIMIT};
+pub use words_error::WordsError;
+pub use zones::{ZoneSetting, Zones};
+
+#[cfg(test)]
+mod tests;

@@ -1,0 +1,142 @@
+//! Reads the words of a command line.
+
+ghost use Rattle.std.specs.Prelude.{◌≡◌, [], IfOk, OnOk, Err, None, Some, map, option_map, true};
+ghost use Rattle.clap.specs.Words.{all_of, first_of, found_of, rows_of, subcommand_of, subcommand_rows_of, takes};
+ghost use Rattle.clap.specs.Faults.{fault_of};
+ghost use Rattle.rpz_words.specs.Outcome.{Gives};
+ghost use Rattle.rpz_words.specs.Values.{endpoint_of};
+ghost use Rattle.rpz_words.specs.Values as values_form;
+ghost use Rattle.rpz_words.specs.Limits.{IsWithinLimits};
+ghost use Rattle.rpz_words.specs.Words as words_form;
+ghost use Rattle.rpz_words.specs.Words.{argv, command_of, rpz_app, settings_of, value_at};
+
+use crate::command::Command;
+use crate::command_set::rpz_command;
+use crate::settings::{Settings, TURN_LIMIT, WORKER_LIMIT};
+use crate::values::{number_to, read_endpoint, read_zones};
+use crate::words_error::WordsError;
+use crate::zones::Zones;
+use clap::ArgMatches;
+use clap::error::ErrorKind;
+use edge_io::Endpoint;
+use std::alloc::{AllocError, Global};
+
+/// What the words of a command line ask for, without the program's name. `Usage` comes where they are none of the
+/// command set, a value hasn't its form, a number is out of its bounds, or two zones have one name.
+#[tactic(auto, using(crate::proofs::Limits::outcome_within))]
+pub fn read_words(alloc: Global, words: &[String]) -> Result<Command, WordsError>
+    ensures ok { IfOk result (λ command.
+        command_of (subcommand_of rpz_app (argv words.now)) ≡ Some command) }
+
+    // nothing is asked for by words that `clap` refuses
+    ensures taken { OnOk result (fault_of rpz_app (argv words.now) ≡ []) }
+    ensures within { IfOk result IsWithinLimits }
+    ensures usage { result ≡ Err WordsError.Usage → takes rpz_app (argv words.now) ≡ true →
+        command_of (subcommand_of rpz_app (argv words.now)) ≡ None }
+{
+    let argv = with_program_name(alloc, words)?;
+    let matches = matches_of(alloc, &argv)?;
+    read_command(alloc, &matches)
+}
+
+// The words behind the program's name, as `clap` wants them.
+fn with_program_name<'a>(alloc: Global, words: &'a [String]) -> Result<Vec<&'a str>, AllocError>
+    ensures { IfOk result (λ all. map (λ word. word.now) all.items ≡ argv words.entry.now) }
+{
+    let mut argv = Vec::new(alloc);
+    argv.push("rpz")?;
+    for word in words {
+        argv.push(word.as_str())?;
+    }
+    Ok(argv)
+}
+
+// The matches of the words, of which the first is the program's name.
+fn matches_of<'a>(alloc: Global, words: &'a [&'a str]) -> Result<ArgMatches<'a>, WordsError>
+    ensures ok { IfOk result (λ matches.
+        subcommand_rows_of matches ≡ subcommand_of rpz_app (map (λ word. word.now) words.entry.now)) }
+    ensures taken { OnOk result (fault_of rpz_app (map (λ word. word.now) words.entry.now) ≡ []) }
+    ensures usage { result ≡ Err WordsError.Usage →
+        takes rpz_app (map (λ word. word.now) words.entry.now) ≡ true → ⊥ }
+{
+    let command = rpz_command(alloc)?;
+    match command.try_get_matches_from(words) {
+        Ok(matches) => Ok(matches),
+        Err(error) => match error.kind() {
+            ErrorKind::OutOfMemory => Err(WordsError::OutOfMemory),
+            _ => Err(WordsError::Usage),
+        },
+    }
+}
+
+// What the matches ask for.
+fn read_command(alloc: Global, matches: &ArgMatches) -> Result<Command, WordsError>
+    ensures { Gives result (command_of (subcommand_rows_of matches.now)) }
+{
+    let (name, values) = matches.subcommand().ok_or(WordsError::Usage)?;
+    if name == "replay" {
+        return Ok(Command::Replay);
+    }
+    if name == "serve" {
+        return Ok(Command::Serve(read_settings(alloc, values)?));
+    }
+    Err(WordsError::Usage)
+}
+
+// What the values of `serve` say.
+#[tactic(auto, unfolding(crate::specs::Words::settings_of))]
+fn read_settings(alloc: Global, matches: &ArgMatches) -> Result<Settings, WordsError>
+    ensures { Gives result (settings_of (rows_of (found_of matches.now))) }
+{
+    let listen = endpoint_at(matches, "LISTEN").ok_or(WordsError::Usage)?;
+    let upstream = endpoint_at(matches, "UPSTREAM").ok_or(WordsError::Usage)?;
+    let turns = number_at(matches, "TURNS", TURN_LIMIT).ok_or(WordsError::Usage)?;
+    let workers = number_at(matches, "WORKERS", WORKER_LIMIT as u32).ok_or(WordsError::Usage)?;
+    let zones = zones_at(alloc, matches, "ZONE@PRIMARY")?;
+    Ok(Settings {
+        listen,
+        upstream,
+        turns,
+        workers: workers as usize,
+        zones,
+    })
+}
+
+// The endpoint that an argument has as its value.
+fn endpoint_at(matches: &ArgMatches, id: &str) -> Option<Endpoint>
+    ensures { result ≡ value_at endpoint_of id.now (rows_of (found_of matches.now)) }
+{
+    read_endpoint(text_at(matches, id)?)
+}
+
+// The number from 1 to the limit that an argument has as its value.
+fn number_at(matches: &ArgMatches, id: &str, most: u32) -> Option<u32>
+    ensures { result ≡ value_at (values_form.number_to most) id.now (rows_of (found_of matches.now)) }
+{
+    number_to(text_at(matches, id)?.as_bytes(), most)
+}
+
+// The value of an argument.
+fn text_at<'a>(matches: &ArgMatches<'a>, id: &str) -> Option<&'a str>
+    ensures { option_map (λ text. text.now) result ≡ first_of id.now (rows_of (found_of matches.now)) }
+{
+    matches.get_str(id)
+}
+
+// The zones that an argument has as its values.
+fn zones_at(alloc: Global, matches: &ArgMatches, id: &str) -> Result<Zones, WordsError>
+    ensures { Gives result (words_form.zones_at id.now (rows_of (found_of matches.now))) }
+{
+    match texts_at(matches, id) {
+        Some(texts) => read_zones(alloc, texts),
+        None => Err(WordsError::Usage),
+    }
+}
+
+// The values of an argument.
+fn texts_at<'m, 'a>(matches: &'m ArgMatches<'a>, id: &str) -> Option<&'m [&'a str]>
+    ensures { option_map (λ texts. map (λ text. text.now) texts.now) result
+        ≡ all_of id.now (rows_of (found_of matches.now)) }
+{
+    matches.get_strs(id)
+}

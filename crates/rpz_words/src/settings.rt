@@ -1,0 +1,26 @@
+//! What a server is to do.
+
+use crate::zones::Zones;
+use edge_io::Endpoint;
+use script_codec::WORKERS;
+
+/// The most workers of a server.
+pub const WORKER_LIMIT: usize = WORKERS;
+
+/// The most arrivals that a server takes.
+pub(crate) const TURN_LIMIT: u32 = u32::MAX;
+
+/// What a server is to do.
+#[derive(Debug, Drop)]
+pub struct Settings {
+    /// Where queries arrive.
+    pub listen: Endpoint,
+    /// The server that is asked for what the policy leaves open.
+    pub upstream: Endpoint,
+    /// How many arrivals are taken: 1 to 4,294,967,295.
+    pub turns: u32,
+    /// How many workers answer: 1 to 16.
+    pub workers: usize,
+    /// The policy zones, of which earlier ones go before later ones.
+    pub zones: Zones,
+}

@@ -1,0 +1,159 @@
+use crate::{Command, Settings, WordsError, laws, read_words};
+use edge_io::Endpoint;
+use ip_prefix::Addr;
+use std::alloc::{AllocError, Global};
+use std::test::Fail;
+
+static SERVE: &str =
+    "serve 127.0.0.1:5300 9.9.9.9:53 2 16 rpz.example@127.0.0.1:5301 b@127.0.0.2:65535";
+
+// Lines that ask for a server.
+static TAKEN: [&str; 4] = [
+    "serve 127.0.0.1:1 9.9.9.9:53 1 1 a@127.0.0.1:5301",
+    "serve 127.0.0.1:65535 9.9.9.9:53 4294967295 16 a@127.0.0.1:5301",
+    "serve 127.000.0.01:00053 9.9.9.9:53 0000000002 01 a.b.@127.0.0.1:5301",
+    "serve -- 127.0.0.1:5300 9.9.9.9:53 2 1 a@127.0.0.1:5301",
+];
+
+// Lines that ask for nothing.
+static REFUSED: [&str; 35] = [
+    "",
+    "replay x",
+    "frob",
+    "load 1 0 0 2",
+    "--help",
+    "help",
+    "help serve",
+    "--version",
+    "serve",
+    "serve --help",
+    "serve help",
+    "serve 127.0.0.1:5300",
+    "serve 127.0.0.1:5300 9.9.9.9:53 2 1",
+    "serve 127.0.0.1:0 9.9.9.9:53 2 1 a@127.0.0.1:5301",
+    "serve 127.0.0.1:65536 9.9.9.9:53 2 1 a@127.0.0.1:5301",
+    "serve 127.0.0.1:000053 9.9.9.9:53 2 1 a@127.0.0.1:5301",
+    "serve 127.0.0.1:+53 9.9.9.9:53 2 1 a@127.0.0.1:5301",
+    "serve 127.0.0.1: 9.9.9.9:53 2 1 a@127.0.0.1:5301",
+    "serve 127.0.0.1 9.9.9.9:53 2 1 a@127.0.0.1:5301",
+    "serve 127.0.0.1:5300 1.2.3:53 2 1 a@127.0.0.1:5301",
+    "serve 127.0.0.1:5300 1.2.3.256:53 2 1 a@127.0.0.1:5301",
+    "serve 127.0.0.1:5300 9.9.9.9:53:53 2 1 a@127.0.0.1:5301",
+    "serve 127.0.0.1:5300 9.9.9.9:53 0 1 a@127.0.0.1:5301",
+    "serve 127.0.0.1:5300 9.9.9.9:53 4294967296 1 a@127.0.0.1:5301",
+    "serve 127.0.0.1:5300 9.9.9.9:53 +1 1 a@127.0.0.1:5301",
+    "serve 127.0.0.1:5300 9.9.9.9:53 -1 1 a@127.0.0.1:5301",
+    "serve 127.0.0.1:5300 9.9.9.9:53 -- -1 1 a@127.0.0.1:5301",
+    "serve 127.0.0.1:5300 9.9.9.9:53 2 0 a@127.0.0.1:5301",
+    "serve 127.0.0.1:5300 9.9.9.9:53 2 17 a@127.0.0.1:5301",
+    "serve 127.0.0.1:5300 9.9.9.9:53 2 1 a.127.0.0.1:5301",
+    "serve 127.0.0.1:5300 9.9.9.9:53 2 1 @127.0.0.1:5301",
+    "serve 127.0.0.1:5300 9.9.9.9:53 2 1 a@127.0.0.1",
+    "serve 127.0.0.1:5300 9.9.9.9:53 2 1 a..b@127.0.0.1:5301",
+    "serve 127.0.0.1:5300 9.9.9.9:53 2 1 rpz.example@127.0.0.1:5301 RPZ.Example@127.0.0.2:5301",
+    "serve 127.0.0.1:5300 9.9.9.9:53 2 1 rpz.example@127.0.0.1:5301 rpz.example.@127.0.0.1:5301",
+];
+
+// The words of a line, which single spaces separate.
+fn words_of(alloc: Global, line: &str) -> Result<Vec<String>, AllocError> {
+    let mut words = Vec::new(alloc);
+    for word in line.split(' ') {
+        if !word.is_empty() {
+            words.push(String::from_str(alloc, word)?)?;
+        }
+    }
+    Ok(words)
+}
+
+fn asked(alloc: Global, line: &str) -> Result<Command, WordsError> {
+    let words = words_of(alloc, line)?;
+    read_words(alloc, &words)
+}
+
+fn served(alloc: Global, line: &str) -> Result<Option<Settings>, WordsError> {
+    match asked(alloc, line)? {
+        Command::Replay => Ok(None),
+        Command::Serve(settings) => Ok(Some(settings)),
+    }
+}
+
+// A line of `serve` with so many zones.
+fn line_of_zones(alloc: Global, count: u32) -> Result<String, AllocError> {
+    let mut line = String::from_str(alloc, "serve 127.0.0.1:5300 9.9.9.9:53 2 1")?;
+    for number in 0..count {
+        let zone = format!(in alloc; " z{number}.example@127.0.0.1:5301")?;
+        line.push_str(zone.as_str())?;
+    }
+    Ok(line)
+}
+
+#[test]
+fn laws_do_nothing() {
+    laws::what_is_asked_for_is_within_limits();
+    laws::the_port_of_an_endpoint_is_not_0();
+    laws::a_number_has_no_sign();
+}
+
+#[test]
+fn replay_is_asked_for(rt: HostRuntime) {
+    assert!(rt; matches!(asked(rt.alloc(), "replay"), Ok(Command::Replay)));
+}
+
+#[test]
+fn a_server_gets_its_settings(rt: HostRuntime) -> Result<(), Fail> {
+    let settings = served(rt.alloc(), SERVE)?.ok_or("no server")?;
+    let listen = Endpoint {
+        addr: Addr::V4(0x7f00_0001),
+        port: 5300,
+    };
+    let upstream = Endpoint {
+        addr: Addr::V4(0x0909_0909),
+        port: 53,
+    };
+    assert_eq!(rt; settings.listen, listen);
+    assert_eq!(rt; settings.upstream, upstream);
+    assert_eq!(rt; settings.turns, 2);
+    assert_eq!(rt; settings.workers, 16);
+    Ok(())
+}
+
+#[test]
+fn a_server_gets_its_zones(rt: HostRuntime) -> Result<(), Fail> {
+    let settings = served(rt.alloc(), SERVE)?.ok_or("no server")?;
+    assert_eq!(rt; settings.zones.len(), 2);
+    let second = Endpoint {
+        addr: Addr::V4(0x7f00_0002),
+        port: 65_535,
+    };
+    assert_eq!(rt; settings.zones.primary(2), second);
+    let origins = settings.zones.origins(rt.alloc())?;
+    assert_eq!(rt; origins.len(), 2);
+    assert_eq!(rt; origins[0].octets(), b"\x03rpz\x07example\x00".as_slice());
+    Ok(())
+}
+
+#[test]
+fn a_server_is_asked_for(rt: HostRuntime) {
+    for line in TAKEN {
+        let taken = matches!(asked(rt.alloc(), line), Ok(Command::Serve(_)));
+        assert!(rt; taken, "{line}");
+    }
+}
+
+#[test]
+fn other_lines_ask_for_nothing(rt: HostRuntime) {
+    for line in REFUSED {
+        let refused = matches!(asked(rt.alloc(), line), Err(WordsError::Usage));
+        assert!(rt; refused, "{line}");
+    }
+}
+
+#[test]
+fn at_most_32_zones_are_taken(rt: HostRuntime) -> Result<(), Fail> {
+    let most = line_of_zones(rt.alloc(), 32)?;
+    let settings = served(rt.alloc(), most.as_str())?.ok_or("no server")?;
+    assert_eq!(rt; settings.zones.len(), 32);
+    let more = line_of_zones(rt.alloc(), 33)?;
+    assert!(rt; matches!(asked(rt.alloc(), more.as_str()), Err(WordsError::Usage)));
+    Ok(())
+}

@@ -1,0 +1,107 @@
+//! The values of arguments.
+
+ghost use Rattle.std.specs.Prelude.{◌≡◌, ◌≤◌, IfSome, map};
+ghost use Rattle.rpz_words.specs.Outcome.{Gives};
+ghost use Rattle.rpz_words.specs.Values as values_form;
+ghost use Rattle.rpz_words.specs.Values.{endpoint_of, origin_of, port_of, zone_setting_of, zone_settings_of, zones_of};
+
+use crate::words_error::WordsError;
+use crate::zones::{ZoneSetting, Zones};
+use dns_name::{Name, TextError};
+use edge_io::Endpoint;
+use script_codec::{read_address_4, read_number};
+use std::alloc::Global;
+use zone_rows::ZONE_LIMIT;
+
+/// The most digits of a port.
+const PORT_DIGITS: usize = 5;
+
+/// The greatest port.
+const PORT_LIMIT: u32 = 65_535;
+
+/// The number from 1 to the limit that 1 to 10 decimal digits write.
+#[tactic(auto, unfolding(crate::specs::Values::number_to))]
+pub(crate) fn number_to(digits: &[u8], most: u32) -> Option<u32>
+    ensures value { result ≡ values_form.number_to most digits.now }
+    ensures within { IfSome result (λ number. number ≤ most) }
+{
+    let number = read_number(digits).ok()?;
+    if number == 0 || number > most {
+        return None;
+    }
+    Some(number)
+}
+
+// The port that 1 to 5 decimal digits write.
+#[tactic(auto, unfolding(crate::specs::Values::port_of))]
+fn read_port(digits: &[u8]) -> Option<u16>
+    ensures { result ≡ port_of digits.now }
+{
+    if digits.len() > PORT_DIGITS {
+        return None;
+    }
+    let port = number_to(digits, PORT_LIMIT)?;
+    Some(port as u16)
+}
+
+/// The endpoint that `A.B.C.D:PORT` writes.
+#[tactic(auto, unfolding(crate::specs::Values::endpoint_of))]
+pub(crate) fn read_endpoint(text: &str) -> Option<Endpoint>
+    ensures { result ≡ endpoint_of text.now }
+{
+    let (host, port) = text.split_once(':')?;
+    let addr = read_address_4(host.as_bytes()).ok()?;
+    let port = read_port(port.as_bytes())?;
+    Some(Endpoint { addr, port })
+}
+
+// The zone and its primary that `ZONE@PRIMARY` writes.
+#[tactic(auto, unfolding(crate::specs::Values::zone_setting_of))]
+fn read_zone(alloc: Global, text: &str) -> Result<ZoneSetting, WordsError>
+    ensures { Gives result (zone_setting_of text.now) }
+{
+    let Some((origin, primary)) = text.split_once('@') else {
+        return Err(WordsError::Usage);
+    };
+    let origin = read_origin(alloc, origin)?;
+    let primary = read_endpoint(primary).ok_or(WordsError::Usage)?;
+    Ok(ZoneSetting { origin, primary })
+}
+
+// The name that a text writes.
+fn read_origin(alloc: Global, text: &str) -> Result<Name, WordsError>
+    ensures { Gives result (origin_of text.now) }
+{
+    match Name::from_text(alloc, text.as_bytes()) {
+        Ok(name) => Ok(name),
+        Err(TextError::OutOfMemory) => Err(WordsError::OutOfMemory),
+        Err(TextError::Fault(_)) => Err(WordsError::Usage),
+    }
+}
+
+/// The zones of a policy, each of which one of the texts writes.
+#[tactic(auto, unfolding(crate::specs::Values::zones_of))]
+pub(crate) fn read_zones(alloc: Global, texts: &[&str]) -> Result<Zones, WordsError>
+    ensures { Gives result (zones_of (map (λ text. text.now) texts.now)) }
+{
+    if texts.is_empty() || texts.len() > ZONE_LIMIT {
+        return Err(WordsError::Usage);
+    }
+    let zones = read_each(alloc, texts)?;
+    if zones.has_repeated() {
+        return Err(WordsError::Usage);
+    }
+    Ok(zones)
+}
+
+// The zone of each text.
+fn read_each(alloc: Global, texts: &[&str]) -> Result<Zones, WordsError>
+    ensures { Gives result (zone_settings_of (map (λ text. text.now) texts.now)) }
+{
+    let mut zones = Zones::new(alloc);
+    for text in texts {
+        let zone = read_zone(alloc, text)?;
+        zones.push(zone)?;
+    }
+    Ok(zones)
+}
