@@ -7,6 +7,7 @@ use crate::settings::Settings;
 pub enum Command {
     /// `replay`: a script is answered.
     Replay,
-    /// `serve LISTEN UPSTREAM TURNS WORKERS ZONE@PRIMARY...`: a server answers.
+    /// `serve LISTEN UPSTREAM TURNS WORKERS ZONE@PRIMARY...`: a server answers. LISTEN, UPSTREAM and each PRIMARY are
+    /// `A.B.C.D:PORT`, an address of IP version 4 and a port from 1 to 65,535.
     Serve(Settings),
 }

@@ -22,7 +22,8 @@ use edge_io::Endpoint;
 use std::alloc::{AllocError, Global};
 
 /// What the words of a command line ask for, without the program's name. `Usage` comes where they are none of the
-/// command set, a value hasn't its form, a number is out of its bounds, or two zones have one name.
+/// command set (a request for help is none), a value hasn't its form, a number is out of its bounds, there are more than
+/// 32 zones, or two have one name.
 #[tactic(auto, using(crate::proofs::Limits::outcome_within))]
 pub fn read_words(alloc: Global, words: &[String]) -> Result<Command, WordsError>
     ensures ok { IfOk result (λ command.

@@ -21,6 +21,6 @@ pub struct Settings {
     pub turns: u32,
     /// How many workers answer: 1 to 16.
     pub workers: usize,
-    /// The policy zones, of which earlier ones go before later ones.
+    /// The policy zones in order, 1 to 32, of distinct names: rules of earlier ones go before those of later ones.
     pub zones: Zones,
 }
