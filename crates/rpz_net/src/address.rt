@@ -1,0 +1,28 @@
+//! Endpoints, as std has them.
+
+use edge_io::Endpoint;
+use ip_prefix::Addr;
+use std::net::{IpAddr, Ipv4Addr, Ipv6Addr, SocketAddr};
+
+/// The socket address of an endpoint. Under version 6 its flow label and its scope are 0.
+pub fn address_of(at: Endpoint) -> SocketAddr {
+    let ip = match at.addr {
+        Addr::V4(bits) => IpAddr::V4(Ipv4Addr::from_bits(bits)),
+        Addr::V6(bits) => IpAddr::V6(Ipv6Addr::from_bits(bits)),
+    };
+    SocketAddr::new(ip, at.port)
+}
+
+/// The endpoint of a socket address: its address and its port, without the flow label and the scope of version 6. So a peer at a
+/// link-local address (RFC 4291, section 2.5.6) can't be told from one on another link, and a reply to it isn't sent. An IPv4-mapped
+/// address (RFC 4291, section 2.5.5.2) stays one of version 6.
+pub fn endpoint_of(address: SocketAddr) -> Endpoint {
+    let addr = match address.ip() {
+        IpAddr::V4(ip) => Addr::V4(ip.to_bits()),
+        IpAddr::V6(ip) => Addr::V6(ip.to_bits()),
+    };
+    Endpoint {
+        addr,
+        port: address.port(),
+    }
+}

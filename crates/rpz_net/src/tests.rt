@@ -1,0 +1,293 @@
+//! Sockets on the loopback: what goes there and back, the limits of time, and calls that fail.
+
+use crate::backoff::Backoff;
+use crate::connection::sides_of;
+use crate::limits::{BACKOFF_MOST, CLIENT_BUFFER};
+use crate::time_limit::Span;
+use crate::{NetWires, RandomIds, SystemClock, TcpLink, TcpSink, TcpSource, address_of};
+use edge_io::{
+    Arrival, Clock, Endpoint, FrameError, FrameFault, Ids, Link, LinkError, Replies, Sink,
+    WireError, Wires, read_frame, write_frame,
+};
+use ip_prefix::Addr;
+use std::alloc::Global;
+use std::io::{Read, Write};
+use std::net::{Net, TcpListener, TcpStream, UdpSocket};
+use std::process::Abort;
+use std::test::Fail;
+use std::thread::Threads;
+use std::time::{Duration, Instant};
+use std::{io, thread, time};
+
+// Frames of the messages `hi`, none at all, and `there`.
+const FRAMES: &[u8] = b"\0\x02hi\0\0\0\x05there";
+
+// An endpoint on the loopback.
+fn at(port: u16) -> Endpoint {
+    Endpoint {
+        addr: Addr::V4(0x7f00_0001),
+        port,
+    }
+}
+
+// Both ends of a connection over this port.
+fn pair<R: Net<Listener = TcpListener, Stream = TcpStream>>(
+    rt: &R,
+    port: u16,
+) -> io::Result<(TcpStream, TcpStream)> {
+    let listener = rt.bind(address_of(at(port)))?;
+    let client = rt.connect(address_of(at(port)))?;
+    let (server, _) = listener.accept()?;
+    Ok((client, server))
+}
+
+#[test]
+fn datagrams_and_connections_come(rt: HostRuntime) -> Result<(), Fail> {
+    let mut wires = NetWires::new(rt, rt.alloc());
+    wires.bind(at(39150))?;
+    a_datagram_comes(&rt, &mut wires)?;
+    a_connection_comes(&rt, rt.alloc(), &mut wires)
+}
+
+fn a_datagram_comes<
+    R: Net<Listener = TcpListener, Stream = TcpStream>
+        + time::Clock
+        + Abort
+        + Copy
+        + Drop
+        + Send
+        + 'static,
+>(rt: &R, wires: &mut NetWires<R>) -> Result<(), Fail> {
+    let client = UdpSocket::bind(rt, address_of(at(39151)))?;
+    client.send_to(b"query", address_of(at(39150)))?;
+    let Arrival::Datagram { peer, bytes } = wires.next()? else {
+        return Err("a datagram".into());
+    };
+    assert_eq!(rt; peer, at(39151));
+    assert_eq!(rt; bytes.as_slice(), b"query".as_slice());
+    let mut replies = wires.replies()?;
+    send_back::<R, _>(&mut replies, peer)?;
+    let mut reply = [0; 8];
+    let (len, from) = client.recv_from(&mut reply)?;
+    assert_eq!(rt; (len, from), (5, address_of(at(39150))));
+    Ok(())
+}
+
+fn send_back<R: time::Clock + Drop, P: Replies<TcpSource<R>, TcpSink<R>>>(
+    replies: &mut P,
+    peer: Endpoint,
+) -> Result<(), Fail> {
+    replies.send(peer, b"reply")?;
+    Ok(())
+}
+
+fn a_connection_comes<
+    R: Net<Listener = TcpListener, Stream = TcpStream>
+        + time::Clock
+        + Abort
+        + Copy
+        + Drop
+        + Send
+        + 'static,
+>(rt: &R, alloc: Global, wires: &mut NetWires<R>) -> Result<(), Fail> {
+    let mut client = rt.connect(address_of(at(39150)))?;
+    client.write_all(FRAMES)?;
+    let Arrival::Connection {
+        mut source,
+        mut sink,
+        client: _,
+    } = wires.next()?
+    else {
+        return Err("a connection".into());
+    };
+    for message in [b"hi".as_slice(), b"".as_slice(), b"there".as_slice()] {
+        let read = read_frame(alloc, &mut source)?.ok_or("a frame")?;
+        assert_eq!(rt; read.as_slice(), message);
+        write_frame(&mut sink, message)?;
+    }
+    let mut back = [0; 13];
+    client.read_exact(&mut back)?;
+    assert_eq!(rt; back.as_slice(), FRAMES);
+    Ok(())
+}
+
+// What one connection sends is sent back, ten bytes.
+fn echo_once(listener: &TcpListener) -> io::Result<()> {
+    let (mut stream, _) = listener.accept()?;
+    let mut bytes = [0; 10];
+    stream.read_exact(&mut bytes)?;
+    stream.write_all(&bytes)
+}
+
+#[test]
+fn a_question_is_answered(rt: HostRuntime) -> Result<(), Fail> {
+    let alloc: Global = rt.alloc();
+    let listener = rt.bind(address_of(at(39152)))?;
+    let limit = Duration::from_secs(2);
+    let mut link = TcpLink::new(rt, at(39152), limit, limit);
+    let (served, answer) = thread::join(
+        &rt,
+        || echo_once(&listener).is_ok(),
+        || link.exchange(alloc, b"question", 7),
+    );
+    assert!(rt; served);
+    assert_eq!(rt; answer?.as_slice(), b"question".as_slice());
+    Ok(())
+}
+
+// The upstream takes the connection, by its system alone, and says nothing.
+#[test]
+fn a_silent_upstream_costs_the_limit(rt: HostRuntime) -> Result<(), Fail> {
+    let _listener = rt.bind(address_of(at(39153)))?;
+    let limit = Duration::from_millis(200);
+    let mut link = TcpLink::new(rt, at(39153), limit, limit);
+    let start = Instant::now(&rt)?;
+    assert!(rt;
+        matches!(
+            link.exchange(rt.alloc(), b"question", 7),
+            Err(LinkError::Failed)
+        )
+    );
+    let took = start.elapsed(&rt)?;
+    assert!(rt; took >= limit - Duration::from_millis(20), "{took:?}");
+    assert!(rt; took < Duration::from_secs(2), "{took:?}");
+    Ok(())
+}
+
+// Whether reading a frame fails, and how long it takes. The connection is closed then.
+fn read_fails<R: time::Clock + Drop>(
+    rt: &R,
+    alloc: Global,
+    mut source: TcpSource<R>,
+    sink: TcpSink<R>,
+) -> io::Result<(bool, Duration)> {
+    let start = Instant::now(rt)?;
+    let read = read_frame(alloc, &mut source);
+    drop(source);
+    drop(sink);
+    let failed = matches!(read, Err(FrameError::Fault(FrameFault::ReadFault)));
+    Ok((failed, start.elapsed(rt)?))
+}
+
+// Sends a frame of 100 bytes, one each 40 milliseconds, until the peer has closed.
+fn drip<R: time::Clock>(rt: &R, mut stream: &TcpStream) -> io::Result<()> {
+    stream.write_all(b"\0\x64")?;
+    for _ in 0..50u8 {
+        thread::sleep(rt, Duration::from_millis(40));
+        stream.write_all(b"x")?;
+    }
+    Ok(())
+}
+
+#[test]
+fn a_frame_that_drips_has_its_limit(rt: HostRuntime) -> Result<(), Fail> {
+    let alloc: Global = rt.alloc();
+    let (client, server) = pair(&rt, 39154)?;
+    let limit = Duration::from_millis(300);
+    let (source, sink) = sides_of(rt, alloc, server, CLIENT_BUFFER, Span::Frame, limit)?;
+    let (dripped, read) = thread::join(
+        &rt,
+        || drip(&rt, &client),
+        || read_fails(&rt, alloc, source, sink),
+    );
+    let (failed, took) = read?;
+    assert!(rt; failed);
+    assert!(rt; took >= limit - Duration::from_millis(20), "{took:?}");
+    assert!(rt; dripped.is_err());
+    Ok(())
+}
+
+#[test]
+fn a_silent_client_has_its_limit(rt: HostRuntime) -> Result<(), Fail> {
+    let (_client, server) = pair(&rt, 39155)?;
+    let limit = Duration::from_millis(100);
+    let (source, sink) = sides_of(rt, rt.alloc(), server, CLIENT_BUFFER, Span::Frame, limit)?;
+    let (failed, took) = read_fails(&rt, rt.alloc(), source, sink)?;
+    assert!(rt; failed);
+    assert!(rt; took < Duration::from_secs(2), "{took:?}");
+    Ok(())
+}
+
+// Frames are written to a client that reads none: once the system keeps no more of them, one fails.
+#[test]
+fn a_client_that_reads_nothing_has_its_limit(rt: HostRuntime) -> Result<(), Fail> {
+    let (_client, server) = pair(&rt, 39156)?;
+    let limit = Duration::from_millis(200);
+    let (_source, mut sink) = sides_of(rt, rt.alloc(), server, CLIENT_BUFFER, Span::Frame, limit)?;
+    let message = vec![in rt.alloc(); 0; 60_000]?;
+    assert_eq!(rt; message.len(), 60_000);
+    for _ in 0..400u32 {
+        if write_frame(&mut sink, &message).is_err() {
+            return Ok(());
+        }
+    }
+    Err("a limit".into())
+}
+
+#[test]
+fn a_length_goes_out_with_its_message(rt: HostRuntime) -> Result<(), Fail> {
+    let (mut client, server) = pair(&rt, 39157)?;
+    let limit = Duration::from_secs(1);
+    let (_source, mut sink) = sides_of(rt, rt.alloc(), server, CLIENT_BUFFER, Span::Frame, limit)?;
+    let mut frame = [0; 4];
+    assert_eq!(rt; sink.write(b"\0\x02")?, 2);
+    client.set_nonblocking(true)?;
+    assert!(rt; client.peek(&mut frame).is_err());
+    assert_eq!(rt; sink.write(b"hi")?, 2);
+    client.set_nonblocking(false)?;
+    client.read_exact(&mut frame)?;
+    assert_eq!(rt; frame.as_slice(), b"\0\x02hi".as_slice());
+    Ok(())
+}
+
+// Calls of wires that aren't bound, an upstream and a primary server that aren't there; and that server once it is.
+#[test]
+fn calls_fail_where_nobody_is(rt: HostRuntime) -> Result<(), Fail> {
+    let mut wires = NetWires::new(rt, rt.alloc());
+    assert!(rt; matches!(wires.next(), Err(WireError::Failed)));
+    assert!(rt; matches!(wires.replies(), Err(WireError::Failed)));
+    let mut link = wires.link(at(39158))?;
+    assert!(rt;
+        matches!(
+            link.exchange(rt.alloc(), b"question", 7),
+            Err(LinkError::Failed)
+        )
+    );
+    assert!(rt; matches!(wires.fetch(at(39158)), Err(WireError::Failed)));
+    let _primary = rt.bind(address_of(at(39158)))?;
+    assert!(rt; matches!(wires.fetch(at(39158)), Err(WireError::Failed)));
+    assert!(rt; NetWires::new(rt, rt.alloc()).fetch(at(39158)).is_ok());
+    Ok(())
+}
+
+// One server more than are known takes the place of the one that was noted first.
+#[test]
+fn servers_are_left_alone(rt: HostRuntime) -> Result<(), Fail> {
+    let mut backoff = Backoff::new(rt.alloc());
+    let now = Instant::now(&rt)?;
+    let until = now.checked_add(Duration::from_secs(1)).ok_or("a moment")?;
+    for port in 0..=BACKOFF_MOST as u16 {
+        backoff.leave_alone(at(port), until);
+    }
+    for (port, held) in [(0, false), (1, true), (BACKOFF_MOST as u16, true)] {
+        assert_eq!(rt; backoff.is_left_alone(at(port), now), held, "port {port}");
+    }
+    assert!(rt; !backoff.is_left_alone(at(1), until));
+    Ok(())
+}
+
+#[test]
+fn the_clock_runs_and_ids_differ(rt: HostRuntime) {
+    let mut clock = SystemClock::new(rt);
+    assert!(rt; clock.now() > 1_600_000_000);
+    assert!(rt; clock.another().now() > 1_600_000_000);
+    let mut ids = RandomIds::new(rt);
+    let mut others = ids.another();
+    let mut differ = 0u32;
+    for _ in 0..64u32 {
+        if ids.next_id() != others.next_id() {
+            differ = differ.saturating_add(1);
+        }
+    }
+    assert!(rt; differ > 32);
+}
