@@ -13,9 +13,9 @@ pub fn address_of(at: Endpoint) -> SocketAddr {
     SocketAddr::new(ip, at.port)
 }
 
-/// The endpoint of a socket address: its address and its port, without the flow label and the scope of version 6. So a peer at a
-/// link-local address (RFC 4291, section 2.5.6) can't be told from one on another link, and a reply to it isn't sent. An IPv4-mapped
-/// address (RFC 4291, section 2.5.5.2) stays one of version 6.
+/// The endpoint of a socket address: its address and its port, without the flow label and the scope of version 6. A reply to a
+/// link-local address (RFC 4291, section 2.5.6) fails, since it names no scope. An IPv4-mapped address (RFC 4291, section 2.5.5.2)
+/// stays one of version 6.
 pub fn endpoint_of(address: SocketAddr) -> Endpoint {
     let addr = match address.ip() {
         IpAddr::V4(ip) => Addr::V4(ip.to_bits()),

@@ -1,7 +1,5 @@
 //! Both sides of a connection.
 
-ghost use Rattle.std.specs.Prelude.{◌≡◌, IfOk};
-
 use crate::read_buffer::ReadBuffer;
 use crate::tcp_sink::TcpSink;
 use crate::tcp_source::TcpSource;

@@ -14,13 +14,14 @@ use std::{io, time};
 /// that follows, so that a frame mostly costs one system call and no packet of two bytes. The call that is given the last byte of a
 /// frame has sent all of it.
 ///
-/// Each error of the socket is a fault, and so is a wait that runs into the limit of time that the connection was made with.
+/// Each error of the socket is a fault, and so is a wait that runs into a limit. A client may take `FRAME_SECONDS` for a frame, a
+/// primary server `TRANSFER_SECONDS` for each write, and the upstream the time of the exchange.
 #[derive(Drop)]
 pub struct TcpSink<R: time::Clock + Drop> {
     rt: R,
     stream: Arc<TcpStream>,
     gauge: FrameGauge,
-    // The bytes of a length that are held back stand in front.
+    // The bytes of a length that have not gone out, so many, stand in front.
     length: [u8; 2],
     held_back: usize,
     time: TimeLimit,

@@ -1,6 +1,6 @@
 //! The reading side of a connection.
 
-ghost use Rattle.std.specs.Prelude.{◌≡◌, None, IfOk};
+ghost use Rattle.std.specs.Prelude.{◌≡◌, None};
 
 use crate::frame_gauge::FrameGauge;
 use crate::read_buffer::ReadBuffer;
@@ -13,7 +13,9 @@ use std::{io, time};
 /// The reading side of a TCP connection. It doesn't tell its bytes. It reads ahead, so that a frame mostly costs one system call, and
 /// gives at most the length or the message of one frame a call.
 ///
-/// Each error of the socket is a fault, and so is a wait that runs into the limit of time that the connection was made with.
+/// Each error of the socket is a fault, and so is a wait that runs into a limit. From a client a frame may take `FRAME_SECONDS`, from
+/// its first byte to its last, and so may the pause before it. From a primary server each wait may take `TRANSFER_SECONDS`. From the
+/// upstream everything must come within the limit of the exchange.
 #[derive(Drop)]
 pub struct TcpSource<R: time::Clock + Drop> {
     rt: R,

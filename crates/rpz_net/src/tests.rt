@@ -4,7 +4,9 @@ use crate::backoff::Backoff;
 use crate::connection::sides_of;
 use crate::limits::{BACKOFF_MOST, CLIENT_BUFFER};
 use crate::time_limit::Span;
-use crate::{NetWires, RandomIds, SystemClock, TcpLink, TcpSink, TcpSource, address_of};
+use crate::{
+    NetWires, RandomIds, SystemClock, TcpLink, TcpSink, TcpSource, address_of, endpoint_of,
+};
 use edge_io::{
     Arrival, Clock, Endpoint, FrameError, FrameFault, Ids, Link, LinkError, Replies, Sink,
     WireError, Wires, read_frame, write_frame,
@@ -12,7 +14,7 @@ use edge_io::{
 use ip_prefix::Addr;
 use std::alloc::Global;
 use std::io::{Read, Write};
-use std::net::{Net, TcpListener, TcpStream, UdpSocket};
+use std::net::{Net, SocketAddr, TcpListener, TcpStream, UdpSocket};
 use std::process::Abort;
 use std::test::Fail;
 use std::thread::Threads;
@@ -108,6 +110,8 @@ fn a_connection_comes<
     let mut back = [0; 13];
     client.read_exact(&mut back)?;
     assert_eq!(rt; back.as_slice(), FRAMES);
+    drop(client);
+    assert!(rt; read_frame(alloc, &mut source)?.is_none());
     Ok(())
 }
 
@@ -172,7 +176,7 @@ fn read_fails<R: time::Clock + Drop>(
 // Sends a frame of 100 bytes, one each 40 milliseconds, until the peer has closed.
 fn drip<R: time::Clock>(rt: &R, mut stream: &TcpStream) -> io::Result<()> {
     stream.write_all(b"\0\x64")?;
-    for _ in 0..50u8 {
+    for _ in 0..60u8 {
         thread::sleep(rt, Duration::from_millis(40));
         stream.write_all(b"x")?;
     }
@@ -273,6 +277,20 @@ fn servers_are_left_alone(rt: HostRuntime) -> Result<(), Fail> {
         assert_eq!(rt; backoff.is_left_alone(at(port), now), held, "port {port}");
     }
     assert!(rt; !backoff.is_left_alone(at(1), until));
+    Ok(())
+}
+
+#[test]
+fn endpoints_are_addresses(rt: HostRuntime) -> Result<(), Fail> {
+    let v6 = Endpoint {
+        addr: Addr::V6((0x2001_0db8 << 96) + 0x35),
+        port: 853,
+    };
+    for (endpoint, text) in [(at(53), "127.0.0.1:53"), (v6, "[2001:db8::35]:853")] {
+        let address = text.parse::<SocketAddr>()?;
+        assert_eq!(rt; address_of(endpoint), address);
+        assert_eq!(rt; endpoint_of(address), endpoint);
+    }
     Ok(())
 }
 

@@ -45,8 +45,8 @@ impl TimeLimit {
         self.frame_end = None;
     }
 
-    /// How long the socket has to be told to wait from now on; `None` where what it was told will do. `TimedOut` comes where no time
-    /// is left, and any error where the clock gives one. `idle` says that the wait is for the first byte of a frame.
+    /// How long the socket has to be told to wait from now on; `None` where what it was told last will do. `TimedOut` comes where no
+    /// time is left, and any error where the clock can't be read. `idle` says that the wait is for the first byte of a frame.
     pub(crate) fn next_wait<R: time::Clock>(
         &mut self,
         rt: &R,
