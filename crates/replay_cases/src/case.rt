@@ -2,10 +2,19 @@
 
 ghost use Rattle.std.specs.Prelude.{◌<◌};
 
-use edge_io::{ListSink, ListSource};
+use edge_io::{
+    ListClock, ListIds, ListLink, ListReplies, ListSink, ListSource, ListWires, TaskSpawner,
+};
 use rpz_program::run::run;
 use rpz_program::status::Status;
+use rpz_workers::Report;
 use std::alloc::{AllocError, Global};
+use std::collections::VecDeque;
+use std::sync::Wait;
+use std::thread::Threads;
+
+// Wires on which nothing comes.
+type NoWires = ListWires<ListSource, ListSink, ListLink, ListReplies<ListSource, ListSink>>;
 
 /// What the line before a script says of it.
 #[derive(Drop)]
@@ -49,10 +58,41 @@ impl Case {
     }
 
     /// Runs the script, and gives its name, its transcript and its status in lines.
-    pub fn run(&self, alloc: Global, script: Vec<u8>) -> Result<Vec<u8>, AllocError> {
+    pub fn run<R: Threads + Wait + Copy + Drop + Send + Sync + 'static>(
+        &self,
+        rt: R,
+        alloc: Global,
+        script: Vec<u8>,
+    ) -> Result<Vec<u8>, AllocError> {
         let mut source = ListSource::new(script, self.piece, Vec::new(alloc));
         let mut sink = ListSink::new(Vec::new(alloc), self.piece, Vec::new(alloc));
-        let status = run(alloc, &self.words, &mut source, &mut sink);
+        let mut wires: NoWires = ListWires::new(
+            alloc,
+            VecDeque::new(alloc),
+            VecDeque::new(alloc),
+            VecDeque::new(alloc),
+            VecDeque::new(alloc),
+            Vec::new(alloc),
+        );
+        let mut spawner: TaskSpawner<Report, R> = TaskSpawner::new(
+            rt,
+            alloc,
+            true,
+            Vec::new(alloc),
+        );
+        let mut clock = ListClock::new(alloc, VecDeque::new(alloc));
+        let mut ids = ListIds::new(alloc, VecDeque::new(alloc));
+        let status = run(
+            &rt,
+            alloc,
+            &self.words,
+            &mut source,
+            &mut sink,
+            &mut wires,
+            &mut spawner,
+            &mut clock,
+            &mut ids,
+        );
         let first = format!(in alloc; "case {}\n", self.name)?;
         let mut out = Vec::from_slice(alloc, first.as_bytes())?;
         out.extend_from_slice(&sink.bytes)?;

@@ -31,7 +31,7 @@ fn main(rt: HostRuntime) -> io::Result<ExitCode> {
         input.read_exact(&mut script)?;
         header.clear();
         input.read_line(&mut header)?;
-        out.write_all(case.run(alloc, script)?.as_slice())?;
+        out.write_all(case.run(rt, alloc, script)?.as_slice())?;
     }
     out.flush()?;
     Ok(ExitCode::SUCCESS)

@@ -1,13 +1,25 @@
-//! `rpz`: answers the queries of a script by a response policy zone (draft-vixie-dnsop-dns-rpz).
+//! `rpz`: answers queries by response policy zones (draft-vixie-dnsop-dns-rpz), those of a script or those of clients.
 #![tactic(auto)]
 
 #[cfg(test)]
-mod reading_tests;
+mod alone;
 #[cfg(test)]
-mod tests;
+mod cases;
+#[cfg(test)]
+mod gate;
+#[cfg(test)]
+mod outside;
+#[cfg(test)]
+mod reading;
+#[cfg(test)]
+mod replays;
+#[cfg(test)]
+mod runs;
 
-use edge_io::{ReaderSource, WriterSink};
+use edge_io::{ReaderSource, TaskSpawner, WriterSink};
+use rpz_net::{NetWires, RandomIds, SystemClock};
 use rpz_program::run::run;
+use rpz_workers::Report;
 use std::process::ExitCode;
 use std::{env, io};
 
@@ -16,7 +28,26 @@ fn main(rt: HostRuntime) -> io::Result<ExitCode> {
     let words: Vec<String> = env::args(&rt)?.skip(1).collect(alloc)?;
     let mut script = ReaderSource::new(rt.reader());
     let mut out = WriterSink::new(io::writer(&rt));
-    let status = run(alloc, &words, &mut script, &mut out);
+    let mut wires = NetWires::new(rt, alloc);
+    let mut spawner: TaskSpawner<Report, HostRuntime> = TaskSpawner::new(
+        rt,
+        alloc,
+        true,
+        Vec::new(alloc),
+    );
+    let mut clock = SystemClock::new(rt);
+    let mut ids = RandomIds::new(rt);
+    let status = run(
+        &rt,
+        alloc,
+        &words,
+        &mut script,
+        &mut out,
+        &mut wires,
+        &mut spawner,
+        &mut clock,
+        &mut ids,
+    );
     if let Some(text) = status.text(alloc)? {
         eprintln!(rt; "{text}")?;
     }

@@ -1,3 +1,9 @@
 pub mod Simulation
 pub mod RunSteps
 pub mod Reached
+pub mod ZonePolls
+pub mod Runs
+pub mod Numbers
+pub mod Kept
+pub mod Fetched
+pub mod Statuses

@@ -2,3 +2,8 @@ pub mod Script
 pub mod Stage
 pub mod Run
 pub mod Status
+pub mod PollLines
+pub mod Polls
+pub mod Serving
+pub mod Sums
+pub mod Wires

@@ -1,5 +1,5 @@
 -- How a run ends.
-use Rattle.std.specs.Prelude.{◌≡◌, ℕ, List, [], ◌∷◌, Option, Some, Result, Ok, Err, IsOk, IfSome, String, codes, string_bytes, ⊤}
+use Rattle.std.specs.Prelude.{◌≡◌, ℕ, List, [], Option, Some, Result, Ok, Err, IsOk, IfSome, String, true, ⊤}
 use Rattle.std.specs.declared.alloc.Global.{Global}
 use Rattle.edge_io.specs.Edge.{appended}
 use Rattle.script_loop.specs.declared.replay.Stop.{Stop}
@@ -10,13 +10,29 @@ use Rattle.script_codec.specs.declared.why.Why.{Why}
 use Rattle.script_loop.specs.Fold.{run_of}
 use Rattle.script_loop.specs.Lines.{whole_lines}
 use Rattle.script_loop.specs.Replay.{IsPrefix, Moves}
+use Rattle.clap.specs.Words.{subcommand_of, takes}
+use Rattle.rpz_words.specs.Words.{argv, command_of, rpz_app}
+use Rattle.rpz_words.specs.declared.command.Command.{Command}
+use Rattle.rpz_program.specs.Polls.{ConnectionViews, FeedState}
+use Rattle.rpz_program.specs.Serving.{StopsServing}
+use Rattle.rpz_program.specs.Status.{status_of_error}
+use Rattle.rpz_program.specs.declared.serve_error.ServeError.{ServeError}
+use Rattle.rpz_program.specs.declared.zone_source.ZoneSource.{ZoneSource}
 use Rattle.rpz_program.specs.Script.{ScriptWorld, start, step, too_many, too_long, transcript, verdict}
 
--- the one word `replay`
-abbrev pub IsReplay : List (String Global) → Type 0
-IsReplay [] = ⊥
-IsReplay (word ∷ []) = string_bytes word ≡ codes "replay"
-IsReplay (word ∷ other ∷ words) = ⊥
+-- what the words ask for; None where they are none of the command set
+abbrev pub command_in : List (String Global) → Option Command
+command_in words = command_of (subcommand_of rpz_app (argv words))
+
+-- the words are those of a command, as the command line's grammar takes them
+abbrev pub AreTaken : List (String Global) → Type 0
+AreTaken words = takes rpz_app (argv words) ≡ true
+
+-- a server's run that ended early has this status by why it ended
+pub record StopsBy {S K : Type 0} (status : Status) (views : ConnectionViews S K) (before : FeedState S K) (turns : ℕ) (zones : List ZoneSource) (held : Option (List ℕ)) : Type 0 where
+  pub why : ServeError
+  pub status_is : status ≡ status_of_error why
+  pub stops : StopsServing views why before turns zones held
 
 -- The script was read to its end, each line is of the form, and its transcript was written.
 abbrev pub IsWholeScript : List ℕ → Option (List ℕ) → Option (List ℕ) → Option (List ℕ) → Type 0

@@ -1,8 +1,13 @@
 -- What a run ends with, as the number of the process and as text on standard error.
-use Rattle.std.specs.Prelude.{ℕ, List, ◌++◌, Option, Some, None, codes, decimal}
+use Rattle.std.specs.Prelude.{ℕ, List, ◌++◌, Option, Some, None, Result, Ok, Err, codes, decimal}
 use Rattle.script_codec.specs.Why.{why_text}
+use Rattle.script_codec.specs.declared.why.Why.{Why}
+use Rattle.script_loop.specs.declared.replay.Stop.{Stop}
+use Rattle.script_loop.specs.declared.replay.Stop.TheVariants as stop
+use Rattle.rpz_program.specs.declared.serve_error.ServeError.{ServeError}
+use Rattle.rpz_program.specs.declared.serve_error.ServeError.TheVariants as error
 use Rattle.rpz_program.specs.declared.status.Status.{Status}
-use Rattle.rpz_program.specs.declared.status.Status.TheVariants.{Done, Usage, BadLine, ReadFault, WriteFault, OutOfMemory}
+use Rattle.rpz_program.specs.declared.status.Status.TheVariants.{Done, Usage, BadLine, ReadFault, WriteFault, SocketFault, StartFault, OutOfMemory}
 
 abbrev pub code_of : Status → ℕ
 code_of Done = 0
@@ -10,6 +15,8 @@ code_of Usage = 2
 code_of (BadLine number why) = 3
 code_of ReadFault = 4
 code_of WriteFault = 5
+code_of SocketFault = 6
+code_of StartFault = 7
 code_of OutOfMemory = 9
 
 -- nothing where the run is done
@@ -19,4 +26,30 @@ text_of Usage = Some (codes "rpz: usage")
 text_of (BadLine number why) = Some (codes "rpz: line " ++ (decimal number ++ (codes ": " ++ why_text why)))
 text_of ReadFault = Some (codes "rpz: read fault")
 text_of WriteFault = Some (codes "rpz: write fault")
+text_of SocketFault = Some (codes "rpz: socket fault")
+text_of StartFault = Some (codes "rpz: start fault")
 text_of OutOfMemory = Some (codes "rpz: out of memory")
+
+-- how a script ends a run before the script's end
+abbrev pub status_of_stop : Stop Why → Status
+status_of_stop (stop.BadLine line why) = BadLine line why
+status_of_stop stop.ReadFault = ReadFault
+status_of_stop stop.WriteFault = WriteFault
+status_of_stop stop.OutOfMemory = OutOfMemory
+
+-- how a script ends a run
+abbrev pub status_of_replay : Result (Unit {0}) (Stop Why) → Status
+status_of_replay (Ok u) = Done
+status_of_replay (Err why) = status_of_stop why
+
+-- how a server that stops early ends a run
+abbrev pub status_of_error : ServeError → Status
+status_of_error error.WriteFault = WriteFault
+status_of_error error.SocketFault = SocketFault
+status_of_error error.StartFault = StartFault
+status_of_error error.OutOfMemory = OutOfMemory
+
+-- how a server ends a run
+abbrev pub status_of_server : Result (Unit {0}) ServeError → Status
+status_of_server (Ok u) = Done
+status_of_server (Err why) = status_of_error why

@@ -5,7 +5,26 @@
 mod answering;
 pub mod laws;
 mod origins;
+mod poll_lines;
+mod polling;
+mod replaying;
 pub mod run;
+mod serve_error;
+mod server;
+mod serving;
 mod showing;
 mod stage;
+mod starting;
 pub mod status;
+mod sums;
+mod telling;
+mod turns;
+mod zone_source;
+mod zones;
+
+pub use replaying::replayed;
+pub use serve_error::ServeError;
+pub use server::serve;
+pub use sums::Sums;
+pub use turns::POLL_TURNS;
+pub use zone_source::ZoneSource;

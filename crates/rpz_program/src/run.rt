@@ -1,36 +1,57 @@
 //! A whole run.
 
-ghost use Rattle.std.specs.Prelude.{◌≡◌, ◌≢◌, ◌↔◌, ◌+◌, ◌-◌, ◌≤◌, ◌^◌, ℕ, [], Some, Err, IfErr, IfOk, IfSome, IsOk, IsTrue};
-ghost use Rattle.edge_io.specs.Edge.{appended, Rose};
-ghost use Rattle.script_loop.specs.Replay.{Blames, Moves, ReadsNoFurther};
-ghost use Rattle.rpz_program.specs.Run.{AnswersWholeLines, BeginsTranscript, Ends, IsFirstBadLine, IsReplay, IsVerdict, IsWholeScript};
-ghost use Rattle.rpz_program.specs.Script.{transcript, verdict};
+ghost use Rattle.std.specs.Prelude.{◌≡◌, ◌≢◌, ◌+◌, ◌-◌, ◌≤◌, ◌^◌, ℕ, Some, None, Err, IfSome, IsSome};
+ghost use Rattle.edge_io.specs.Edge.{Rose, appended};
+ghost use Rattle.edge_io.specs.Told.{one_more};
+ghost use Rattle.script_loop.specs.Replay.{Moves, ReadsNoFurther};
+ghost use Rattle.rpz_program.specs.Polls.{connection_views, feed_state, sources_from};
+ghost use Rattle.rpz_program.specs.Run.{AnswersWholeLines, AreTaken, BeginsTranscript, IsFirstBadLine, IsVerdict, IsWholeScript, StopsBy, command_in};
+ghost use Rattle.rpz_program.specs.Script.{verdict};
+ghost use Rattle.rpz_program.specs.Serving.{ServesWhole, linked_with, opening, origins_in, primaries_in};
+ghost use Rattle.rpz_words.specs.declared.command.Command.TheVariants.{Replay, Serve};
+ghost use Rattle.rpz_words.specs.declared.settings.Settings.{Settings};
 
-use crate::stage::Stage;
+use crate::replaying::replay_script;
+use crate::server::serve;
 use crate::status::Status;
-use edge_io::{Bytes, ListSink, Sink, Source};
-use script_codec::Why;
-use script_loop::replay::{Stop, replay};
-use std::alloc::{AllocError, Global};
+use edge_io::{Clock, Ids, Sink, Source, Spawner, Wires};
+use rpz_words::{Command, WordsError, read_words};
+use rpz_workers::Report;
+use std::alloc::Global;
+use std::sync::Wait;
+use std::thread::Threads;
 
-/// Runs the command that the words name: `replay` reads a script from the source, and writes a line for
-/// each output to the sink.
+/// Runs the command that the words ask for, which stand without the program's name.
 ///
-/// The transcript of a script says, line by line, what the policy after the transfers accepted so far
-/// answers. Each line is answered before more is read than the chunk that it came in.
-pub fn run<S: Source, K: Sink>(
+/// `replay` reads a script from the source and writes its transcript to the sink: line by line, what the policy after the transfers
+/// accepted so far answers. `serve` answers clients over the wires, with workers that the spawner runs, and writes the lines of its
+/// polls and of its end to the sink.
+pub fn run<
+    R: Threads + Wait + Copy + Drop + Send + Sync + 'static,
+    S: Source,
+    K: Sink,
+    W: Wires,
+    P: Spawner<Report>,
+    C: Clock + Drop + Send + 'static,
+    I: Ids + Drop + Send + 'static,
+>(
+    rt: &R,
     alloc: Global,
     words: &[String],
     script: &mut S,
     out: &mut K,
+    wires: &mut W,
+    spawner: &mut P,
+    clock: &mut C,
+    ids: &mut I,
 ) -> Status
-    // It needs the one word `replay`, and touches nothing without.
-    ensures usage { (result ≡ Status.Usage) ↔ (IsReplay words.now → ⊥) }
-    ensures untouched { result ≡ Status.Usage → (S.left script.new ≡ S.left script.old) ×
-        (K.held out.new ≡ K.held out.old) }
+    // The words are refused only where they are none of the command set, and then nothing is touched.
+    ensures usage { result ≡ Status.Usage → AreTaken words.now → command_in words.now ≡ None }
+    ensures command { result ≢ Status.Usage → result ≢ Status.OutOfMemory → IsSome (command_in words.now) }
+    ensures untouched { result ≡ Status.Usage → (S.left script.new ≡ S.left script.old) × (K.held out.new ≡ K.held out.old) }
 
     // The whole script was read, and its transcript written.
-    ensures done { result ≡ Status.Done → IfSome (S.left script.old) (λ bytes.
+    ensures done { result ≡ Status.Done → command_in words.now ≡ Some Replay → IfSome (S.left script.old) (λ bytes.
         IsWholeScript bytes (S.left script.new) (K.held out.old) (K.held out.new)) }
 
     // The line is the first that is refused, and the transcript up to it was written.
@@ -45,82 +66,53 @@ pub fn run<S: Source, K: Sink>(
     ensures read_fault { result ≡ Status.ReadFault →
         Moves (S.left script.old) (S.left script.new) (K.held out.old) (K.held out.new) AnswersWholeLines }
 
-    // Whatever happens, what was written begins the transcript of what was read.
-    ensures prefix { Moves (S.left script.old) (S.left script.new) (K.held out.old) (K.held out.new) BeginsTranscript }
-
-    // It blames the source or the sink only where a call on it failed.
-    ensures source_failed { result ≡ Status.ReadFault →
-        Rose (S.faults script.old) (S.faults script.new) }
-    ensures sink_failed { result ≡ Status.WriteFault → Rose (K.faults out.old) (K.faults out.new) }
+    // Whatever happens, what was written begins the transcript of what was read; nothing is polled or served.
+    ensures prefix { command_in words.now ≡ Some Replay →
+        Moves (S.left script.old) (S.left script.new) (K.held out.old) (K.held out.new) BeginsTranscript }
+    ensures alone { command_in words.now ≡ Some Replay → (wires.new ≡ wires.old) × (spawner.new ≡ spawner.old) }
 
     // With no fault and with memory, a script of the grammar is done, and another is refused at its first bad line.
-    ensures complete { IsReplay words.now → (Rose (S.faults script.old) (S.faults script.new) → ⊥) → (Rose (K.faults out.old) (K.faults out.new) → ⊥) →
+    ensures complete { command_in words.now ≡ Some Replay → AreTaken words.now →
+        (Rose (S.faults script.old) (S.faults script.new) → ⊥) → (Rose (K.faults out.old) (K.faults out.new) → ⊥) →
         result ≢ Status.OutOfMemory → IfSome (S.left script.old) (λ bytes. IsVerdict (verdict bytes) result) }
-{
-    if !is_replay(words) {
-        return Status::Usage;
-    }
-    match replay_script(alloc, script, out) {
-        Ok(()) => Status::Done,
-        Err(Stop::BadLine { line, why }) => Status::BadLine { line, why },
-        Err(Stop::ReadFault) => Status::ReadFault,
-        Err(Stop::WriteFault) => Status::WriteFault,
-        Err(Stop::OutOfMemory) => Status::OutOfMemory,
-    }
-}
 
-fn is_replay(words: &[String]) -> bool
-    ensures { IsTrue result ↔ IsReplay words.now }
+    // All zones were polled at the start and after each 64th arrival, the workers were gathered, and the line of their sums was written.
+    ensures served { result ≡ Status.Done → (settings : Settings) → command_in words.now ≡ Some (Serve settings) →
+        ServesWhole (connection_views W.In.left W.In.steady W.Out.held W.Out.steady)
+        (feed_state (opening (origins_in settings)) (W.fetches wires.old) (W.fetched wires.old)
+        (W.fetch_faults wires.old) (I.ids ids.old) (K.held out.old))
+        settings.turns (sources_from 1 (primaries_in settings)) (P.waiting spawner.old + settings.workers)
+        (P.gathered spawner.old) (P.gathered spawner.new) (K.held out.new) }
+    ensures bound { result ≡ Status.Done → (settings : Settings) → command_in words.now ≡ Some (Serve settings) →
+        W.bound wires.new ≡ one_more (W.bound wires.old) settings.listen }
+    ensures linked { result ≡ Status.Done → (settings : Settings) → command_in words.now ≡ Some (Serve settings) →
+        W.linked wires.new ≡ linked_with (W.linked wires.old) settings.upstream settings.workers }
+
+    // However a server ends, what was written begins such lines, and no worker that it started is left.
+    ensures stopped { result ≢ Status.Done → result ≢ Status.Usage → (settings : Settings) → command_in words.now ≡ Some (Serve settings) →
+        StopsBy result (connection_views W.In.left W.In.steady W.Out.held W.Out.steady)
+        (feed_state (opening (origins_in settings)) (W.fetches wires.old) (W.fetched wires.old)
+        (W.fetch_faults wires.old) (I.ids ids.old) (K.held out.old))
+        settings.turns (sources_from 1 (primaries_in settings)) (K.held out.new) }
+    ensures gathered { P.waiting spawner.new ≤ P.waiting spawner.old }
+
+    // It blames the source, the sink, a socket or a thread only where a call on it failed.
+    ensures source_failed { result ≡ Status.ReadFault → Rose (S.faults script.old) (S.faults script.new) }
+    ensures sink_failed { result ≡ Status.WriteFault → Rose (K.faults out.old) (K.faults out.new) }
+    ensures socket_failed { result ≡ Status.SocketFault → Rose (W.faults wires.old) (W.faults wires.new) }
+    ensures start_failed { result ≡ Status.StartFault → Rose (P.faults spawner.old) (P.faults spawner.new) }
+
+    // With no fault but of fetches, and with memory, a server is done.
+    ensures complete_server { (settings : Settings) → command_in words.now ≡ Some (Serve settings) → AreTaken words.now →
+        (Rose (K.faults out.old) (K.faults out.new) → ⊥) → (Rose (W.faults wires.old) (W.faults wires.new) → ⊥) →
+        (Rose (P.faults spawner.old) (P.faults spawner.new) → ⊥) → result ≢ Status.OutOfMemory → result ≡ Status.Done }
 {
-    match words {
-        [word] => word.as_str() == "replay",
-        _ => false,
+    match read_words(alloc, words) {
+        Ok(Command::Replay) => Status::of_replay(replay_script(alloc, script, out)),
+        Ok(Command::Serve(settings)) => Status::of_server(serve(
+            rt, alloc, &settings, wires, spawner, clock, ids, out,
+        )),
+        Err(WordsError::Usage) => Status::Usage,
+        Err(WordsError::OutOfMemory) => Status::OutOfMemory,
     }
-}
-
-// Answers the lines of a script in turn.
-fn replay_script<S: Source, K: Sink>(
-    alloc: Global,
-    script: &mut S,
-    out: &mut K,
-) -> Result<(), Stop<Why>>
-    ensures ends { Ends result (S.left script.old) (S.left script.new) (K.held out.old) (K.held out.new) }
-    ensures no_further { (line : ℕ) (why : Why) → result ≡ Err (Stop.BadLine line why) →
-        ReadsNoFurther line (S.left script.old) (S.left script.new) }
-    ensures prefix { Moves (S.left script.old) (S.left script.new) (K.held out.old) (K.held out.new) BeginsTranscript }
-    ensures fault { IfErr result
-        (λ stop. Blames stop (Rose (S.faults script.old) (S.faults script.new)) (Rose (K.faults out.old) (K.faults out.new))) }
-{
-    let mut stage = Stage::new(alloc);
-    replay(alloc, &mut stage, script, out)
-}
-
-/// The transcript of a script in memory, if no line of it is refused.
-pub fn replayed(alloc: Global, script: Vec<u8>) -> Result<Vec<u8>, Status>
-    ensures ok { IfOk result (λ out. IsOk (verdict script.items) ×
-        (out.items ≡ transcript script.items)) }
-    ensures bad_line { (line : ℕ) (why : _) → result ≡ Err (Status.BadLine line why) →
-        verdict script.items ≡ Err (line, why) }
-    ensures read_fault { result ≢ Err Status.ReadFault }
-    ensures not_done { result ≢ Err Status.Done }
-    ensures usage { result ≢ Err Status.Usage }
-{
-    let mut source = Bytes::new(script);
-    let mut sink = ListSink::new(Vec::new(alloc), 4096, Vec::new(alloc));
-    match replay_words(alloc) {
-        Ok(words) => match run(alloc, &words, &mut source, &mut sink) {
-            Status::Done => Ok(sink.bytes),
-            status => Err(status),
-        },
-        Err(_) => Err(Status::OutOfMemory),
-    }
-}
-
-// The one word `replay`.
-fn replay_words(alloc: Global) -> Result<Vec<String>, AllocError>
-    ensures { IfOk result (λ words. IsReplay words.items) }
-{
-    let mut words = Vec::new(alloc);
-    words.push(String::from_str(alloc, "replay")?)?;
-    Ok(words)
 }

@@ -1,15 +1,17 @@
 //! What a run ends with.
 
 ghost use Rattle.std.specs.Prelude.{◌≡◌, IfOk, option_map, string_bytes};
-ghost use Rattle.rpz_program.specs.Status.{code_of, text_of};
+ghost use Rattle.rpz_program.specs.Status.{code_of, status_of_replay, status_of_server, status_of_stop, text_of};
 
+use crate::serve_error::ServeError;
 use script_codec::Why;
+use script_loop::replay::Stop;
 use std::alloc::{AllocError, Global};
 
 /// What a run ends with.
 #[derive(Clone, Copy, Debug, PartialEq, Eq)]
 pub enum Status {
-    /// The script was read to its end.
+    /// The script was read to its end, or the server took all its turns.
     Done,
     /// The words of the command line are none that the program takes.
     Usage,
@@ -19,11 +21,50 @@ pub enum Status {
     ReadFault,
     /// A write of the output has failed.
     WriteFault,
+    /// A call on a socket has failed: the endpoint could not be bound, or no arrival comes.
+    SocketFault,
+    /// A worker could not be started.
+    StartFault,
     /// There was no memory.
     OutOfMemory,
 }
 
 impl Status {
+    /// How a script ends a run that stops before the script's end.
+    pub(crate) fn of_stop(stop: Stop<Why>) -> Status
+        ensures { result ≡ status_of_stop stop }
+    {
+        match stop {
+            Stop::BadLine { line, why } => Status::BadLine { line, why },
+            Stop::ReadFault => Status::ReadFault,
+            Stop::WriteFault => Status::WriteFault,
+            Stop::OutOfMemory => Status::OutOfMemory,
+        }
+    }
+
+    /// How a script ends a run.
+    pub(crate) fn of_replay(ended: Result<(), Stop<Why>>) -> Status
+        ensures { result ≡ status_of_replay ended }
+    {
+        match ended {
+            Ok(()) => Status::Done,
+            Err(stop) => Status::of_stop(stop),
+        }
+    }
+
+    /// How a server ends a run.
+    pub(crate) fn of_server(ended: Result<(), ServeError>) -> Status
+        ensures { result ≡ status_of_server ended }
+    {
+        match ended {
+            Ok(()) => Status::Done,
+            Err(ServeError::WriteFault) => Status::WriteFault,
+            Err(ServeError::SocketFault) => Status::SocketFault,
+            Err(ServeError::StartFault) => Status::StartFault,
+            Err(ServeError::OutOfMemory) => Status::OutOfMemory,
+        }
+    }
+
     /// The number that the process ends with.
     pub fn code(self) -> u8
         ensures { result ≡ code_of self }
@@ -34,6 +75,8 @@ impl Status {
             Status::BadLine { .. } => 3,
             Status::ReadFault => 4,
             Status::WriteFault => 5,
+            Status::SocketFault => 6,
+            Status::StartFault => 7,
             Status::OutOfMemory => 9,
         }
     }
@@ -50,6 +93,8 @@ impl Status {
             }
             Status::ReadFault => Ok(Some(String::from_str(alloc, "rpz: read fault")?)),
             Status::WriteFault => Ok(Some(String::from_str(alloc, "rpz: write fault")?)),
+            Status::SocketFault => Ok(Some(String::from_str(alloc, "rpz: socket fault")?)),
+            Status::StartFault => Ok(Some(String::from_str(alloc, "rpz: start fault")?)),
             Status::OutOfMemory => Ok(Some(String::from_str(alloc, "rpz: out of memory")?)),
         }
     }

@@ -1,5 +1,5 @@
 use Rattle.rpz_program.proofs.RunSteps.{ends_along, prefix_along}
-use Rattle.rpz_program.proofs.run.replay_script.Goals as goal
+use Rattle.rpz_program.proofs.replaying.replay_script.Goals as goal
 
 pub returns-clause-ends : goal.returns-clause-ends
 returns-clause-ends g c = ends_along c.replay.result c.replay.new.machine _ _ _ _ (rw c.new-stage.ensures at c.replay.ensures.ends)

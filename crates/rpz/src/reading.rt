@@ -2,9 +2,8 @@
 
 ghost use Rattle.std.specs.Prelude.{◌≡◌, None};
 
-use crate::tests::replay_words;
+use crate::alone::{replay_words, run_alone};
 use edge_io::{Failed, Sink, SinkError, Source};
-use rpz_program::run::run;
 use rpz_program::status::Status;
 use std::cell::Cell;
 use std::test::Fail;
@@ -73,7 +72,7 @@ fn each_line_is_answered_before_more_is_read(rt: HostRuntime) -> Result<(), Fail
     };
     let mut sink = CountingSink { written: &written };
     let words = replay_words(rt.alloc())?;
-    let status = run(rt.alloc(), &words, &mut source, &mut sink);
+    let status = run_alone(rt, rt.alloc(), &words, &mut source, &mut sink);
     assert_eq!(rt; status, Status::Done);
     assert_eq!(rt; written.get(), OUTPUT * 3);
     assert!(rt; !is_ahead.get());

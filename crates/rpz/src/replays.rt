@@ -1,11 +1,14 @@
 //! Runs whose reads and writes fail, and what is told of a status. What runs answer stands in scenarios/.
 
+use crate::alone::{replay_words, run_alone};
 use edge_io::{ListSink, ListSource};
 use rpz_program::laws::a_line_of_the_grammar_is_done;
-use rpz_program::run::{replayed, run};
+use rpz_program::replayed;
 use rpz_program::status::Status;
-use std::alloc::{AllocError, Global};
+use std::alloc::Global;
+use std::sync::Wait;
 use std::test::Fail;
+use std::thread::Threads;
 
 // A query without a byte, and one whose opcode isn't served: lines of 24 and 47 bytes.
 const SCRIPT: &[u8] = b"query 0 udp 192.0.2.7 -\nquery 1 udp 192.0.2.7 abcd11000000000000000000\n";
@@ -13,21 +16,16 @@ const SCRIPT: &[u8] = b"query 0 udp 192.0.2.7 -\nquery 1 udp 192.0.2.7 abcd11000
 // Their outputs: lines of 9 and 33 bytes.
 const OUTPUT: &[u8] = b"silent 0\nreply 1 abcd91840000000000000000\n";
 
-pub fn replay_words(alloc: Global) -> Result<Vec<String>, AllocError> {
-    let mut words = Vec::new(alloc);
-    words.push(String::from_str(alloc, "replay")?)?;
-    Ok(words)
-}
-
 // The status and the output of the script, read 10 bytes and written 5 bytes at a time, where these reads and writes fail.
-fn run_failing(
+fn run_failing<R: Threads + Wait + Copy + Drop + Send + Sync + 'static>(
+    rt: R,
     alloc: Global,
     reads: Vec<u64>,
     writes: Vec<u64>,
-) -> Result<(Status, Vec<u8>), AllocError> {
+) -> Result<(Status, Vec<u8>), Fail> {
     let mut source = ListSource::new(SCRIPT.to_vec(alloc)?, 10, reads);
     let mut sink = ListSink::new(Vec::new(alloc), 5, writes);
-    let status = run(alloc, &replay_words(alloc)?, &mut source, &mut sink);
+    let status = run_alone(rt, alloc, &replay_words(alloc)?, &mut source, &mut sink);
     Ok((status, sink.bytes))
 }
 
@@ -37,7 +35,7 @@ fn each_read_fails(rt: HostRuntime) -> Result<(), Fail> {
     let alloc = rt.alloc();
     for (call, written) in [0usize, 0, 0, 9, 9, 9, 9, 9, 42].iter().enumerate() {
         let failing = vec![in alloc; call as u64]?;
-        let (status, out) = run_failing(alloc, failing, Vec::new(alloc))?;
+        let (status, out) = run_failing(rt, alloc, failing, Vec::new(alloc))?;
         assert_eq!(rt; status, Status::ReadFault, "at {call}");
         assert_eq!(rt; out.as_slice(), &OUTPUT[..*written], "at {call}");
     }
@@ -50,7 +48,7 @@ fn each_write_fails(rt: HostRuntime) -> Result<(), Fail> {
     let alloc = rt.alloc();
     for (call, written) in [0usize, 5, 9, 14, 19, 24, 29, 34, 39].iter().enumerate() {
         let failing = vec![in alloc; call as u64]?;
-        let (status, out) = run_failing(alloc, Vec::new(alloc), failing)?;
+        let (status, out) = run_failing(rt, alloc, Vec::new(alloc), failing)?;
         assert_eq!(rt; status, Status::WriteFault, "at {call}");
         assert_eq!(rt; out.as_slice(), &OUTPUT[..*written], "at {call}");
     }
@@ -62,7 +60,7 @@ fn a_script_in_memory_is_replayed(rt: HostRuntime) -> Result<(), Fail> {
     // a law of its lines, which does nothing
     a_line_of_the_grammar_is_done();
     let alloc = rt.alloc();
-    let (status, out) = run_failing(alloc, Vec::new(alloc), Vec::new(alloc))?;
+    let (status, out) = run_failing(rt, alloc, Vec::new(alloc), Vec::new(alloc))?;
     assert_eq!(rt; status, Status::Done);
     assert_eq!(rt; out.as_slice(), OUTPUT);
     let got = replayed(alloc, SCRIPT.to_vec(alloc)?)
@@ -78,6 +76,8 @@ fn statuses_have_their_texts(rt: HostRuntime) -> Result<(), Fail> {
     for (status, code, text) in [
         (Status::ReadFault, 4, "rpz: read fault"),
         (Status::WriteFault, 5, "rpz: write fault"),
+        (Status::SocketFault, 6, "rpz: socket fault"),
+        (Status::StartFault, 7, "rpz: start fault"),
         (Status::OutOfMemory, 9, "rpz: out of memory"),
     ] {
         assert_eq!(rt; status.code(), code);

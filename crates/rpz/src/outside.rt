@@ -1,0 +1,103 @@
+//! What is outside a server, in memory: replies that come back over a channel, and links that may wait.
+
+ghost use Rattle.std.specs.Prelude.{None, ⊤};
+
+use crossbeam_channel::Sender;
+use dns_name::Octets;
+use edge_io::{Endpoint, Link, LinkError, ListSink, ListSource, Replies, SendError, StreamEnd};
+use std::alloc::Global;
+use std::sync::atomic::{AtomicBool, Ordering};
+use std::sync::{Arc, Wait};
+use std::thread;
+use std::time::{Clock, Duration};
+
+/// Whether something was done.
+pub type Flag = Arc<AtomicBool, Global>;
+
+/// How long a link waits at most, in milliseconds.
+const MOST_TURNS: u32 = 10_000;
+
+/// Replies that a channel takes. Each sets a flag.
+#[derive(Drop)]
+pub struct Posts<R: Wait + Drop> {
+    pub rt: R,
+    pub alloc: Global,
+    pub sender: Sender<Octets>,
+    pub replied: Flag,
+    pub faults: u64,
+}
+
+impl<R: Wait + Drop> Replies<ListSource, ListSink> for Posts<R> {
+    ghost sent = { λ _. None };
+
+    ghost closings = { λ _. None };
+
+    ghost faults = { λ r. r.faults };
+
+    fn send(&mut self, _peer: Endpoint, bytes: &[u8]) -> Result<(), SendError> {
+        let reply = Octets::from_slice(self.alloc, bytes)?;
+        let sent = self.sender.send(&self.rt, reply);
+        self.replied.store(true, Ordering::SeqCst);
+        match sent {
+            Ok(()) => Ok(()),
+            Err(_) => {
+                self.faults = self.faults.saturating_add(1);
+                Err(SendError::Failed)
+            }
+        }
+    }
+
+    fn close(&mut self, _source: ListSource, _sink: ListSink, _end: StreamEnd) {}
+}
+
+/// A link that gives the messages in turn, and fails behind the last. Before each it waits, if there is something to wait for.
+#[derive(Drop)]
+pub struct Upstream<R: Clock + Drop> {
+    pub rt: R,
+    pub messages: &'static [&'static [u8]],
+    pub given: usize,
+    pub awaited: Option<Flag>,
+    pub faults: u64,
+}
+
+impl<R: Clock + Drop> Upstream<R> {
+    // Whether what it waits for was done in time.
+    fn waits(&self) -> bool {
+        let Some(awaited) = &self.awaited else {
+            return true;
+        };
+        for _ in 0..MOST_TURNS {
+            if awaited.load(Ordering::SeqCst) {
+                return true;
+            }
+            thread::sleep(&self.rt, Duration::from_millis(1));
+        }
+        false
+    }
+
+    // The next message, in time.
+    fn next(&mut self) -> Option<&'static [u8]> {
+        let message = *self.messages.get(self.given)?;
+        self.given = self.given.saturating_add(1);
+        if self.waits() { Some(message) } else { None }
+    }
+}
+
+impl<R: Clock + Drop> Link for Upstream<R> {
+    ghost gave = { λ sent received now. ⊤ };
+
+    ghost faults = { λ link. link.faults };
+
+    fn exchange(&mut self, alloc: Global, _sent: &[u8], _now: u32) -> Result<Octets, LinkError> {
+        match self.next() {
+            Some(message) => match Octets::from_slice(alloc, message) {
+                Ok(message) => Ok(message),
+                Err(_) => Err(LinkError::OutOfMemory),
+            },
+            None => {
+                self.faults = self.faults.saturating_add(1);
+                Err(LinkError::Failed)
+            }
+        }
+    }
+}

@@ -1,0 +1,50 @@
+//! The command `replay`.
+
+ghost use Rattle.std.specs.Prelude.{◌≡◌, ◌≢◌, ◌+◌, ◌-◌, ◌≤◌, ◌^◌, ℕ, Err, IfErr, IfOk, IsOk};
+ghost use Rattle.edge_io.specs.Edge.{Rose};
+ghost use Rattle.script_loop.specs.Replay.{Blames, Moves, ReadsNoFurther};
+ghost use Rattle.rpz_program.specs.Run.{BeginsTranscript, Ends};
+ghost use Rattle.rpz_program.specs.Script.{transcript, verdict};
+
+use crate::stage::Stage;
+use crate::status::Status;
+use edge_io::{Bytes, ListSink, Sink, Source};
+use script_codec::Why;
+use script_loop::replay::{Stop, replay};
+use std::alloc::Global;
+
+/// Answers the lines of a script in turn, and writes a line for each output. Each line is answered before more is read than the chunk
+/// that it came in.
+pub(crate) fn replay_script<S: Source, K: Sink>(
+    alloc: Global,
+    script: &mut S,
+    out: &mut K,
+) -> Result<(), Stop<Why>>
+    ensures ends { Ends result (S.left script.old) (S.left script.new) (K.held out.old) (K.held out.new) }
+    ensures no_further { (line : ℕ) (why : Why) → result ≡ Err (Stop.BadLine line why) →
+        ReadsNoFurther line (S.left script.old) (S.left script.new) }
+    ensures prefix { Moves (S.left script.old) (S.left script.new) (K.held out.old) (K.held out.new) BeginsTranscript }
+    ensures fault { IfErr result
+        (λ stop. Blames stop (Rose (S.faults script.old) (S.faults script.new)) (Rose (K.faults out.old) (K.faults out.new))) }
+{
+    let mut stage = Stage::new(alloc);
+    replay(alloc, &mut stage, script, out)
+}
+
+/// The transcript of a script in memory, if no line of it is refused.
+pub fn replayed(alloc: Global, script: Vec<u8>) -> Result<Vec<u8>, Status>
+    ensures ok { IfOk result (λ out. IsOk (verdict script.items) ×
+        (out.items ≡ transcript script.items)) }
+    ensures bad_line { (line : ℕ) (why : _) → result ≡ Err (Status.BadLine line why) →
+        verdict script.items ≡ Err (line, why) }
+    ensures read_fault { result ≢ Err Status.ReadFault }
+    ensures not_done { result ≢ Err Status.Done }
+    ensures usage { result ≢ Err Status.Usage }
+{
+    let mut source = Bytes::new(script);
+    let mut sink = ListSink::new(Vec::new(alloc), 4096, Vec::new(alloc));
+    match replay_script(alloc, &mut source, &mut sink) {
+        Ok(()) => Ok(sink.bytes),
+        Err(stop) => Err(Status::of_stop(stop)),
+    }
+}

@@ -1,0 +1,125 @@
+//! How workers are started.
+
+ghost use Rattle.std.specs.Prelude.{◌≡◌, ◌≢◌, ◌≤◌, ◌+◌, Err, OnErr, OnOk, vec_len};
+ghost use Rattle.edge_io.specs.Edge.{Rose};
+ghost use Rattle.edge_io.specs.Told.{one_more};
+ghost use Rattle.rpz_program.specs.Serving.{linked_with};
+ghost use Rattle.rpz_program.specs.Wires.{FetchesNothing};
+
+use crate::serve_error::ServeError;
+use answer_cache::{AnswerCache, MOST_ENTRIES};
+use crossbeam_channel::{Sender, unbounded};
+use edge_io::{Clock, Endpoint, Ids, Spawner, StartError, WireError, Wires};
+use policy_publish::{PolicyReader, StoreName};
+use rpz_workers::{ChannelItems, Item, NoGate, Report, ServeTask, Worker};
+use std::alloc::Global;
+use std::hash::{BuildHasherDefault, FoldHasher};
+use std::sync::Wait;
+use std::thread::Threads;
+
+// A link to the upstream, and a place for replies.
+fn wire_worker<W: Wires>(wires: &mut W, upstream: Endpoint) -> Result<(W::Up, W::Back), ServeError>
+    ensures linked { OnOk result (W.linked wires.new ≡ one_more (W.linked wires.old) upstream) }
+    ensures bound { W.bound wires.new ≡ W.bound wires.old }
+    ensures fetches { FetchesNothing W.fetches W.fetched W.fetch_faults wires.old wires.new }
+    ensures count { W.faults wires.old ≤ W.faults wires.new }
+    ensures failed { result ≡ Err ServeError.SocketFault → Rose (W.faults wires.old) (W.faults wires.new) }
+    ensures not_start { result ≢ Err ServeError.StartFault }
+    ensures not_write { result ≢ Err ServeError.WriteFault }
+{
+    let link = match wires.link(upstream) {
+        Ok(link) => link,
+        Err(WireError::Failed) => return Err(ServeError::SocketFault),
+        Err(WireError::OutOfMemory) => return Err(ServeError::OutOfMemory),
+    };
+    match wires.replies() {
+        Ok(replies) => Ok((link, replies)),
+        Err(WireError::Failed) => Err(ServeError::SocketFault),
+        Err(WireError::OutOfMemory) => Err(ServeError::OutOfMemory),
+    }
+}
+
+// Starts a worker over a channel of its own, with an empty cache.
+fn start_worker<
+    N: StoreName + Send + Sync + 'static,
+    W: Wires,
+    P: Spawner<Report>,
+    C: Clock + Drop + Send + 'static,
+    I: Ids + Drop + Send + 'static,
+    R: Threads + Wait + Copy + Drop + Send + Sync + 'static,
+>(
+    rt: &R,
+    alloc: Global,
+    reader: PolicyReader<N>,
+    link: W::Up,
+    replies: W::Back,
+    spawner: &mut P,
+    clock: C,
+    ids: I,
+    workers: &mut Vec<Sender<Item<N, W::In, W::Out>>>,
+) -> Result<(), ServeError>
+    ensures ok { OnOk result (P.waiting spawner.new ≡ P.waiting spawner.old + 1) }
+    ensures err { OnErr result (P.waiting spawner.new ≡ P.waiting spawner.old) }
+    ensures gathered { P.gathered spawner.new ≡ P.gathered spawner.old }
+    ensures count { P.faults spawner.old ≤ P.faults spawner.new }
+    ensures failed { result ≡ Err ServeError.StartFault → Rose (P.faults spawner.old) (P.faults spawner.new) }
+    ensures not_socket { result ≢ Err ServeError.SocketFault }
+    ensures not_write { result ≢ Err ServeError.WriteFault }
+{
+    let hashers: BuildHasherDefault<FoldHasher> = BuildHasherDefault::new();
+    let cache = AnswerCache::open(alloc, MOST_ENTRIES, hashers)?;
+    let (sender, receiver) = unbounded(alloc)?;
+    workers.push(sender)?;
+    let worker = Worker::new(alloc, reader, cache, link, ids, NoGate);
+    let items = ChannelItems::new(*rt, receiver);
+    match spawner.start(rt, ServeTask::new(*rt, worker, items, replies, clock)) {
+        Ok(()) => Ok(()),
+        Err(StartError::Failed) => Err(ServeError::StartFault),
+        Err(StartError::OutOfMemory) => Err(ServeError::OutOfMemory),
+    }
+}
+
+/// Starts a worker for each reader, with a clock and IDs of its own.
+pub(crate) fn start_all<
+    N: StoreName + Send + Sync + 'static,
+    W: Wires,
+    P: Spawner<Report>,
+    C: Clock + Drop + Send + 'static,
+    I: Ids + Drop + Send + 'static,
+    R: Threads + Wait + Copy + Drop + Send + Sync + 'static,
+>(
+    rt: &R,
+    alloc: Global,
+    upstream: Endpoint,
+    readers: Vec<PolicyReader<N>>,
+    wires: &mut W,
+    spawner: &mut P,
+    clock: &mut C,
+    ids: &mut I,
+    workers: &mut Vec<Sender<Item<N, W::In, W::Out>>>,
+) -> Result<(), ServeError>
+    ensures linked { OnOk result (W.linked wires.new ≡ linked_with (W.linked wires.old) upstream (vec_len readers)) }
+    ensures waiting { OnOk result (P.waiting spawner.new ≡ P.waiting spawner.old + vec_len readers) }
+    ensures bound { W.bound wires.new ≡ W.bound wires.old }
+    ensures fetches { FetchesNothing W.fetches W.fetched W.fetch_faults wires.old wires.new }
+    ensures ids { I.ids ids.new ≡ I.ids ids.old }
+    ensures gathered { P.gathered spawner.new ≡ P.gathered spawner.old }
+    ensures wire_count { W.faults wires.old ≤ W.faults wires.new }
+    ensures start_count { P.faults spawner.old ≤ P.faults spawner.new }
+    ensures socket { result ≡ Err ServeError.SocketFault → Rose (W.faults wires.old) (W.faults wires.new) }
+    ensures start { result ≡ Err ServeError.StartFault → Rose (P.faults spawner.old) (P.faults spawner.new) }
+    ensures not_write { result ≢ Err ServeError.WriteFault }
+{
+    let mut readers = readers;
+    for _ in 0..readers.len() {
+        let Some(reader) = readers.pop() else {
+            return Err(ServeError::OutOfMemory);
+        };
+        let (link, replies) = wire_worker(wires, upstream)?;
+        let (own_clock, own_ids) = (clock.another(), ids.another());
+        start_worker::<N, W, P, C, I, R>(
+            rt, alloc, reader, link, replies, spawner, own_clock, own_ids, workers,
+        )?;
+    }
+    Ok(())
+}
