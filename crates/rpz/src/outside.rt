@@ -1,6 +1,6 @@
 //! What is outside a server, in memory: replies that come back over a channel, and links that may wait.
 
-ghost use Rattle.std.specs.Prelude.{None, ⊤};
+ghost use Rattle.std.specs.Prelude.{◌≡◌, None, ⊤};
 
 use crossbeam_channel::Sender;
 use dns_name::Octets;
@@ -76,7 +76,9 @@ impl<R: Clock + Drop> Upstream<R> {
     }
 
     // The next message, in time.
-    fn next(&mut self) -> Option<&'static [u8]> {
+    fn next(&mut self) -> Option<&'static [u8]>
+        ensures { self.new.faults ≡ self.old.faults }
+    {
         let message = *self.messages.get(self.given)?;
         self.given = self.given.saturating_add(1);
         if self.waits() { Some(message) } else { None }
