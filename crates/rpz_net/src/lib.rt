@@ -13,6 +13,7 @@ pub mod limits;
 mod net_wires;
 mod random_ids;
 mod read_buffer;
+mod server_replies;
 mod server_sockets;
 mod socket_option;
 mod system_clock;
@@ -22,13 +23,13 @@ mod tcp_source;
 #[cfg(test)]
 mod tests;
 mod time_limit;
-mod udp_replies;
+mod waiting;
 
 pub use address::{address_of, endpoint_of};
 pub use net_wires::NetWires;
 pub use random_ids::RandomIds;
+pub use server_replies::ServerReplies;
 pub use system_clock::SystemClock;
 pub use tcp_link::TcpLink;
 pub use tcp_sink::TcpSink;
 pub use tcp_source::TcpSource;
-pub use udp_replies::UdpReplies;

@@ -4,6 +4,21 @@
 /// byte to its last, and again for taking the reply.
 pub const FRAME_SECONDS: u64 = 5;
 
+/// How many connections of clients may wait for their next message. One more takes the place of the one that would be closed first.
+pub const WAITING_CONNECTIONS: usize = 400;
+
+/// How many messages of one connection are answered. Behind them it is closed.
+pub const CONNECTION_MESSAGES: u32 = 4_096;
+
+/// Milliseconds between two looks at which connections have waited too long.
+pub const LATE_MILLISECONDS: u64 = 250;
+
+/// How many connections are accepted in a row before something else has its turn.
+pub const ACCEPT_RUN: u32 = 64;
+
+/// How many events of the sockets are taken from the system at a time.
+pub const EVENTS: usize = 64;
+
 /// Seconds that one read from a primary server may wait, and one write to it.
 pub const TRANSFER_SECONDS: u64 = 10;
 
@@ -33,7 +48,8 @@ pub const DATAGRAM_RUN: u32 = 64;
 /// comes before.
 pub const SHORTAGE_MILLISECONDS: u64 = 10;
 
-/// The bytes that are read ahead of a connection of a client, and of an answer of the upstream.
+/// The bytes that are read ahead of a connection of a client, and of an answer of the upstream. A message of a client that is no
+/// longer than this, its length included, comes to a worker only when it is there whole.
 pub const CLIENT_BUFFER: usize = 4_096;
 
 /// The bytes that are read ahead of a connection to a primary server.

@@ -7,18 +7,19 @@ use crate::address::address_of;
 use crate::backoff::Backoff;
 use crate::connection::sides_of;
 use crate::limits::{
-    BACKOFF_SECONDS, CONNECT_SECONDS, TRANSFER_BUFFER, TRANSFER_SECONDS, UPSTREAM_ANSWER_SECONDS,
-    UPSTREAM_CONNECT_SECONDS,
+    BACKOFF_SECONDS, CONNECT_SECONDS, FRAME_SECONDS, TRANSFER_BUFFER, TRANSFER_SECONDS,
+    UPSTREAM_ANSWER_SECONDS, UPSTREAM_CONNECT_SECONDS,
 };
+use crate::server_replies::ServerReplies;
 use crate::server_sockets::{NetArrival, ServerSockets};
 use crate::tcp_link::TcpLink;
 use crate::tcp_sink::TcpSink;
 use crate::tcp_source::TcpSource;
 use crate::time_limit::{Span, moment_after};
-use crate::udp_replies::UdpReplies;
 use edge_io::{Endpoint, WireError, Wires};
 use std::alloc::Global;
 use std::net::{Net, TcpListener, TcpStream};
+use std::sync::Wait;
 use std::time::{Duration, Instant};
 use std::{io, time};
 
@@ -31,11 +32,11 @@ use std::{io, time};
 /// sends a reply from the address that it would choose, and not from the one that was asked.
 #[derive(Drop)]
 pub struct NetWires<
-    R: Net<Listener = TcpListener, Stream = TcpStream> + time::Clock + Copy + Drop,
+    R: Net<Listener = TcpListener, Stream = TcpStream> + time::Clock + Wait + Copy + Drop,
 > {
     rt: R,
     alloc: Global,
-    sockets: Option<ServerSockets>,
+    sockets: Option<ServerSockets<R>>,
     backoff: Backoff,
     fetch_faults: u64,
     faults: u64,
@@ -44,7 +45,13 @@ pub struct NetWires<
 }
 
 impl<
-    R: Net<Listener = TcpListener, Stream = TcpStream> + time::Clock + Copy + Drop + Send + 'static,
+    R: Net<Listener = TcpListener, Stream = TcpStream>
+        + time::Clock
+        + Wait
+        + Copy
+        + Drop
+        + Send
+        + 'static,
 > NetWires<R> {
     /// No endpoint is open yet, and no call has failed.
     pub fn new(rt: R, alloc: Global) -> Self
@@ -63,7 +70,9 @@ impl<
     }
 }
 
-impl<R: Net<Listener = TcpListener, Stream = TcpStream> + time::Clock + Copy + Drop> NetWires<R> {
+impl<
+    R: Net<Listener = TcpListener, Stream = TcpStream> + time::Clock + Wait + Copy + Drop,
+> NetWires<R> {
     // Counts a call that has failed.
     fn count_fault(&mut self)
         ensures fault { Rose self.old.faults self.new.faults }
@@ -116,7 +125,13 @@ fn open<R: Net<Stream = TcpStream> + time::Clock + Copy + Drop>(
 }
 
 impl<
-    R: Net<Listener = TcpListener, Stream = TcpStream> + time::Clock + Copy + Drop + Send + 'static,
+    R: Net<Listener = TcpListener, Stream = TcpStream>
+        + time::Clock
+        + Wait
+        + Copy
+        + Drop
+        + Send
+        + 'static,
 > Wires for NetWires<R> {
     type In = TcpSource<R>;
 
@@ -124,7 +139,7 @@ impl<
 
     type Up = TcpLink<R>;
 
-    type Back = UdpReplies;
+    type Back = ServerReplies<R>;
 
     ghost arrivals = { λ _. None };
 
@@ -141,7 +156,8 @@ impl<
     ghost faults = { λ w. w.faults };
 
     fn bind(&mut self, at: Endpoint) -> Result<(), WireError> {
-        match ServerSockets::open(&self.rt, self.alloc, at) {
+        let limit = Duration::from_secs(FRAME_SECONDS);
+        match ServerSockets::open(&self.rt, self.alloc, at, limit) {
             Ok(sockets) => {
                 self.sockets = Some(sockets);
                 Ok(())
@@ -193,14 +209,15 @@ impl<
         ))
     }
 
-    fn replies(&mut self) -> Result<UdpReplies, WireError> {
+    fn replies(&mut self) -> Result<ServerReplies<R>, WireError> {
         let replies = match &self.sockets {
-            Some(sockets) => sockets.replies().ok(),
-            None => None,
+            Some(sockets) => sockets.replies(self.rt),
+            None => Err(WireError::Failed),
         };
         match replies {
-            Some(replies) => Ok(replies),
-            None => {
+            Ok(replies) => Ok(replies),
+            Err(WireError::OutOfMemory) => Err(WireError::OutOfMemory),
+            Err(WireError::Failed) => {
                 self.count_fault();
                 Err(WireError::Failed)
             }

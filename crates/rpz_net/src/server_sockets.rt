@@ -1,24 +1,26 @@
 //! The sockets of the endpoint that is served.
 
 use crate::address::{address_of, endpoint_of};
-use crate::connection::sides_of;
+use crate::connection::{Sides, client_sides};
 use crate::limits::{
-    CLIENT_BUFFER, DATAGRAM_MAX, DATAGRAM_RUN, FRAME_SECONDS, PASSING_ERRORS, RECEIVE_BUFFER,
-    SHORTAGE_MILLISECONDS,
+    ACCEPT_RUN, DATAGRAM_MAX, DATAGRAM_RUN, EVENTS, LATE_MILLISECONDS, PASSING_ERRORS,
+    RECEIVE_BUFFER, SHORTAGE_MILLISECONDS,
 };
+use crate::server_replies::ServerReplies;
 use crate::socket_option::ask_receive_buffer;
 use crate::tcp_sink::TcpSink;
-use crate::tcp_source::TcpSource;
-use crate::time_limit::Span;
-use crate::udp_replies::UdpReplies;
+use crate::tcp_source::{Coming, TcpSource};
+use crate::waiting::WaitingConnections;
+use crossbeam_channel::{Receiver, Sender, unbounded};
 use dns_name::Octets;
 use edge_io::{Arrival, Endpoint, WireError};
 use mio::unix::SourceFd;
-use mio::{Events, Interest, Poll, Token};
-use std::alloc::Global;
+use mio::{Events, Interest, Poll, Token, Waker};
+use std::alloc::{AllocError, Global};
 use std::net::{Net, TcpListener, TcpStream, UdpSocket};
 use std::os::fd::AsRawFd;
-use std::time::Duration;
+use std::sync::{Arc, Wait};
+use std::time::{Duration, Instant};
 use std::{io, time};
 
 // The numbers of two errors of Linux that the libc of this kit doesn't name.
@@ -30,21 +32,36 @@ const DATAGRAMS: Token = Token(0);
 
 const CONNECTIONS: Token = Token(1);
 
+const RETURNS: Token = Token(2);
+
+// The token of the first place for a connection that waits.
+const FIRST_WAITING: usize = 3;
+
 /// What comes over these sockets.
 pub(crate) type NetArrival<R> = Arrival<TcpSource<R>, TcpSink<R>>;
 
-/// The sockets of the endpoint that is served, neither of which waits, and what waits for both.
+/// The sockets of the endpoint that is served, none of which waits, the connections of clients that wait for their next message, and
+/// what waits for all of them.
 #[derive(Drop)]
-pub(crate) struct ServerSockets {
+pub(crate) struct ServerSockets<R: time::Clock + Drop> {
     udp: UdpSocket,
     tcp: TcpListener,
     poll: Poll,
     events: Events,
     datagram: Vec<u8>,
-    // Connections may wait: the system has reported them, and has not refused one since.
+    waiting: WaitingConnections<R>,
+    // How long a client may take for a message.
+    limit: Duration,
+    // Connections that workers give back, and the other end.
+    returned: Receiver<Sides<R>>,
+    back: Sender<Sides<R>>,
+    waker: Arc<Waker>,
+    // New connections may be there: the system has reported them, and has not refused one since.
     connections_wait: bool,
     // How many datagrams were taken since the system was asked what waits, or connections had their turn.
     run: u32,
+    // When it is to be looked next which connections have waited too long.
+    next_look: Option<Instant>,
 }
 
 // Why a look at the sockets found nothing.
@@ -67,21 +84,28 @@ impl ArrivalError {
     }
 }
 
-impl ServerSockets {
-    /// Opens the endpoint for datagrams and for connections. `Failed` comes where it can't be.
-    pub(crate) fn open<R: Net<Listener = TcpListener, Stream = TcpStream>>(
+impl<
+    R: Net<Listener = TcpListener, Stream = TcpStream> + time::Clock + Wait + Copy + Drop,
+> ServerSockets<R> {
+    /// Opens the endpoint for datagrams and for connections, each of which may wait so long for a message. `Failed` comes where it
+    /// can't be.
+    pub(crate) fn open(
         rt: &R,
         alloc: Global,
         at: Endpoint,
+        limit: Duration,
     ) -> Result<Self, WireError> {
-        let Ok(events) = Events::with_capacity(alloc, 2) else {
-            return Err(WireError::OutOfMemory);
-        };
-        let Ok(datagram) = vec![in alloc; 0; DATAGRAM_MAX] else {
+        let Ok((events, datagram, waiting, (back, returned))) = rooms(alloc, limit) else {
             return Err(WireError::OutOfMemory);
         };
         let Ok((udp, tcp, poll)) = open_sockets(rt, at) else {
             return Err(WireError::Failed);
+        };
+        let Ok(waker) = Waker::new(poll.registry(), RETURNS) else {
+            return Err(WireError::Failed);
+        };
+        let Ok(waker) = Arc::new(alloc, waker) else {
+            return Err(WireError::OutOfMemory);
         };
         Ok(ServerSockets {
             udp,
@@ -89,19 +113,31 @@ impl ServerSockets {
             poll,
             events,
             datagram,
+            waiting,
+            limit,
+            returned,
+            back,
+            waker,
             connections_wait: false,
             run: 0,
+            next_look: None,
         })
     }
 
-    /// Sends replies from this endpoint.
-    pub(crate) fn replies(&self) -> io::Result<UdpReplies> {
-        Ok(UdpReplies::new(self.udp.try_clone()?))
+    /// Sends replies from this endpoint, and takes connections back.
+    pub(crate) fn replies(&self, rt: R) -> Result<ServerReplies<R>, WireError> {
+        let Ok(socket) = self.udp.try_clone() else {
+            return Err(WireError::Failed);
+        };
+        match (copied(&self.back), Arc::try_clone(&self.waker)) {
+            (Ok(back), Ok(waker)) => Ok(ServerReplies::new(rt, socket, back, waker)),
+            _ => Err(WireError::OutOfMemory),
+        }
     }
 
     /// Waits for the next datagram or connection, and counts the errors that it met. `Failed` comes after `PASSING_ERRORS` of them in
     /// this call; those of a shortage don't count for that.
-    pub(crate) fn next<R: time::Clock + Copy + Drop>(
+    pub(crate) fn next(
         &mut self,
         rt: R,
         alloc: Global,
@@ -126,34 +162,28 @@ impl ServerSockets {
         Err(WireError::Failed)
     }
 
-    // A look at both sockets, and a short wait where the system is short of something.
-    fn look_or_rest<R: time::Clock + Copy + Drop>(
+    // A look at the sockets; and where the system is short of something, the connection that would be closed first is closed, and a
+    // short wait follows.
+    fn look_or_rest(
         &mut self,
         rt: R,
         alloc: Global,
     ) -> Result<Option<NetArrival<R>>, ArrivalError> {
         match self.look(rt, alloc) {
             Err(ArrivalError::Shortage) => {
-                self.wait(Some(Duration::from_millis(SHORTAGE_MILLISECONDS)))?;
+                self.waiting.close_first();
+                self.wait(rt, Some(Duration::from_millis(SHORTAGE_MILLISECONDS)))?;
                 Err(ArrivalError::Shortage)
             }
             seen => seen,
         }
     }
 
-    // A look at both sockets, datagrams first; after a run of them connections have a turn. Where neither socket has anything, it
-    // waits for either.
-    fn look<R: time::Clock + Copy + Drop>(
-        &mut self,
-        rt: R,
-        alloc: Global,
-    ) -> Result<Option<NetArrival<R>>, ArrivalError> {
+    // A look at the sockets, datagrams first; after a run of them connections have a turn. Where nothing is there, it waits.
+    fn look(&mut self, rt: R, alloc: Global) -> Result<Option<NetArrival<R>>, ArrivalError> {
         if self.run >= DATAGRAM_RUN {
-            if !self.connections_wait {
-                self.wait(Some(Duration::ZERO))?;
-            }
-            self.run = 0;
-            if let Some(connection) = self.accept(rt, alloc)? {
+            self.wait(rt, Some(Duration::ZERO))?;
+            if let Some(connection) = self.connection(rt, alloc)? {
                 return Ok(Some(connection));
             }
         }
@@ -161,18 +191,26 @@ impl ServerSockets {
             self.run = self.run.saturating_add(1);
             return Ok(Some(datagram));
         }
-        if let Some(connection) = self.accept(rt, alloc)? {
+        if let Some(connection) = self.connection(rt, alloc)? {
             return Ok(Some(connection));
         }
-        self.wait(None)?;
+        self.wait(rt, self.longest_wait())?;
         Ok(None)
     }
 
+    // How long it may wait for something new.
+    fn longest_wait(&self) -> Option<Duration> {
+        if self.connections_wait || self.waiting.has_ready() {
+            Some(Duration::ZERO)
+        } else if self.waiting.is_empty() {
+            None
+        } else {
+            Some(Duration::from_millis(LATE_MILLISECONDS))
+        }
+    }
+
     // A datagram, where one is there.
-    fn receive<R: time::Clock + Copy + Drop>(
-        &mut self,
-        alloc: Global,
-    ) -> Result<Option<NetArrival<R>>, ArrivalError> {
+    fn receive(&mut self, alloc: Global) -> Result<Option<NetArrival<R>>, ArrivalError> {
         match self.udp.recv_from(&mut self.datagram) {
             Ok((len, peer)) => match Octets::from_slice(alloc, &self.datagram[..len]) {
                 Ok(bytes) => Ok(Some(Arrival::Datagram {
@@ -186,24 +224,40 @@ impl ServerSockets {
         }
     }
 
-    // A connection, where the system has reported one and it is still there.
-    fn accept<R: time::Clock + Copy + Drop>(
-        &mut self,
-        rt: R,
-        alloc: Global,
-    ) -> Result<Option<NetArrival<R>>, ArrivalError> {
-        if !self.connections_wait {
-            return Ok(None);
+    // A connection on which a message has come, where one is there.
+    fn connection(&mut self, rt: R, alloc: Global) -> Result<Option<NetArrival<R>>, ArrivalError> {
+        if let Some(sides) = self.waiting.take_ready(self.poll.registry()) {
+            return Ok(arrival_of(sides));
         }
-        match self.tcp.accept() {
-            Ok((stream, peer)) => {
-                let (source, sink) = sides_of_client(rt, alloc, stream)?;
-                Ok(Some(Arrival::Connection {
-                    source,
-                    sink,
-                    client: endpoint_of(peer),
-                }))
+        for _ in 0..ACCEPT_RUN {
+            if !self.connections_wait {
+                return Ok(None);
             }
+            if let Some(mut sides) = self.accept(rt, alloc)? {
+                match sides.0.look() {
+                    Coming::Message => return Ok(arrival_of(sides)),
+                    Coming::Nothing => self.put_back(rt, sides),
+                    Coming::End => {}
+                }
+            }
+        }
+        Ok(None)
+    }
+
+    // A new connection, where the system has reported one and it is still there.
+    fn accept(&mut self, rt: R, alloc: Global) -> Result<Option<Sides<R>>, ArrivalError> {
+        match self.tcp.accept() {
+            Ok((stream, peer)) => match client_sides(
+                rt,
+                alloc,
+                stream,
+                endpoint_of(peer),
+                self.limit,
+            ) {
+                Ok(sides) => Ok(Some(sides)),
+                Err(WireError::OutOfMemory) => Err(ArrivalError::OutOfMemory),
+                Err(WireError::Failed) => Err(ArrivalError::Socket),
+            },
             Err(error) if error.kind() == io::ErrorKind::WouldBlock => {
                 self.connections_wait = false;
                 Ok(None)
@@ -212,33 +266,84 @@ impl ServerSockets {
         }
     }
 
-    // Waits until either socket has something new, or for so long.
-    fn wait(&mut self, timeout: Option<Duration>) -> Result<(), ArrivalError> {
-        self.run = 0;
-        if self.poll.poll(&mut self.events, timeout).is_err() {
-            return Err(ArrivalError::Socket);
+    // The connection waits for its next message. It is closed where the clock can't be read.
+    fn put_back(&mut self, rt: R, sides: Sides<R>) {
+        if let Ok(now) = Instant::now(&rt) {
+            self.waiting.put(self.poll.registry(), sides, now);
         }
+    }
+
+    // Waits until something new is there, or for so long, and then looks at what came on connections that wait.
+    fn wait(&mut self, rt: R, timeout: Option<Duration>) -> Result<(), ArrivalError> {
+        self.run = 0;
+        let polled = self.poll.poll(&mut self.events, timeout);
+        let (Ok(()), Ok(now)) = (polled, Instant::now(&rt)) else {
+            return Err(ArrivalError::Socket);
+        };
         for event in self.events.iter() {
-            if event.token() == CONNECTIONS {
-                self.connections_wait = true;
+            match event.token() {
+                CONNECTIONS => self.connections_wait = true,
+                DATAGRAMS | RETURNS => {}
+                token => self.waiting.look(token, now),
             }
         }
+        self.take_returned(rt, now);
+        self.close_late(now);
         Ok(())
+    }
+
+    // Takes in the connections that workers gave back. What came on one since is seen as soon as it is registered.
+    fn take_returned(&mut self, rt: R, now: Instant) {
+        for _ in 0..u64::MAX {
+            match self.returned.try_recv(&rt) {
+                Ok(sides) => self.waiting.put(self.poll.registry(), sides, now),
+                Err(_) => return,
+            }
+        }
+    }
+
+    // Closes the connections that have waited too long, where it is time to look.
+    fn close_late(&mut self, now: Instant) {
+        if self.next_look.is_none_or(|next| next <= now) {
+            self.waiting.close_late(now);
+            self.next_look = now.checked_add(Duration::from_millis(LATE_MILLISECONDS));
+        }
     }
 }
 
-// Both sides of a client's connection.
-fn sides_of_client<R: time::Clock + Copy + Drop>(
-    rt: R,
+// Another handle to the channel over which workers give connections back.
+fn copied<R: time::Clock + Drop>(back: &Sender<Sides<R>>) -> Result<Sender<Sides<R>>, AllocError> {
+    Ok(back.clone()?)
+}
+
+// What comes of a connection on which a message has come.
+fn arrival_of<R: time::Clock + Drop>(sides: Sides<R>) -> Option<NetArrival<R>> {
+    let (source, sink) = sides;
+    let client = source.client()?;
+    Some(Arrival::Connection {
+        source,
+        sink,
+        client,
+    })
+}
+
+// The room that the sockets need.
+fn rooms<R: time::Clock + Drop>(
     alloc: Global,
-    stream: TcpStream,
-) -> Result<(TcpSource<R>, TcpSink<R>), ArrivalError> {
-    let limit = Duration::from_secs(FRAME_SECONDS);
-    match sides_of(rt, alloc, stream, CLIENT_BUFFER, Span::Frame, limit) {
-        Ok(sides) => Ok(sides),
-        Err(WireError::OutOfMemory) => Err(ArrivalError::OutOfMemory),
-        Err(WireError::Failed) => Err(ArrivalError::Socket),
-    }
+    limit: Duration,
+) -> Result<
+    (
+        Events,
+        Vec<u8>,
+        WaitingConnections<R>,
+        (Sender<Sides<R>>, Receiver<Sides<R>>),
+    ),
+    AllocError,
+> {
+    let events = Events::with_capacity(alloc, EVENTS)?;
+    let datagram = vec![in alloc; 0; DATAGRAM_MAX]?;
+    let waiting = WaitingConnections::new(alloc, FIRST_WAITING, limit)?;
+    Ok((events, datagram, waiting, unbounded(alloc)?))
 }
 
 // Both sockets, and what waits for them.

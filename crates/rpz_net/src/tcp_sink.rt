@@ -14,8 +14,8 @@ use std::{io, time};
 /// that follows, so that a frame mostly costs one system call and no packet of two bytes. The call that is given the last byte of a
 /// frame has sent all of it.
 ///
-/// Each error of the socket is a fault, and so is a wait that runs into a limit. A client may take `FRAME_SECONDS` for a frame, a
-/// primary server `TRANSFER_SECONDS` for each write, and the upstream the time of the exchange.
+/// Each error of the socket is a fault, and so is a wait that runs into a limit. A client may take `FRAME_SECONDS` for a frame that the
+/// system doesn't take at once, a primary server `TRANSFER_SECONDS` for each write, and the upstream the time of the exchange.
 #[derive(Drop)]
 pub struct TcpSink<R: time::Clock + Drop> {
     rt: R,
@@ -25,13 +25,17 @@ pub struct TcpSink<R: time::Clock + Drop> {
     length: [u8; 2],
     held_back: usize,
     time: TimeLimit,
+    // It is the side of a client, whose socket doesn't wait but for the rest of a frame that the system doesn't take at once.
+    of_client: bool,
+    // The socket doesn't wait.
+    is_quick: bool,
     faults: u64,
     ghost within: { held_back ≤ 2 },
 }
 
 impl<R: time::Clock + Drop> TcpSink<R> {
-    // Writes to a socket whose writes wait as the limit says.
-    pub(crate) fn new(rt: R, stream: Arc<TcpStream>, time: TimeLimit) -> Self
+    // Writes to a server over a socket whose writes wait as the limit says, or to a client over one that doesn't wait.
+    pub(crate) fn new(rt: R, stream: Arc<TcpStream>, time: TimeLimit, of_client: bool) -> Self
         ensures no_fault { ⟦<TcpSink<R> as Sink>⟧.faults result ≡ 0 }
     {
         TcpSink {
@@ -41,6 +45,8 @@ impl<R: time::Clock + Drop> TcpSink<R> {
             length: [0; 2],
             held_back: 0,
             time,
+            of_client,
+            is_quick: of_client,
             faults: 0,
         }
     }
@@ -84,7 +90,7 @@ impl<R: time::Clock + Drop> TcpSink<R> {
         }
     }
 
-    // Sends what is still held back, which is the length of a message of no bytes.
+    // Sends what is still held back, which is the length of a message of no bytes. The socket of a client doesn't wait then.
     fn end_frame(&mut self) -> io::Result<()>
         ensures { self.new.faults ≡ self.old.faults }
     {
@@ -92,6 +98,10 @@ impl<R: time::Clock + Drop> TcpSink<R> {
             self.send(&[])?;
         }
         self.time.end_frame();
+        if self.of_client && !self.is_quick {
+            self.stream.set_nonblocking(true)?;
+            self.is_quick = true;
+        }
         Ok(())
     }
 
@@ -114,7 +124,9 @@ impl<R: time::Clock + Drop> TcpSink<R> {
     fn send_once(&mut self, part: &[u8]) -> io::Result<usize>
         ensures { self.new.faults ≡ self.old.faults }
     {
-        if let Some(wait) = self.time.next_wait(&self.rt, false)? {
+        if !self.is_quick
+            && let Some(wait) = self.time.next_wait(&self.rt)?
+        {
             self.stream.set_write_timeout(Some(wait))?;
         }
         let pieces = [
@@ -123,6 +135,11 @@ impl<R: time::Clock + Drop> TcpSink<R> {
         ];
         match self.stream.write_vectored(&pieces) {
             Err(error) if error.kind() == io::ErrorKind::Interrupted => Ok(0),
+            Err(error) if self.is_quick && error.kind() == io::ErrorKind::WouldBlock => {
+                self.stream.set_nonblocking(false)?;
+                self.is_quick = false;
+                Ok(0)
+            }
             sent => sent,
         }
     }

@@ -3,19 +3,32 @@
 ghost use Rattle.std.specs.Prelude.{◌≡◌, None};
 
 use crate::frame_gauge::FrameGauge;
+use crate::limits::CONNECTION_MESSAGES;
 use crate::read_buffer::ReadBuffer;
 use crate::time_limit::TimeLimit;
-use edge_io::{Failed, Source};
+use edge_io::{Endpoint, Failed, Source};
 use std::net::TcpStream;
 use std::sync::Arc;
 use std::{io, time};
 
+/// What a connection of a client has for a worker.
+#[derive(Clone, Copy, Debug, PartialEq, Eq)]
+pub(crate) enum Coming {
+    /// A message, or the first part of a long one.
+    Message,
+    /// Nothing whole, for now.
+    Nothing,
+    /// Nothing more: the client has closed it, or the socket has an error, or as many messages came as are answered.
+    End,
+}
+
 /// The reading side of a TCP connection. It doesn't tell its bytes. It reads ahead, so that a frame mostly costs one system call, and
 /// gives at most the length or the message of one frame a call.
 ///
-/// Each error of the socket is a fault, and so is a wait that runs into a limit. From a client a frame may take `FRAME_SECONDS`, from
-/// its first byte to its last, and so may the pause before it. From a primary server each wait may take `TRANSFER_SECONDS`. From the
-/// upstream everything must come within the limit of the exchange.
+/// Each error of the socket is a fault, and so is a wait that runs into a limit. A connection of a client ends where no whole message
+/// is there, so that nobody waits for the next one; it may go on later. Only a message that is longer than what is read ahead is
+/// waited for, `FRAME_SECONDS` for all of it. From a primary server each wait may take `TRANSFER_SECONDS`. From the upstream
+/// everything must come within the limit of the exchange.
 #[derive(Drop)]
 pub struct TcpSource<R: time::Clock + Drop> {
     rt: R,
@@ -23,11 +36,25 @@ pub struct TcpSource<R: time::Clock + Drop> {
     buffer: ReadBuffer,
     gauge: FrameGauge,
     time: TimeLimit,
+    // Of a connection of a client.
+    client: Option<Client>,
+    // The socket doesn't wait.
+    is_quick: bool,
     faults: u64,
 }
 
+// A client, and how far its connection has come.
+#[derive(Clone, Copy, Debug)]
+struct Client {
+    at: Endpoint,
+    // How many messages came.
+    messages: u32,
+    // What was coming when the reader last stood between two messages.
+    coming: Coming,
+}
+
 impl<R: time::Clock + Drop> TcpSource<R> {
-    // Reads from a socket whose reads wait as the limit says.
+    // Reads from a server over a socket whose reads wait as the limit says.
     pub(crate) fn new(rt: R, stream: Arc<TcpStream>, buffer: ReadBuffer, time: TimeLimit) -> Self
         ensures no_fault { ⟦<TcpSource<R> as Source>⟧.faults result ≡ 0 }
     {
@@ -37,8 +64,93 @@ impl<R: time::Clock + Drop> TcpSource<R> {
             buffer,
             gauge: FrameGauge::new(),
             time,
+            client: None,
+            is_quick: false,
             faults: 0,
         }
+    }
+
+    // Reads from this client over a socket that doesn't wait.
+    pub(crate) fn of_client(self, at: Endpoint) -> Self
+        ensures kept { ⟦<TcpSource<R> as Source>⟧.faults result ≡ ⟦<TcpSource<R> as Source>⟧.faults self }
+    {
+        let client = Client {
+            at,
+            messages: 0,
+            coming: Coming::Nothing,
+        };
+        TcpSource {
+            client: Some(client),
+            is_quick: true,
+            ..self
+        }
+    }
+
+    /// The client, where it is a connection of one.
+    pub(crate) fn client(&self) -> Option<Endpoint> {
+        self.client.map(|client| client.at)
+    }
+
+    /// Whether it is a connection of a client that had no message when it was looked at last, and has not ended.
+    pub(crate) fn is_paused(&self) -> bool {
+        self.client
+            .is_some_and(|client| client.coming == Coming::Nothing)
+    }
+
+    /// Whether a part of a message is there.
+    pub(crate) fn has_part(&self) -> bool {
+        !self.buffer.is_empty()
+    }
+
+    /// The socket.
+    pub(crate) fn stream(&self) -> &TcpStream {
+        &self.stream
+    }
+
+    /// Looks at what comes next on a connection of a client, between two messages. It doesn't wait.
+    pub(crate) fn look(&mut self) -> Coming
+        ensures count { self.new.faults ≡ self.old.faults }
+    {
+        let coming = self.receive_ahead();
+        if let Some(client) = &mut self.client {
+            client.coming = coming;
+        }
+        coming
+    }
+
+    fn receive_ahead(&mut self) -> Coming
+        ensures count { self.new.faults ≡ self.old.faults }
+    {
+        if self.buffer.has_message() {
+            return Coming::Message;
+        }
+        match self.buffer.receive_more(&self.stream) {
+            Ok(0) => Coming::End,
+            Ok(_) if self.buffer.has_message() => Coming::Message,
+            Ok(_) => Coming::Nothing,
+            Err(error) if error.kind() == io::ErrorKind::WouldBlock => Coming::Nothing,
+            Err(_) => Coming::End,
+        }
+    }
+
+    // Whether a connection of a client has no message for now, or as many came as are answered. A message that comes is counted.
+    fn ends_here(&mut self) -> bool
+        ensures count { self.new.faults ≡ self.old.faults }
+    {
+        let Some(mut client) = self.client else {
+            return false;
+        };
+        client.coming = if client.messages < CONNECTION_MESSAGES {
+            self.receive_ahead()
+        } else {
+            Coming::End
+        };
+        let has_message = client.coming == Coming::Message;
+        if has_message {
+            client.messages = client.messages.saturating_add(1);
+        }
+        self.client = Some(client);
+        !has_message
     }
 
     // Receives what there is. At the end of the stream the buffer stays empty.
@@ -46,16 +158,31 @@ impl<R: time::Clock + Drop> TcpSource<R> {
         ensures count { self.new.faults ≡ self.old.faults }
     {
         for _ in 0..u64::MAX {
-            let idle = self.gauge.is_between_frames();
-            if let Some(wait) = self.time.next_wait(&self.rt, idle)? {
+            if !self.is_quick
+                && let Some(wait) = self.time.next_wait(&self.rt)?
+            {
                 self.stream.set_read_timeout(Some(wait))?;
             }
             match self.buffer.receive(&self.stream) {
                 Err(error) if error.kind() == io::ErrorKind::Interrupted => {}
+                Err(error) if self.is_quick && error.kind() == io::ErrorKind::WouldBlock => {
+                    self.stream.set_nonblocking(false)?;
+                    self.is_quick = false;
+                }
                 received => return received,
             }
         }
         Err(io::Error::from(io::ErrorKind::TimedOut))
+    }
+
+    // A frame was read to its end. The socket of a client doesn't wait then.
+    fn end_frame(&mut self)
+        ensures count { self.new.faults ≡ self.old.faults }
+    {
+        self.time.end_frame();
+        if self.client.is_some() && !self.is_quick {
+            self.is_quick = self.stream.set_nonblocking(true).is_ok();
+        }
     }
 }
 
@@ -67,6 +194,9 @@ impl<R: time::Clock + Drop> Source for TcpSource<R> {
     ghost steady = { λ _. ⊥ };
 
     fn read(&mut self, into: &mut [u8]) -> Result<usize, Failed> {
+        if self.gauge.is_between_frames() && self.ends_here() {
+            return Ok(0);
+        }
         if self.buffer.is_empty() && self.fill().is_err() {
             self.faults = self.faults.saturating_add(1);
             return Err(Failed);
@@ -75,7 +205,7 @@ impl<R: time::Clock + Drop> Source for TcpSource<R> {
         let n = self.buffer.take(&mut into[..most]);
         self.gauge.pass(&into[..n]);
         if self.gauge.is_between_frames() {
-            self.time.end_frame();
+            self.end_frame();
         }
         Ok(n)
     }

@@ -1,21 +1,24 @@
 //! Sockets on the loopback: what goes there and back, the limits of time, and calls that fail.
 
 use crate::backoff::Backoff;
-use crate::connection::sides_of;
+use crate::connection::client_sides;
 use crate::limits::{BACKOFF_MOST, CLIENT_BUFFER};
-use crate::time_limit::Span;
+use crate::server_sockets::ServerSockets;
+use crate::tcp_source::Coming;
 use crate::{
     NetWires, RandomIds, SystemClock, TcpLink, TcpSink, TcpSource, address_of, endpoint_of,
 };
+use dns_name::Octets;
 use edge_io::{
     Arrival, Clock, Endpoint, FrameError, FrameFault, Ids, Link, LinkError, Replies, Sink,
-    WireError, Wires, read_frame, write_frame,
+    StreamEnd, WireError, Wires, read_frame, write_frame,
 };
 use ip_prefix::Addr;
 use std::alloc::Global;
 use std::io::{Read, Write};
 use std::net::{Net, SocketAddr, TcpListener, TcpStream, UdpSocket};
 use std::process::Abort;
+use std::sync::Wait;
 use std::test::Fail;
 use std::thread::Threads;
 use std::time::{Duration, Instant};
@@ -54,6 +57,7 @@ fn datagrams_and_connections_come(rt: HostRuntime) -> Result<(), Fail> {
 fn a_datagram_comes<
     R: Net<Listener = TcpListener, Stream = TcpStream>
         + time::Clock
+        + Wait
         + Abort
         + Copy
         + Drop
@@ -68,24 +72,17 @@ fn a_datagram_comes<
     assert_eq!(rt; peer, at(39151));
     assert_eq!(rt; bytes.as_slice(), b"query".as_slice());
     let mut replies = wires.replies()?;
-    send_back::<R, _>(&mut replies, peer)?;
+    replies.send(peer, b"reply")?;
     let mut reply = [0; 8];
     let (len, from) = client.recv_from(&mut reply)?;
     assert_eq!(rt; (len, from), (5, address_of(at(39150))));
     Ok(())
 }
 
-fn send_back<R: time::Clock + Drop, P: Replies<TcpSource<R>, TcpSink<R>>>(
-    replies: &mut P,
-    peer: Endpoint,
-) -> Result<(), Fail> {
-    replies.send(peer, b"reply")?;
-    Ok(())
-}
-
 fn a_connection_comes<
     R: Net<Listener = TcpListener, Stream = TcpStream>
         + time::Clock
+        + Wait
         + Abort
         + Copy
         + Drop
@@ -173,9 +170,9 @@ fn read_fails<R: time::Clock + Drop>(
     Ok((failed, start.elapsed(rt)?))
 }
 
-// Sends a frame of 100 bytes, one each 40 milliseconds, until the peer has closed.
+// Sends what is read ahead of a long message, and then a byte of the rest each 40 milliseconds, until the peer has closed.
 fn drip<R: time::Clock>(rt: &R, mut stream: &TcpStream) -> io::Result<()> {
-    stream.write_all(b"\0\x64")?;
+    stream.write_all(&[0x20; CLIENT_BUFFER])?;
     for _ in 0..60u8 {
         thread::sleep(rt, Duration::from_millis(40));
         stream.write_all(b"x")?;
@@ -183,32 +180,126 @@ fn drip<R: time::Clock>(rt: &R, mut stream: &TcpStream) -> io::Result<()> {
     Ok(())
 }
 
+// Looks until something has come, for two seconds at most.
+fn wait_for_message<R: time::Clock + Drop>(rt: &R, source: &mut TcpSource<R>) -> Coming {
+    for _ in 0..2_000u32 {
+        let coming = source.look();
+        if coming != Coming::Nothing {
+            return coming;
+        }
+        thread::sleep(rt, Duration::from_millis(1));
+    }
+    Coming::Nothing
+}
+
 #[test]
-fn a_frame_that_drips_has_its_limit(rt: HostRuntime) -> Result<(), Fail> {
+fn a_message_that_drips_has_its_limit(rt: HostRuntime) -> Result<(), Fail> {
     let alloc: Global = rt.alloc();
     let (client, server) = pair(&rt, 39154)?;
     let limit = Duration::from_millis(300);
-    let (source, sink) = sides_of(rt, alloc, server, CLIENT_BUFFER, Span::Frame, limit)?;
+    let (mut source, sink) = client_sides(rt, alloc, server, at(0), limit)?;
     let (dripped, read) = thread::join(
         &rt,
         || drip(&rt, &client),
-        || read_fails(&rt, alloc, source, sink),
+        || {
+            let coming = wait_for_message(&rt, &mut source);
+            (coming, read_fails(&rt, alloc, source, sink))
+        },
     );
-    let (failed, took) = read?;
+    assert_eq!(rt; read.0, Coming::Message);
+    let (failed, took) = read.1?;
     assert!(rt; failed);
     assert!(rt; took >= limit - Duration::from_millis(20), "{took:?}");
     assert!(rt; dripped.is_err());
     Ok(())
 }
 
+// The bytes of the next datagram, or those of the next message of a connection, which is answered by itself; the connection goes
+// back then.
+fn next_bytes<
+    R: Net<Listener = TcpListener, Stream = TcpStream> + time::Clock + Wait + Copy + Drop,
+>(rt: R, alloc: Global, sockets: &mut ServerSockets<R>) -> Option<Octets> {
+    match sockets.next(rt, alloc, &mut 0).ok()? {
+        Arrival::Datagram { bytes, .. } => Some(bytes),
+        Arrival::Connection {
+            mut source,
+            mut sink,
+            ..
+        } => {
+            let message = read_frame(alloc, &mut source).ok()??;
+            write_frame(&mut sink, message.as_slice()).ok()?;
+            let end = match read_frame(alloc, &mut source).ok()? {
+                None => StreamEnd::End,
+                Some(_) => StreamEnd::Limit,
+            };
+            sockets.replies(rt).ok()?.close(source, sink, end);
+            Some(message)
+        }
+    }
+}
+
+// A connection comes when a whole message is there, and again with the next one; one that says nothing is closed.
 #[test]
-fn a_silent_client_has_its_limit(rt: HostRuntime) -> Result<(), Fail> {
-    let (_client, server) = pair(&rt, 39155)?;
-    let limit = Duration::from_millis(100);
-    let (source, sink) = sides_of(rt, rt.alloc(), server, CLIENT_BUFFER, Span::Frame, limit)?;
-    let (failed, took) = read_fails(&rt, rt.alloc(), source, sink)?;
-    assert!(rt; failed);
-    assert!(rt; took < Duration::from_secs(2), "{took:?}");
+fn connections_wait_for_their_messages(rt: HostRuntime) -> Result<(), Fail> {
+    let alloc: Global = rt.alloc();
+    let mut sockets = ServerSockets::open(&rt, alloc, at(39155), Duration::from_millis(300))?;
+    let peer = UdpSocket::bind(&rt, address_of(at(39159)))?;
+    let mut client = rt.connect(address_of(at(39155)))?;
+    for (sent, datagram, comes) in [
+        (b"".as_slice(), b"first".as_slice(), b"first".as_slice()),
+        (b"\0\x02h", b"second", b"second"),
+        (b"i", b"", b"hi"),
+        (b"\0\x02ho", b"", b"ho"),
+    ] {
+        client.write_all(sent)?;
+        if !datagram.is_empty() {
+            peer.send_to(datagram, address_of(at(39155)))?;
+        }
+        assert_eq!(rt;
+            next_bytes(rt, alloc, &mut sockets)
+                .ok_or("bytes")?
+                .as_slice(),
+            comes
+        );
+    }
+    is_closed(rt, alloc, &mut sockets, &peer, &client)
+}
+
+// Reads two replies of four bytes and then what more there is, within two seconds, and sends a datagram: how much more there was.
+fn read_all(mut client: &TcpStream, peer: &UdpSocket) -> io::Result<usize> {
+    client.set_read_timeout(Some(Duration::from_secs(2)))?;
+    client.read_exact(&mut [0; 8])?;
+    let more = client.read(&mut [0; 8])?;
+    peer.send_to(b"last", address_of(at(39155)))?;
+    Ok(more)
+}
+
+// The two replies are there, and then the connection is closed.
+fn is_closed<
+    R: Net<Listener = TcpListener, Stream = TcpStream>
+        + time::Clock
+        + Wait
+        + Threads
+        + Abort
+        + Copy
+        + Drop
+        + Send
+        + Sync
+        + 'static,
+>(
+    rt: R,
+    alloc: Global,
+    sockets: &mut ServerSockets<R>,
+    peer: &UdpSocket,
+    client: &TcpStream,
+) -> Result<(), Fail> {
+    let (left, last) = thread::join(
+        &rt,
+        || read_all(client, peer),
+        || next_bytes(rt, alloc, sockets),
+    );
+    assert_eq!(rt; left?, 0);
+    assert_eq!(rt; last.ok_or("bytes")?.as_slice(), b"last".as_slice());
     Ok(())
 }
 
@@ -217,7 +308,7 @@ fn a_silent_client_has_its_limit(rt: HostRuntime) -> Result<(), Fail> {
 fn a_client_that_reads_nothing_has_its_limit(rt: HostRuntime) -> Result<(), Fail> {
     let (_client, server) = pair(&rt, 39156)?;
     let limit = Duration::from_millis(200);
-    let (_source, mut sink) = sides_of(rt, rt.alloc(), server, CLIENT_BUFFER, Span::Frame, limit)?;
+    let (_source, mut sink) = client_sides(rt, rt.alloc(), server, at(0), limit)?;
     let message = vec![in rt.alloc(); 0; 60_000]?;
     assert_eq!(rt; message.len(), 60_000);
     for _ in 0..400u32 {
@@ -232,7 +323,7 @@ fn a_client_that_reads_nothing_has_its_limit(rt: HostRuntime) -> Result<(), Fail
 fn a_length_goes_out_with_its_message(rt: HostRuntime) -> Result<(), Fail> {
     let (mut client, server) = pair(&rt, 39157)?;
     let limit = Duration::from_secs(1);
-    let (_source, mut sink) = sides_of(rt, rt.alloc(), server, CLIENT_BUFFER, Span::Frame, limit)?;
+    let (_source, mut sink) = client_sides(rt, rt.alloc(), server, at(0), limit)?;
     let mut frame = [0; 4];
     assert_eq!(rt; sink.write(b"\0\x02")?, 2);
     client.set_nonblocking(true)?;

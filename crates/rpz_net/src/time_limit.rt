@@ -12,7 +12,7 @@ const SLACK: u32 = 8;
 pub(crate) enum Span {
     /// Each call by itself.
     Call,
-    /// Each frame, from its first byte to its last; and the wait for its first byte, by itself.
+    /// Each frame, from the first wait inside it to its last byte.
     Frame,
     /// All calls together, up to a moment.
     Whole(Instant),
@@ -40,19 +40,25 @@ impl TimeLimit {
         }
     }
 
+    /// A socket that was never told how long its calls may wait.
+    pub(crate) fn untold(span: Span, limit: Duration) -> Self {
+        TimeLimit {
+            span,
+            limit,
+            frame_end: None,
+            wait: Duration::ZERO,
+        }
+    }
+
     /// A frame has ended.
     pub(crate) fn end_frame(&mut self) {
         self.frame_end = None;
     }
 
     /// How long the socket has to be told to wait from now on; `None` where what it was told last will do. `TimedOut` comes where no
-    /// time is left, and any error where the clock can't be read. `idle` says that the wait is for the first byte of a frame.
-    pub(crate) fn next_wait<R: time::Clock>(
-        &mut self,
-        rt: &R,
-        idle: bool,
-    ) -> io::Result<Option<Duration>> {
-        let left = self.left(rt, idle)?;
+    /// time is left, and any error where the clock can't be read.
+    pub(crate) fn next_wait<R: time::Clock>(&mut self, rt: &R) -> io::Result<Option<Duration>> {
+        let left = self.left(rt)?;
         if self.wait >= left && self.wait <= left.saturating_add(self.limit / SLACK) {
             return Ok(None);
         }
@@ -61,11 +67,10 @@ impl TimeLimit {
     }
 
     // What is left for the next call. A frame's time begins with the first call inside it.
-    fn left<R: time::Clock>(&mut self, rt: &R, idle: bool) -> io::Result<Duration> {
+    fn left<R: time::Clock>(&mut self, rt: &R) -> io::Result<Duration> {
         match self.span {
             Span::Call => Ok(self.limit),
             Span::Whole(end) => time_until(rt, end),
-            Span::Frame if idle => Ok(self.limit),
             Span::Frame => match self.frame_end {
                 Some(end) => time_until(rt, end),
                 None => {
