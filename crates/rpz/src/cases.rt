@@ -31,8 +31,8 @@ pub struct Case {
 
 const ONE_WORKER: &str = "serve 127.0.0.1:5300 127.0.0.1:53 2 1 rpz.example@127.0.0.1:5301";
 
-// The transfer of `rpz.example` in one message of the ID 0 behind its length: the serial 1, and the row `bad.example` CNAME `.`.
-const TRANSFER: &[u8] = b"\0\x9b\0\0\x84\0\0\x01\0\x03\0\0\0\0\x03rpz\x07example\0\0\xfc\0\x01\
+/// The transfer of `rpz.example` in one message of the ID 0 behind its length: the serial 1, and the row `bad.example` CNAME `.`.
+pub const TRANSFER: &[u8] = b"\0\x9b\0\0\x84\0\0\x01\0\x03\0\0\0\0\x03rpz\x07example\0\0\xfc\0\x01\
     \x03rpz\x07example\0\0\x06\0\x01\0\0\0<\0\x16\0\0\0\0\0\x01\0\0\x0e\x10\0\0\x02X\0\x01Q\x80\0\0\0<\
     \x03bad\x07example\x03rpz\x07example\0\0\x05\0\x01\0\0\0<\0\x01\0\
     \x03rpz\x07example\0\0\x06\0\x01\0\0\0<\0\x16\0\0\0\0\0\x01\0\0\x0e\x10\0\0\x02X\0\x01Q\x80\0\0\0<";
@@ -44,11 +44,11 @@ const CURRENT: &[u8] = b"\0\x4a\0\0\x84\0\0\x01\0\x01\0\0\0\0\x03rpz\x07example\
 // Eleven bytes, one fewer than a header has.
 const SHORT: &[u8] = b"\x12\x34\x01\0\0\x01\0\0\0\0\0";
 
-// The query of the ID 4660 for the address of `BAD.example`.
-const DENIED: &[u8] = b"\x12\x34\x01\0\0\x01\0\0\0\0\0\0\x03BAD\x07example\0\0\x01\0\x01";
+/// The query of the ID 4660 for the address of `BAD.example`.
+pub const DENIED: &[u8] = b"\x12\x34\x01\0\0\x01\0\0\0\0\0\0\x03BAD\x07example\0\0\x01\0\x01";
 
-// Its reply: rcode 3, and the SOA of the policy zone in the additional section.
-const DENIAL: &[u8] = b"\x12\x34\x81\x83\0\x01\0\0\0\0\0\x01\x03BAD\x07example\0\0\x01\0\x01\
+/// Its reply: rcode 3, and the SOA of the policy zone in the additional section.
+pub const DENIAL: &[u8] = b"\x12\x34\x81\x83\0\x01\0\0\0\0\0\x01\x03BAD\x07example\0\0\x01\0\x01\
     \x03rpz\x07example\0\0\x06\0\x01\0\0\0<\0\x16\0\0\0\0\0\x01\0\0\x0e\x10\0\0\x02X\0\x01Q\x80\0\0\0<";
 
 // What the upstream gives for it, in a message of the ID 0, and the reply that is: 192.0.2.9.

@@ -8,6 +8,8 @@ mod cases;
 #[cfg(test)]
 mod gate;
 #[cfg(test)]
+mod loopback;
+#[cfg(test)]
 mod outside;
 #[cfg(test)]
 mod reading;

@@ -6,6 +6,7 @@ use crossbeam_channel::{Receiver, Sender, unbounded};
 use dns_name::Octets;
 use edge_io::{
     Arrival, Bytes, Endpoint, ListClock, ListIds, ListSink, ListSource, ListWires, TaskSpawner,
+    Wires,
 };
 use ip_prefix::Addr;
 use rpz_program::run::run;
@@ -135,11 +136,11 @@ fn wires<R: Threads + Wait + Clock + Copy + Drop + Send + Sync + 'static>(
 }
 
 /// Runs a line of words over wires, with workers in threads: how it ends, and what it writes, one byte a call.
-pub fn run_line<R: Threads + Wait + Clock + Copy + Drop + Send + Sync + 'static>(
+pub fn run_line<R: Threads + Wait + Clock + Copy + Drop + Send + Sync + 'static, W: Wires>(
     rt: R,
     alloc: Global,
     line: &str,
-    wires: &mut Memory<R>,
+    wires: &mut W,
     failing_start: u64,
     failing_write: u64,
 ) -> Result<(Status, Vec<u8>), Fail> {
