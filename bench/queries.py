@@ -1,9 +1,9 @@
 #!/usr/bin/env python3
 """How fast queries are answered by the rules of a zone, and how this changes with their number; and how fast by the cache.
 
-    python3 bench/queries.py QUERY_BENCH RPZ [--before OLD_QUERY_BENCH] [--cache]
+    python3 bench/queries.py BENCH_QUERIES RPZ [--before OLD_BENCH_QUERIES] [--cache]
 
-QUERY_BENCH and RPZ are the built programs query_bench and rpz; OLD_QUERY_BENCH an earlier one that read one zone alone,
+BENCH_QUERIES and RPZ are the built programs bench_queries and rpz; OLD_BENCH_QUERIES an earlier one that read one zone alone,
 whose times for 1,000,000 rules are then measured by turns with those of the new one. With --cache the last two tables
 alone are made.
 
@@ -11,12 +11,12 @@ Half of the rules of a zone are hK.gJ.example CNAME . and half *.wK.gJ.example C
 hits ask for names of the first kind, wildcard hits for x.wK.gJ.example, and passes for pK.gJ.example, which the server
 answers with one address, of TTL 0 so that each is asked for. The names are drawn at random, the same at each run.
 
-The first table is that of query_bench, which does with the lines of a script what `rpz replay` does, over zones that it
+The first table is that of bench_queries, which does with the lines of a script what `rpz replay` does, over zones that it
 reads from streams, for 1,000 and 1,000,000 rules: the queries per second once the zone is loaded. Then come 8 zones of
 1,000 rules of which the last one alone is hit. The next table is that of `rpz replay` itself for 1,000 rules and for as
 many as one line of a script holds, without the time of a script that has no queries. Each is the best of several runs.
 
-Then come cached passes: query_bench is first asked for names pK.gJ.example, and is given an answer of 1, 4 or 20 addresses
+Then come cached passes: bench_queries is first asked for names pK.gJ.example, and is given an answer of 1, 4 or 20 addresses
 for each, untimed. They are 4,000 at most, spread over the zone, of the 4,096 that the cache keeps. It is then asked for
 names that are drawn among them, in one run by turns with exact hits among as many names, exact hits among all names of the
 zone, and messages that are no queries, which get no reply: their time is about that of reading a line. All have an OPT
@@ -141,7 +141,7 @@ def write_lines(out, kind, count):
 
 
 def write_bench(out, kind, count):
-    """The input of query_bench over one zone: its transfer, an empty message, then the lines."""
+    """The input of bench_queries over one zone: its transfer, an empty message, then the lines."""
     write_transfer(out, rules(count))
     write_lines(out, kind, count)
 
@@ -293,7 +293,7 @@ def asking(turn, queries):
 
 
 def write_parts(out, count, parts):
-    """The input of query_bench over one zone: its transfer, an empty message, and parts of lines, an empty one between two."""
+    """The input of bench_queries over one zone: its transfer, an empty message, and parts of lines, an empty one between two."""
     write_transfer(out, rules(count))
     for place, part in enumerate(parts):
         out.write(framed(b"") if place else b"")
@@ -358,7 +358,7 @@ def cache_rates(program, count, records):
 
 
 def cache_table(program):
-    print("query_bench, cached passes by turns with exact hits")
+    print("bench_queries, cached passes by turns with exact hits")
     for count in BENCH_RULES:
         for records in RECORDS:
             rate = cache_rates(program, count, records)
@@ -408,26 +408,26 @@ def allocation_table(program):
 def rule_tables(wanted):
     if wanted.before:
         for kind in KINDS:
-            compare(wanted.query_bench, wanted.before, kind, BENCH_RULES[1])
-    table("query_bench", bench_rate, wanted.query_bench, BENCH_RULES)
+            compare(wanted.bench_queries, wanted.before, kind, BENCH_RULES[1])
+    table("bench_queries", bench_rate, wanted.bench_queries, BENCH_RULES)
     for kind in KINDS:
-        one = bench_rate(wanted.query_bench, kind, MANY_RULES)
-        many = many_rate(wanted.query_bench, kind, MANY_ZONES, MANY_RULES)
+        one = bench_rate(wanted.bench_queries, kind, MANY_RULES)
+        many = many_rate(wanted.bench_queries, kind, MANY_ZONES, MANY_RULES)
         print(f"{kind}: {many:.0f} queries/s with {MANY_ZONES} zones of {MANY_RULES} rules of which the last is hit, {one / many:.2f} times as long as with one")
     table("rpz replay", replay_rate, wanted.rpz, REPLAY_RULES)
 
 
 def main():
     parser = argparse.ArgumentParser()
-    parser.add_argument("query_bench")
+    parser.add_argument("bench_queries")
     parser.add_argument("rpz")
-    parser.add_argument("--before", help="an earlier query_bench, over one zone")
+    parser.add_argument("--before", help="an earlier bench_queries, over one zone")
     parser.add_argument("--cache", action="store_true", help="cached passes and allocations alone")
     wanted = parser.parse_args()
     if not wanted.cache:
         rule_tables(wanted)
-    cache_table(wanted.query_bench)
-    allocation_table(wanted.query_bench)
+    cache_table(wanted.bench_queries)
+    allocation_table(wanted.bench_queries)
 
 
 if __name__ == "__main__":

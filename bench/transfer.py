@@ -3,7 +3,7 @@
 
     python3 bench/transfer.py PROGRAM
 
-PROGRAM is the built program transfer_bench. Each stream is the transfer of the zone rpz.example in messages of at
+PROGRAM is the built program bench_transfers. Each stream is the transfer of the zone rpz.example in messages of at
 most 65,535 bytes, whose rows are hK.gJ.example.rpz.example CNAME . of 60 seconds, all different, with pointers as
 a primary sends them. They come in the canonical order of their owners (RFC 4034, section 6.1), in which a
 primary sends a zone, and then in an order that is shuffled, the same at each run. Prints for each order and for

@@ -43,7 +43,7 @@ abbrev pub is_own_name : Option PlainPattern → List ℕ → Bool
 is_own_name None rdata = false
 is_own_name (Some pattern) rdata = points_to rdata (own_name pattern)
 
--- the row is the answer
+-- the row as local data
 abbrev pub local_alone : PlainRow → Option Action
 local_alone row = Some (Local (local_row row ∷ []))
 

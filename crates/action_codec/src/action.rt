@@ -1,4 +1,4 @@
-//! What a rule does.
+//! The action of a rule.
 
 use crate::local::LocalRows;
 

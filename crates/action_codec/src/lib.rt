@@ -1,4 +1,4 @@
-//! What the rules of a response policy zone do (draft-vixie-dnsop-dns-rpz, section 3).
+//! The actions of the rules of a response policy zone (draft-vixie-dnsop-dns-rpz, section 3).
 #![tactic(auto)]
 
 mod action;

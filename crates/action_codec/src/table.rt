@@ -1,4 +1,4 @@
-//! From the rows of a rule to what it does.
+//! The action of a rule, by its rows.
 
 ghost use Rattle.std.specs.Prelude.{◌≡◌, List, [], ◌∷◌, map, length, option_copied, IfOk};
 ghost use Rattle.std.specs.List.{list_any};

@@ -14,7 +14,7 @@ use Rattle.lru.proofs.CallerLemmas.{Contains-lookup_entry}
 use Rattle.dns_message.specs.declared.question.Question.{Question}
 use Rattle.answer_cache.specs.Key.{key_of}
 use Rattle.upstream_link.specs.Vouched.{PlainLearned, life}
-use Rattle.answer_cache.specs.Recent.{is_about, without, touched, put_first, kept}
+use Rattle.answer_cache.specs.Recent.{is_about, without, after_look_up, put_first, after_keep}
 use Rattle.answer_cache.specs.Keyed.{IsKeyed, has}
 
 abbrev pub Pair : Type 0
@@ -95,7 +95,7 @@ module _ (question : Question) where
   front_values None rest es = refl
   front_values (Some f) rest es = refl
 
-  pub values-promoted : (es : List Pair) → IsKeyed es → values_of (promoted test es) ≡ touched question (values_of es)
+  pub values-promoted : (es : List Pair) → IsKeyed es → values_of (promoted test es) ≡ after_look_up question (values_of es)
   values-promoted es h =
       front_values (lookup_entry test es) (remove_entry test es) es
       ∙ ap (λ rest. option_map_or (λ entry. entry ∷ rest) (value (lookup_entry test es)) (values_of es)) (values-without es h)
@@ -138,7 +138,7 @@ module _ (key : Vec ℕ) (entry : PlainLearned) (is_key : key.items ≡ key_of e
       ∙ ap (λ (k : List ℕ). take c.cap (entry ∷ values_of (remove_entry (has k) c.entries))) is_key
       ∙ ap (λ l. take c.cap (entry ∷ l)) (values-without entry.question c.entries h)
 
-pub kept-is_put : (limit : ℕ) (entry : PlainLearned) (entries : List PlainLearned) → (life entry ≡ 0 → ⊥) → kept limit entry entries ≡ put_first limit entry entries
+pub kept-is_put : (limit : ℕ) (entry : PlainLearned) (entries : List PlainLearned) → (life entry ≡ 0 → ⊥) → after_keep limit entry entries ≡ put_first limit entry entries
 kept-is_put limit entry entries h =
     let other : (life entry == 0) ≡ false = elim (eqb_tells (life entry) 0) [ inl same ↦ absurd (h same.1) | inr differs ↦ differs.0 ] in
     ap (λ b. cond b entries (put_first limit entry entries)) other

@@ -6,7 +6,7 @@ use Rattle.std.proofs.lemmas.Bool.{cond_both}
 use Rattle.lru.proofs.Splits.{Contains-head, Contains-tail, Contains-cons}
 use Rattle.dns_message.specs.declared.question.Question.{Question}
 use Rattle.upstream_link.specs.Vouched.{PlainLearned, live}
-use Rattle.answer_cache.specs.Recent.{HaveSameEntries, found, if_live, is_about, touched, without}
+use Rattle.answer_cache.specs.Recent.{HaveSameEntries, live_entry, if_live, is_about, after_look_up, without}
 
 -- ---- a look-up
 
@@ -30,7 +30,7 @@ found_by question now es e (Some f) is h =
     let among = find_in question es f is in
     (subst (Contains es) one.0 among.0, subst (λ g. is_about question g ≡ true) one.0 among.1, subst (λ g. live now g ≡ true) one.0 one.1)
 
-pub found_in : (question : Question) (now : ℕ) (es : List PlainLearned) (e : PlainLearned) → found question now es ≡ Some e → Contains es e × (is_about question e ≡ true) × (live now e ≡ true)
+pub found_in : (question : Question) (now : ℕ) (es : List PlainLearned) (e : PlainLearned) → live_entry question now es ≡ Some e → Contains es e × (is_about question e ≡ true) × (live now e ≡ true)
 found_in question now es e h = found_by question now es e (find (is_about question) es) refl h
 
 -- ---- an entry that goes first
@@ -63,7 +63,7 @@ same_by question es (Some f) is x = (
   λ c. split_by question es f x is c,
 )
 
-pub touched_same : (question : Question) (es : List PlainLearned) → HaveSameEntries (touched question es) es
+pub touched_same : (question : Question) (es : List PlainLearned) → HaveSameEntries (after_look_up question es) es
 touched_same question es = same_by question es (find (is_about question) es) refl
 
 find_first : (question : Question) (f : PlainLearned) (rest : List PlainLearned) → is_about question f ≡ true → find (is_about question) (f ∷ rest) ≡ Some f
@@ -73,5 +73,5 @@ find_by : (question : Question) (es : List PlainLearned) (o : Option PlainLearne
 find_by question es None is = is
 find_by question es (Some f) is = find_first question f (without question es) (find_in question es f is).1
 
-pub found_touched : (question : Question) (now : ℕ) (es : List PlainLearned) → found question now (touched question es) ≡ found question now es
+pub found_touched : (question : Question) (now : ℕ) (es : List PlainLearned) → live_entry question now (after_look_up question es) ≡ live_entry question now es
 found_touched question now es = ap (if_live now) (find_by question es (find (is_about question) es) refl)

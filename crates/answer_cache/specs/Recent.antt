@@ -25,24 +25,24 @@ without question [] = []
 without question (entry ∷ entries) = if is_about question entry then entries else entry ∷ without question entries
 
 -- after a look-up: an entry about the question goes first, live or not
-abbrev pub touched : Question → List PlainLearned → List PlainLearned
-touched question entries = option_map_or (λ entry. entry ∷ without question entries) (find (is_about question) entries) entries
+abbrev pub after_look_up : Question → List PlainLearned → List PlainLearned
+after_look_up question entries = option_map_or (λ entry. entry ∷ without question entries) (find (is_about question) entries) entries
 
 abbrev pub if_live : ℕ → Option PlainLearned → Option PlainLearned
 if_live now None = None
 if_live now (Some entry) = if live now entry then Some entry else None
 
 -- what a look-up finds: an entry about the question that is live
-abbrev pub found : Question → ℕ → List PlainLearned → Option PlainLearned
-found question now entries = if_live now (find (is_about question) entries)
+abbrev pub live_entry : Question → ℕ → List PlainLearned → Option PlainLearned
+live_entry question now entries = if_live now (find (is_about question) entries)
 
 -- the new entry goes first, in place of one about its question, and at most so many stay
 abbrev pub put_first : ℕ → PlainLearned → List PlainLearned → List PlainLearned
 put_first limit entry entries = take limit (entry ∷ without entry.question entries)
 
 -- after a keep: what has a life of 0 isn't kept
-abbrev pub kept : ℕ → PlainLearned → List PlainLearned → List PlainLearned
-kept limit entry entries = if life entry == 0 then entries else put_first limit entry entries
+abbrev pub after_keep : ℕ → PlainLearned → List PlainLearned → List PlainLearned
+after_keep limit entry entries = if life entry == 0 then entries else put_first limit entry entries
 
 -- the entry is about the question, and live
 pub record Serves (question : Question) (now : ℕ) (entry : PlainLearned) : Type 0 where

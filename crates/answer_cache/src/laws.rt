@@ -6,7 +6,7 @@ ghost use Rattle.dns_message.specs.Spelling.{IsQuestion};
 ghost use Rattle.upstream_link.specs.Fact.{same_question};
 ghost use Rattle.upstream_link.specs.Vouched.{PlainLearned, live};
 ghost use Rattle.answer_cache.specs.Key.{key_of};
-ghost use Rattle.answer_cache.specs.Recent.{HaveSameEntries, found, is_about, touched};
+ghost use Rattle.answer_cache.specs.Recent.{HaveSameEntries, live_entry, is_about, after_look_up};
 
 /// Two questions have one key exactly where their names are alike, and their types and classes the same.
 pub fn questions_of_one_key_are_alike()
@@ -17,10 +17,10 @@ pub fn questions_of_one_key_are_alike()
 /// then finds the same.
 pub fn a_look_up_moves_an_entry_alone()
     ensures found { (question : Question) (now : ℕ) (entries : List PlainLearned) (entry : PlainLearned) →
-        found question now entries ≡ Some entry →
+        live_entry question now entries ≡ Some entry →
         Contains entries entry × (is_about question entry ≡ true) × (live now entry ≡ true) }
     ensures kept { (question : Question) (entries : List PlainLearned) →
-        HaveSameEntries (touched question entries) entries }
+        HaveSameEntries (after_look_up question entries) entries }
     ensures again { (question : Question) (now : ℕ) (entries : List PlainLearned) →
-        found question now (touched question entries) ≡ found question now entries }
+        live_entry question now (after_look_up question entries) ≡ live_entry question now entries }
 {}

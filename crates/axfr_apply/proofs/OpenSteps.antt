@@ -9,7 +9,7 @@ use Rattle.zone_rows.specs.declared.transfer.Transfer.{Transfer}
 use Rattle.zone_rows.specs.declared.transfer.Transfer.TheVariants.{Steps}
 use Rattle.axfr_apply.specs.Block.{Block, incremental_transfer, is_incremental, steps_to, transfer_of, whole_transfer}
 use Rattle.axfr_apply.specs.Gathered.{AreOpenSteps, steps_blocks}
-use Rattle.axfr_apply.specs.Reading.{begins}
+use Rattle.axfr_apply.specs.Reading.{soa_block}
 use Rattle.axfr_apply.proofs.StepBlocks.{new_of, old_of, one_step_more}
 
 -- some step reaches this serial
@@ -60,20 +60,20 @@ reads_on newest (step ∷ next ∷ steps) b bs e =
     (reads_on newest (next ∷ steps) b bs)
 
 -- the transfer stays incremental with blocks behind those that it has
-pub incremental_on : (soa : Soa) (bs more : List Block) → is_incremental (begins soa ∷ bs) ≡ true → is_incremental (begins soa ∷ (bs ++ more)) ≡ true
+pub incremental_on : (soa : Soa) (bs more : List Block) → is_incremental (soa_block soa ∷ bs) ≡ true → is_incremental (soa_block soa ∷ (bs ++ more)) ≡ true
 incremental_on soa [] more e = cc
 incremental_on soa (b ∷ bs) more e = e
 
 -- whether the transfer is incremental doesn't hang on the rows of its blocks behind the first
 same_start_one : (soa : Soa) (steps : List PlainStep) (from : Soa) (rows others : List PlainRow)
-    → is_incremental (begins soa ∷ (steps_blocks steps ++ record { soa = from; rows = rows } ∷ [])) ≡ true
-    → is_incremental (begins soa ∷ (steps_blocks steps ++ record { soa = from; rows = others } ∷ [])) ≡ true
+    → is_incremental (soa_block soa ∷ (steps_blocks steps ++ record { soa = from; rows = rows } ∷ [])) ≡ true
+    → is_incremental (soa_block soa ∷ (steps_blocks steps ++ record { soa = from; rows = others } ∷ [])) ≡ true
 same_start_one soa [] from rows others e = e
 same_start_one soa (step ∷ steps) from rows others e = e
 
 same_start_two : (soa : Soa) (steps : List PlainStep) (old new other : Block)
-    → is_incremental (begins soa ∷ (steps_blocks steps ++ old ∷ [] ++ new ∷ [])) ≡ true
-    → is_incremental (begins soa ∷ (steps_blocks steps ++ old ∷ [] ++ other ∷ [])) ≡ true
+    → is_incremental (soa_block soa ∷ (steps_blocks steps ++ old ∷ [] ++ new ∷ [])) ≡ true
+    → is_incremental (soa_block soa ∷ (steps_blocks steps ++ old ∷ [] ++ other ∷ [])) ≡ true
 same_start_two soa [] old new other e = e
 same_start_two soa (step ∷ steps) old new other e = e
 
@@ -120,15 +120,15 @@ open_with_added soa steps old to rows others o = record {
 
 -- the blocks of one step more, and a SOA behind them
 pub step_and_soa : (steps : List PlainStep) (step : PlainStep) (last : Soa)
-    → steps_blocks (steps ++ step ∷ []) ++ begins last ∷ [] ≡ steps_blocks steps ++ old_of step ∷ [] ++ new_of step ∷ [] ++ begins last ∷ []
-step_and_soa steps step last = ap (λ bs. bs ++ begins last ∷ []) (one_step_more steps step)
+    → steps_blocks (steps ++ step ∷ []) ++ soa_block last ∷ [] ≡ steps_blocks steps ++ old_of step ∷ [] ++ new_of step ∷ [] ++ soa_block last ∷ []
+step_and_soa steps step last = ap (λ bs. bs ++ soa_block last ∷ []) (one_step_more steps step)
 
 incremental_behind : (soa : Soa) (steps : List PlainStep) (step : PlainStep) (last : Soa)
     → AreOpenSteps soa (steps_blocks steps ++ old_of step ∷ [] ++ new_of step ∷ [])
-    → is_incremental (begins soa ∷ (steps_blocks (steps ++ step ∷ []) ++ begins last ∷ [])) ≡ true
+    → is_incremental (soa_block soa ∷ (steps_blocks (steps ++ step ∷ []) ++ soa_block last ∷ [])) ≡ true
 incremental_behind soa steps step last o =
-    ap (λ bs. is_incremental (begins soa ∷ bs)) (step_and_soa steps step last)
-    ∙ incremental_on soa (steps_blocks steps ++ old_of step ∷ [] ++ new_of step ∷ []) (begins last ∷ []) o.incremental
+    ap (λ bs. is_incremental (soa_block soa ∷ bs)) (step_and_soa steps step last)
+    ∙ incremental_on soa (steps_blocks steps ++ old_of step ∷ [] ++ new_of step ∷ []) (soa_block last ∷ []) o.incremental
 
 regroup : (bs : List Block) (old new last : Block) → bs ++ old ∷ [] ++ new ∷ [] ++ last ∷ [] ≡ bs ++ old ∷ new ∷ last ∷ []
 regroup bs old new last = append_assoc (bs ++ old ∷ []) (new ∷ []) (last ∷ []) ∙ append_assoc bs (old ∷ []) (new ∷ last ∷ [])
@@ -136,16 +136,16 @@ regroup bs old new last = append_assoc (bs ++ old ∷ []) (new ∷ []) (last ∷
 -- what is read of steps, one step more and a SOA
 reads_behind : (newest : ℕ) (steps : List PlainStep) (step : PlainStep) (last : Soa)
     → steps_to newest (steps_blocks steps ++ old_of step ∷ [] ++ new_of step ∷ []) ≡ None
-    → steps_to newest (steps_blocks (steps ++ step ∷ []) ++ begins last ∷ []) ≡ behind steps (one_more (step.new.serial == newest) step None)
+    → steps_to newest (steps_blocks (steps ++ step ∷ []) ++ soa_block last ∷ []) ≡ behind steps (one_more (step.new.serial == newest) step None)
 reads_behind newest steps step last e =
-    ap (steps_to newest) (step_and_soa steps step last ∙ regroup (steps_blocks steps) (old_of step) (new_of step) (begins last))
-    ∙ reads_on newest steps (old_of step) (new_of step ∷ begins last ∷ []) (not_reached_two newest steps (old_of step) (new_of step) e)
+    ap (steps_to newest) (step_and_soa steps step last ∙ regroup (steps_blocks steps) (old_of step) (new_of step) (soa_block last))
+    ∙ reads_on newest steps (old_of step) (new_of step ∷ soa_block last ∷ []) (not_reached_two newest steps (old_of step) (new_of step) e)
 
 -- the SOA behind a step to the newest version closes the transfer
 pub closed_behind : (soa : Soa) (steps : List PlainStep) (step : PlainStep) (last : Soa)
     → AreOpenSteps soa (steps_blocks steps ++ old_of step ∷ [] ++ new_of step ∷ []) → step.new.serial ≡ soa.serial
-    → (is_incremental (begins soa ∷ (steps_blocks (steps ++ step ∷ []) ++ begins last ∷ [])) ≡ true)
-    × (steps_to soa.serial (steps_blocks (steps ++ step ∷ []) ++ begins last ∷ []) ≡ Some (steps ++ step ∷ []))
+    → (is_incremental (soa_block soa ∷ (steps_blocks (steps ++ step ∷ []) ++ soa_block last ∷ [])) ≡ true)
+    × (steps_to soa.serial (steps_blocks (steps ++ step ∷ []) ++ soa_block last ∷ []) ≡ Some (steps ++ step ∷ []))
 closed_behind soa steps step last o e = (
   incremental_behind soa steps step last o,
   reads_behind soa.serial steps step last o.not_closed ∙ ap (λ b. behind steps (one_more b step None)) (eq-eqb step.new.serial soa.serial e),
@@ -154,7 +154,7 @@ closed_behind soa steps step last o e = (
 -- the SOA behind a step to another version begins the next step
 pub open_behind : (soa : Soa) (steps : List PlainStep) (step : PlainStep) (last : Soa)
     → AreOpenSteps soa (steps_blocks steps ++ old_of step ∷ [] ++ new_of step ∷ []) → step.new.serial ≢ soa.serial
-    → AreOpenSteps soa (steps_blocks (steps ++ step ∷ []) ++ begins last ∷ [])
+    → AreOpenSteps soa (steps_blocks (steps ++ step ∷ []) ++ soa_block last ∷ [])
 open_behind soa steps step last o ne = record {
   incremental = incremental_behind soa steps step last o;
   not_closed =
@@ -167,7 +167,7 @@ read_incremental true one other e = refl
 read_incremental false one other e = cc
 
 -- open steps are no transfer yet
-pub open_is_none : (soa : Soa) (bs : List Block) → AreOpenSteps soa bs → transfer_of (begins soa ∷ bs) ≡ None
+pub open_is_none : (soa : Soa) (bs : List Block) → AreOpenSteps soa bs → transfer_of (soa_block soa ∷ bs) ≡ None
 open_is_none soa bs o =
-    read_incremental (is_incremental (begins soa ∷ bs)) (incremental_transfer (begins soa ∷ bs)) (whole_transfer (begins soa ∷ bs)) o.incremental
+    read_incremental (is_incremental (soa_block soa ∷ bs)) (incremental_transfer (soa_block soa ∷ bs)) (whole_transfer (soa_block soa ∷ bs)) o.incremental
     ∙ ap (option_map Steps) o.not_closed

@@ -4,12 +4,12 @@ use Rattle.std.proofs.Common.{ap, sym, ◌∙◌}
 use Rattle.std.proofs.lemmas.Bool.{true≢false}
 use Rattle.std.specs.Result.{is_ok}
 use Rattle.dns_record.specs.declared.soa.Soa.{Soa}
-use Rattle.axfr_apply.specs.declared.asked.Wanted.{Wanted}
+use Rattle.axfr_apply.specs.declared.transfer_request.Wanted.{Wanted}
 use Rattle.axfr_apply.specs.declared.fault.TransferFault.{TransferFault}
 use Rattle.axfr_apply.specs.Block.{Block, is_incremental}
 use Rattle.axfr_apply.specs.Checks.{fault_or}
 use Rattle.axfr_apply.specs.Gathered.{AreOpenSteps, adding_blocks, deleting_blocks}
-use Rattle.axfr_apply.specs.Reading.{End, begins, behind_step_fault, close_fault, forward_fault, soa_end, step_soa_fault}
+use Rattle.axfr_apply.specs.Reading.{End, soa_block, behind_step_fault, close_fault, forward_fault, soa_end, step_soa_fault}
 use Rattle.axfr_apply.specs.Stepping.{PlainAdding, PlainDeleting}
 use Rattle.axfr_apply.proofs.OpenSteps.{incremental_on}
 use Rattle.axfr_apply.proofs.StepBlocks.{fault_behind_one, fault_behind_two}
@@ -19,22 +19,22 @@ fault_if true one other e = refl
 fault_if false one other e = cc
 
 behind_open : (wanted : Wanted) (alone : Bool) (soa : Soa) (bs : List Block) (next : Soa) → AreOpenSteps soa bs
-    → soa_end wanted alone (begins soa ∷ bs) next ≡ option_map Err (step_soa_fault wanted soa.serial bs next.serial)
+    → soa_end wanted alone (soa_block soa ∷ bs) next ≡ option_map Err (step_soa_fault wanted soa.serial bs next.serial)
 behind_open wanted alone soa bs next o =
     ap (option_map Err)
-    (fault_if (is_incremental (begins soa ∷ (bs ++ begins next ∷ []))) (step_soa_fault wanted soa.serial bs next.serial)
-    (close_fault soa.serial next.serial) (incremental_on soa bs (begins next ∷ []) o.incremental))
+    (fault_if (is_incremental (soa_block soa ∷ (bs ++ soa_block next ∷ []))) (step_soa_fault wanted soa.serial bs next.serial)
+    (close_fault soa.serial next.serial) (incremental_on soa bs (soa_block next ∷ []) o.incremental))
 
 -- the SOA of a new version
 pub end_by_version : (wanted : Wanted) (alone : Bool) (soa : Soa) (step : PlainDeleting) (next : Soa) → AreOpenSteps soa (deleting_blocks step)
-    → soa_end wanted alone (begins soa ∷ deleting_blocks step) next ≡ option_map Err (forward_fault step.from.serial next.serial)
+    → soa_end wanted alone (soa_block soa ∷ deleting_blocks step) next ≡ option_map Err (forward_fault step.from.serial next.serial)
 end_by_version wanted alone soa step next o =
     behind_open wanted alone soa (deleting_blocks step) next o
     ∙ ap (option_map Err) (fault_behind_one wanted soa.serial step.steps (record { soa = step.from; rows = step.deleted }) next.serial)
 
 -- the SOA behind a step
 pub end_behind_step : (wanted : Wanted) (alone : Bool) (soa : Soa) (step : PlainAdding) (next : Soa) → AreOpenSteps soa (adding_blocks step)
-    → soa_end wanted alone (begins soa ∷ adding_blocks step) next ≡ option_map Err (behind_step_fault soa.serial step.to.serial next.serial)
+    → soa_end wanted alone (soa_block soa ∷ adding_blocks step) next ≡ option_map Err (behind_step_fault soa.serial step.to.serial next.serial)
 end_behind_step wanted alone soa step next o =
     behind_open wanted alone soa (adding_blocks step) next o
     ∙ ap (option_map Err)

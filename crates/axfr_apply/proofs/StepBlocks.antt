@@ -3,7 +3,7 @@ use Rattle.std.specs.Prelude.{◌≡◌, ℕ, List, [], ◌∷◌, ◌++◌, ref
 use Rattle.std.proofs.Common.{ap}
 use Rattle.dns_record.specs.Row.{PlainRow}
 use Rattle.zone_rows.specs.Steps.{PlainStep}
-use Rattle.axfr_apply.specs.declared.asked.Wanted.{Wanted}
+use Rattle.axfr_apply.specs.declared.transfer_request.Wanted.{Wanted}
 use Rattle.axfr_apply.specs.Block.{Block}
 use Rattle.axfr_apply.specs.Gathered.{steps_blocks, with_row}
 use Rattle.axfr_apply.specs.Reading.{behind_step_fault, forward_fault, step_soa_fault}

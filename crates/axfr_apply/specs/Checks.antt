@@ -1,9 +1,9 @@
--- What a function returned, and what is looked at of a message and of a record.
+-- How results stand for outcomes, and the checks of a message's head.
 use Rattle.std.specs.Prelude.{◌≡◌, ℕ, Bool, true, false, List, Option, Some, None, Result, Ok, Err}
 use Rattle.dns_message.specs.declared.fault.MessageFault.{MessageFault}
 use Rattle.dns_message.specs.declared.message.Message.{Message}
 use Rattle.dns_message.specs.Reading.{message_of}
-use Rattle.axfr_apply.specs.declared.asked.Asked.{Asked}
+use Rattle.axfr_apply.specs.declared.transfer_request.TransferRequest.{TransferRequest}
 use Rattle.axfr_apply.specs.declared.fault.TransferError.{TransferError}
 use Rattle.axfr_apply.specs.declared.fault.TransferError.TheVariants as errors
 use Rattle.axfr_apply.specs.declared.fault.TransferFault.{TransferFault}
@@ -30,15 +30,15 @@ fault_or None x = x
 fault_or (Some fault) x = Err fault
 
 -- the message, if nothing is wrong with its head
-abbrev pub checked_head : Asked → Bool → Result Message MessageFault → Result Message TransferFault
+abbrev pub checked_head : TransferRequest → Bool → Result Message MessageFault → Result Message TransferFault
 checked_head asked is_first (Ok m) = unless (head_fault asked is_first m) m
 checked_head asked is_first (Err fault) = Err BadMessage
 
 -- the message that the octets are, if nothing is wrong with it or its head
-abbrev pub checked_message : Asked → Bool → List ℕ → Result Message TransferFault
+abbrev pub checked_message : TransferRequest → Bool → List ℕ → Result Message TransferFault
 checked_message asked is_first octets = checked_head asked is_first (message_of octets)
 
--- whether the first SOA, of this serial, says that we are current, where it ends a transfer so
+-- what the first SOA, of this serial, does: it ends the transfer as current, doesn't end it, or shows a fault
 abbrev pub IsCurrentAt : ℕ → Result Bool TransferFault → Option End → Type 0
 IsCurrentAt theirs (Ok true) gives = gives ≡ Some (Ok theirs)
 IsCurrentAt theirs (Ok false) gives = gives ≡ None

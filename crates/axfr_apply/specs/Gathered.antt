@@ -15,7 +15,7 @@ use Rattle.axfr_apply.specs.declared.gathered.NextSoa.TheVariants.{On, Current}
 use Rattle.axfr_apply.specs.declared.gathered.AtEnd.{AtEnd}
 use Rattle.axfr_apply.specs.declared.gathered.AtEnd.TheVariants.{Done, Open}
 use Rattle.axfr_apply.specs.Block.{Block, is_incremental, soa_held, steps_to}
-use Rattle.axfr_apply.specs.Reading.{End, begins}
+use Rattle.axfr_apply.specs.Reading.{End, soa_block}
 use Rattle.axfr_apply.specs.Stepping.{PlainAdding, PlainDeleting}
 
 -- a row behind the last SOA
@@ -27,7 +27,7 @@ with_row (first ∷ second ∷ others) row = first ∷ with_row (second ∷ othe
 -- a record behind the blocks, by the SOA that it holds: that begins a block, and any other record is a row of the last one
 abbrev pub with_held : List Block → PlainRow → Option Soa → List Block
 with_held bs row None = with_row bs row
-with_held bs row (Some soa) = bs ++ begins soa ∷ []
+with_held bs row (Some soa) = bs ++ soa_block soa ∷ []
 
 abbrev pub with_record : List Block → PlainRecord → List Block
 with_record bs r = with_held bs (row_of r) (soa_held r)
@@ -49,14 +49,14 @@ adding_blocks a = deleting_blocks a.before ++ record { soa = a.to; rows = a.adde
 abbrev pub blocks_in : Form → List Block
 blocks_in Nothing = []
 blocks_in (Whole soa rows) = record { soa = soa; rows = rows } ∷ []
-blocks_in (ClosedWhole soa rows last) = record { soa = soa; rows = rows } ∷ begins last ∷ []
-blocks_in (Deleting soa step) = begins soa ∷ deleting_blocks step
-blocks_in (Adding soa step) = begins soa ∷ adding_blocks step
-blocks_in (ClosedSteps soa steps last) = begins soa ∷ (steps_blocks steps ++ begins last ∷ [])
+blocks_in (ClosedWhole soa rows last) = record { soa = soa; rows = rows } ∷ soa_block last ∷ []
+blocks_in (Deleting soa step) = soa_block soa ∷ deleting_blocks step
+blocks_in (Adding soa step) = soa_block soa ∷ adding_blocks step
+blocks_in (ClosedSteps soa steps last) = soa_block soa ∷ (steps_blocks steps ++ soa_block last ∷ [])
 
 -- the blocks behind the first SOA are those of steps, of which none up to here reaches the version of this serial
 pub record AreOpenSteps (soa : Soa) (others : List Block) : Type 0 where
-  pub incremental : is_incremental (begins soa ∷ others) ≡ true
+  pub incremental : is_incremental (soa_block soa ∷ others) ≡ true
   pub not_closed : steps_to soa.serial others ≡ None
 
 -- what is known of a form
@@ -67,12 +67,12 @@ IsForm (ClosedWhole soa rows last) = last.serial ≡ soa.serial
 IsForm (Deleting soa step) = AreOpenSteps soa (deleting_blocks step)
 IsForm (Adding soa step) = AreOpenSteps soa (adding_blocks step)
 IsForm (ClosedSteps soa steps last) =
-    (is_incremental (begins soa ∷ (steps_blocks steps ++ begins last ∷ [])) ≡ true)
-    × (steps_to soa.serial (steps_blocks steps ++ begins last ∷ []) ≡ Some steps)
+    (is_incremental (soa_block soa ∷ (steps_blocks steps ++ soa_block last ∷ [])) ≡ true)
+    × (steps_to soa.serial (steps_blocks steps ++ soa_block last ∷ []) ≡ Some steps)
 
 -- what a SOA is to a transfer of these blocks, where it ends it so, or doesn't
 abbrev pub Goes : Result NextSoa TransferError → List Block → Soa → Option End → Type 0
-Goes (Ok (On next)) bs soa gives = (gives ≡ None) × (next ≡ bs ++ begins soa ∷ [])
+Goes (Ok (On next)) bs soa gives = (gives ≡ None) × (next ≡ bs ++ soa_block soa ∷ [])
 Goes (Ok (Current theirs)) bs soa gives = gives ≡ Some (Ok theirs)
 Goes (Err errors.OutOfMemory) bs soa gives = Unit {0}
 Goes (Err (errors.Fault fault)) bs soa gives = gives ≡ Some (Err fault)

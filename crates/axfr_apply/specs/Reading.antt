@@ -11,9 +11,9 @@ use Rattle.dns_message.specs.declared.message.Message.{Message}
 use Rattle.dns_message.specs.declared.question.Question.{Question}
 use Rattle.dns_message.specs.Reading.{message_of}
 use Rattle.zone_rows.specs.declared.transfer.Transfer.{Transfer}
-use Rattle.axfr_apply.specs.declared.asked.Asked.{Asked}
-use Rattle.axfr_apply.specs.declared.asked.Wanted.{Wanted}
-use Rattle.axfr_apply.specs.declared.asked.Wanted.TheVariants as wants
+use Rattle.axfr_apply.specs.declared.transfer_request.TransferRequest.{TransferRequest}
+use Rattle.axfr_apply.specs.declared.transfer_request.Wanted.{Wanted}
+use Rattle.axfr_apply.specs.declared.transfer_request.Wanted.TheVariants as wants
 use Rattle.axfr_apply.specs.declared.fault.TransferFault.{TransferFault}
 use Rattle.axfr_apply.specs.declared.fault.TransferFault.TheVariants.{BadMessage, WrongId, NotResponse, Truncated, Rcode, WrongQuestion, NoLeadingSoa, WrongClass, OutOfZone, WrongSoaOwner, SoaDiffers, Gap, SerialNotNewer, TrailingRecord, TooManyRecords}
 use Rattle.axfr_apply.specs.declared.taken.Taken.{Taken}
@@ -37,16 +37,16 @@ asks_type (wants.Whole have) qtype = qtype == 252
 asks_type (wants.Newer have) qtype = qtype == 251 || qtype == 252
 
 -- the question for the zone
-abbrev pub asks_for : Asked → Question → Bool
+abbrev pub asks_for : TransferRequest → Question → Bool
 asks_for asked q = same_name q.name asked.origin && (q.qclass == 1 && asks_type asked.wanted q.qtype)
 
 -- the first message has the question, later ones have it or none
-abbrev pub question_fits : Asked → Bool → Option Question → Bool
+abbrev pub question_fits : TransferRequest → Bool → Option Question → Bool
 question_fits asked is_first None = not is_first
 question_fits asked is_first (Some q) = asks_for asked q
 
 -- the first thing that is wrong with the head of a message
-abbrev pub head_fault : Asked → Bool → Message → Option TransferFault
+abbrev pub head_fault : TransferRequest → Bool → Message → Option TransferFault
 head_fault asked is_first m =
     if not (m.header.id == asked.id) then Some WrongId
     else (if not (m.header.qr && m.header.opcode == 0) then Some NotResponse
@@ -55,7 +55,7 @@ head_fault asked is_first m =
     else (if not (question_fits asked is_first m.question) then Some WrongQuestion
     else None))))
 
-abbrev pub message_fault : Asked → Bool → Result Message MessageFault → Option TransferFault
+abbrev pub message_fault : TransferRequest → Bool → Result Message MessageFault → Option TransferFault
 message_fault asked is_first (Ok m) = head_fault asked is_first m
 message_fault asked is_first (Err fault) = Some BadMessage
 
@@ -103,13 +103,13 @@ step_soa_fault wanted newest (old ∷ []) found = forward_fault old.soa.serial f
 step_soa_fault wanted newest (old ∷ new ∷ []) found = behind_step_fault newest new.soa.serial found
 step_soa_fault wanted newest (old ∷ new ∷ next ∷ others) found = step_soa_fault wanted newest (next ∷ others) found
 
-abbrev pub begins : Soa → Block
-begins soa = record { soa = soa; rows = [] }
+abbrev pub soa_block : Soa → Block
+soa_block soa = record { soa = soa; rows = [] }
 
 -- what is wrong with a SOA behind others: it may be one of an incremental transfer
 abbrev pub later_soa_fault : Wanted → Block → List Block → Soa → Option TransferFault
 later_soa_fault wanted first others soa =
-    if is_incremental (first ∷ (others ++ begins soa ∷ [])) then step_soa_fault wanted first.soa.serial others soa.serial
+    if is_incremental (first ∷ (others ++ soa_block soa ∷ [])) then step_soa_fault wanted first.soa.serial others soa.serial
     else close_fault first.soa.serial soa.serial
 
 -- how a SOA ends the transfer, behind these blocks
@@ -132,29 +132,29 @@ abbrev pub record_end : Wanted → Bool → List Block → Option Soa → Option
 record_end wanted alone bs soa fault = if is_some (transfer_of bs) then Some (Err TrailingRecord) else open_end wanted alone bs soa fault
 
 -- how an answer record ends the transfer, behind these blocks
-abbrev pub answer_end : Asked → Bool → List Block → PlainRecord → Option End
+abbrev pub answer_end : TransferRequest → Bool → List Block → PlainRecord → Option End
 answer_end asked alone bs r = record_end asked.wanted alone bs (soa_held r) (place_fault asked.origin (is_soa r) r)
 
-abbrev pub item_end : Asked → List Item → Item → Option End
+abbrev pub item_end : TransferRequest → List Item → Item → Option End
 item_end asked before (item.head octets) = option_map Err (message_fault asked (length before == 0) (message_of octets))
 item_end asked before (item.answer alone r) = answer_end asked alone (blocks (records before)) r
 
 -- How an item ends the transfer, behind these items; None where it doesn't. The item of the number `most` is one too many.
-abbrev pub end_by : Asked → List Item → Item → Option End
+abbrev pub end_by : TransferRequest → List Item → Item → Option End
 end_by asked before it = if nat_le asked.most (length before + 1) then Some (Err (TooManyRecords asked.most)) else item_end asked before it
 
 -- how the first of the items that ends the transfer does so, where they stand behind those before
-unfoldable pub first_end : Asked → List Item → List Item → Option End
+unfoldable pub first_end : TransferRequest → List Item → List Item → Option End
 first_end asked before [] = None
 first_end asked before (it ∷ others) = option_or (end_by asked before it) (first_end asked (before ++ it ∷ []) others)
 
-abbrev pub ended : End → Outcome
-ended (Ok theirs) = Ok (Current theirs)
-ended (Err fault) = Err fault
+abbrev pub end_outcome : End → Outcome
+end_outcome (Ok theirs) = Ok (Current theirs)
+end_outcome (Err fault) = Err fault
 
-abbrev pub taken : Transfer → Outcome
-taken transfer = Ok (New transfer)
+abbrev pub new_outcome : Transfer → Outcome
+new_outcome transfer = Ok (New transfer)
 
 -- how these messages end the transfer: by the first item that does, else by the SOA that closes it; None where they don't
-unfoldable pub outcome_of : Asked → List (List ℕ) → Option Outcome
-outcome_of asked messages = option_or (option_map ended (first_end asked [] (items messages))) (option_map taken (transfer_of (blocks (records (items messages)))))
+unfoldable pub outcome_of : TransferRequest → List (List ℕ) → Option Outcome
+outcome_of asked messages = option_or (option_map end_outcome (first_end asked [] (items messages))) (option_map new_outcome (transfer_of (blocks (records (items messages)))))

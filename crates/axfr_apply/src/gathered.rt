@@ -1,21 +1,21 @@
-//! What the records of a transfer have come to.
+//! The records of a transfer so far, by its form.
 
 ghost use Rattle.std.specs.Prelude.{◌≡◌, ◌≢◌, ◌∷◌, [], None, Err, OnErr, OnOk, is_some, option_map};
 ghost use Rattle.axfr_apply.specs.Block.{transfer_of};
 ghost use Rattle.axfr_apply.specs.Gathered.{AreOpenSteps, Goes, IsClosedOr, adding_blocks, deleting_blocks, with_row};
-ghost use Rattle.axfr_apply.specs.Reading.{begins, behind_step_fault, forward_fault, later_soa_fault, soa_end};
+ghost use Rattle.axfr_apply.specs.Reading.{soa_block, behind_step_fault, forward_fault, later_soa_fault, soa_end};
 ghost use Rattle.axfr_apply.specs.Block as form;
 
-use crate::asked::Wanted;
 use crate::fault::TransferError;
 use crate::serials::{check_begin, check_behind_step, check_close, check_forward, is_current};
 use crate::stepping::{Adding, Deleting};
+use crate::transfer_request::Wanted;
 use dns_record::{Row, Soa};
 use std::alloc::{AllocError, Global};
 use std::marker::Model;
 use zone_rows::{Rows, Steps, Transfer};
 
-/// What the records of a transfer have come to. Contracts see each SOA record with the rows behind it.
+/// The records of a transfer so far, by its form. Contracts see each SOA record with the rows behind it.
 #[derive(Debug, Drop)]
 pub struct Gathered {
     form: Form,
@@ -199,7 +199,7 @@ fn second_soa(
 // The SOA of the version that a step makes.
 fn new_version(alloc: Global, soa: Soa, step: Deleting, next: Soa) -> Result<NextSoa, TransferError>
     requires { AreOpenSteps soa (deleting_blocks step) }
-    ensures { Goes result (begins soa ∷ deleting_blocks step) next
+    ensures { Goes result (soa_block soa ∷ deleting_blocks step) next
         (option_map Err (forward_fault step.from.serial next.serial)) }
 {
     check_forward(step.from_serial(), next.serial)?;
@@ -212,7 +212,7 @@ fn new_version(alloc: Global, soa: Soa, step: Deleting, next: Soa) -> Result<Nex
 // The SOA behind a step: it closes the transfer, or begins the next step.
 fn behind_step(alloc: Global, soa: Soa, step: Adding, next: Soa) -> Result<NextSoa, TransferError>
     requires { AreOpenSteps soa (adding_blocks step) }
-    ensures { Goes result (begins soa ∷ adding_blocks step) next
+    ensures { Goes result (soa_block soa ∷ adding_blocks step) next
         (option_map Err (behind_step_fault soa.serial step.to.serial next.serial)) }
 {
     let (newest, new) = (soa.serial, step.to_serial());

@@ -4,8 +4,8 @@ ghost use Rattle.std.specs.Prelude.{◌≡◌, option_copied};
 ghost use Rattle.axfr_apply.specs.Checks.{Gives, checked_message};
 ghost use Rattle.axfr_apply.specs.Reading as form;
 
-use crate::asked::{Asked, Wanted};
 use crate::fault::{TransferError, TransferFault};
+use crate::transfer_request::{TransferRequest, Wanted};
 use dns_message::{Message, Question, read_message};
 use dns_record::{class, rtype};
 use std::alloc::Global;
@@ -21,7 +21,7 @@ fn asks_type(wanted: Wanted, qtype: u16) -> bool
 }
 
 // Whether this is the question for the zone.
-fn asks_for(asked: &Asked, question: &Question) -> bool
+fn asks_for(asked: &TransferRequest, question: &Question) -> bool
     ensures { result ≡ form.asks_for asked.now question.now }
 {
     question.name.is_same(&asked.origin)
@@ -30,7 +30,7 @@ fn asks_for(asked: &Asked, question: &Question) -> bool
 }
 
 // Whether the first message has the question, or a later one has it or none.
-fn question_fits(asked: &Asked, is_first: bool, question: Option<&Question>) -> bool
+fn question_fits(asked: &TransferRequest, is_first: bool, question: Option<&Question>) -> bool
     ensures { result ≡ form.question_fits asked.now is_first (option_copied question.entry) }
 {
     match question {
@@ -40,7 +40,7 @@ fn question_fits(asked: &Asked, is_first: bool, question: Option<&Question>) -> 
 }
 
 // The first thing that is wrong with the head of a message.
-fn head_fault(asked: &Asked, is_first: bool, message: &Message) -> Option<TransferFault>
+fn head_fault(asked: &TransferRequest, is_first: bool, message: &Message) -> Option<TransferFault>
     ensures { result ≡ form.head_fault asked.now is_first message.now }
 {
     let header = message.header;
@@ -65,7 +65,7 @@ fn head_fault(asked: &Asked, is_first: bool, message: &Message) -> Option<Transf
 /// The message, if nothing is wrong with its head.
 pub fn read_checked(
     alloc: Global,
-    asked: &Asked,
+    asked: &TransferRequest,
     is_first: bool,
     bytes: &[u8],
 ) -> Result<Message, TransferError>

@@ -1,8 +1,7 @@
 //! What a stream of messages is as a transfer of a zone (RFC 5936, RFC 1995): what was asked for, faults, the heads of messages,
-//! the places of records, and what records have come to.
+//! the places of records, and the records so far.
 #![tactic(auto)]
 
-mod asked;
 mod fault;
 mod gathered;
 mod heads;
@@ -11,10 +10,11 @@ mod places;
 mod serials;
 mod stepping;
 mod taken;
+mod transfer_request;
 
-pub use asked::{Asked, MOST, Wanted};
 pub use fault::{TransferError, TransferFault};
 pub use gathered::{AtEnd, Gathered, NextSoa};
 pub use heads::read_checked;
 pub use places::check_place;
 pub use taken::Taken;
+pub use transfer_request::{MOST, TransferRequest, Wanted};

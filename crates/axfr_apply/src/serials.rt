@@ -4,8 +4,8 @@ ghost use Rattle.std.specs.Prelude.{◌≡◌, Ok};
 ghost use Rattle.axfr_apply.specs.Checks.{IsCurrentAt, fault_or};
 ghost use Rattle.axfr_apply.specs.Reading.{begin_fault, behind_step_fault, close_fault, first_soa_end, forward_fault};
 
-use crate::asked::Wanted;
 use crate::fault::TransferFault;
+use crate::transfer_request::Wanted;
 use dns_record::serial_newer;
 
 /// Whether the first SOA, of this serial, says that we are current: `alone` is whether it is the only answer record of its

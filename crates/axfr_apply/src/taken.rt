@@ -1,8 +1,8 @@
-//! What a transfer gives.
+//! The result of a transfer.
 
 use zone_rows::Transfer;
 
-/// What a transfer gave.
+/// The result of a transfer.
 #[derive(Debug, Drop)]
 pub enum Taken {
     /// We have what the primary has: its serial is this.

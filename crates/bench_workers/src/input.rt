@@ -1,6 +1,6 @@
 //! What the words and the input say.
 
-use crate::refusal::Refusal;
+use crate::bench_error::BenchError;
 use dns_name::Octets;
 use edge_io::{Source, read_frame};
 use std::alloc::Global;
@@ -21,18 +21,18 @@ pub struct Input {
 }
 
 // The number that a word is.
-fn number(words: &[String], place: usize) -> Result<u64, Refusal> {
+fn number(words: &[String], place: usize) -> Result<u64, BenchError> {
     match words.get(place) {
-        Some(word) => word.parse::<u64>().map_err(|_| Refusal::Words),
-        None => Err(Refusal::Words),
+        Some(word) => word.parse::<u64>().map_err(|_| BenchError::Words),
+        None => Err(BenchError::Words),
     }
 }
 
 /// The plan that the words are.
-pub fn read_plan(words: &[String]) -> Result<Plan, Refusal> {
+pub fn read_plan(words: &[String]) -> Result<Plan, BenchError> {
     let workers = number(words, 0)?;
     if workers > 16 {
-        return Err(Refusal::Words);
+        return Err(BenchError::Words);
     }
     Ok(Plan {
         workers: workers as usize,
@@ -42,7 +42,7 @@ pub fn read_plan(words: &[String]) -> Result<Plan, Refusal> {
 }
 
 // The transfer: its messages, each behind its length, up to an empty one, which is left out.
-fn read_stream<S: Source>(alloc: Global, source: &mut S) -> Result<Octets, Refusal> {
+fn read_stream<S: Source>(alloc: Global, source: &mut S) -> Result<Octets, BenchError> {
     let mut stream = Octets::new(alloc);
     for _turn in 0..u64::MAX {
         let Some(message) = read_frame(alloc, source)? else {
@@ -54,11 +54,11 @@ fn read_stream<S: Source>(alloc: Global, source: &mut S) -> Result<Octets, Refus
         stream.append(&(message.len() as u16).to_be_bytes())?;
         stream.append(message.as_slice())?;
     }
-    Err(Refusal::Ended)
+    Err(BenchError::Ended)
 }
 
 /// The whole input.
-pub fn read_input<S: Source>(alloc: Global, source: &mut S) -> Result<Input, Refusal> {
+pub fn read_input<S: Source>(alloc: Global, source: &mut S) -> Result<Input, BenchError> {
     let stream = read_stream(alloc, source)?;
     let mut messages = Vec::new(alloc);
     for _turn in 0..u64::MAX {

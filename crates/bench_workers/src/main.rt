@@ -8,12 +8,12 @@
 //! when the first zone is loaded and when all is answered, and writes how many replies there were, and how many messages got none.
 #![tactic(auto)]
 
+mod bench_error;
 mod input;
-mod refusal;
 mod serving;
 
+use crate::bench_error::BenchError;
 use crate::input::{Input, Plan, read_input, read_plan};
-use crate::refusal::Refusal;
 use crate::serving::serve;
 use dns_name::Name;
 use edge_io::{ReaderSource, Source};
@@ -25,12 +25,12 @@ use std::process::ExitCode;
 use std::{env, io};
 
 // A store of two zones with so many readers.
-fn store(alloc: Global, plan: &Plan) -> Result<Parts, Refusal> {
+fn store(alloc: Global, plan: &Plan) -> Result<Parts, BenchError> {
     let first = Name::from_text(alloc, b"rpz.example")?;
     let second = Name::from_text(alloc, b"two.example")?;
     let origins = vec![in alloc; first, second]?;
     if plan.workers == 0 || plan.workers > 16 {
-        return Err(Refusal::Words);
+        return Err(BenchError::Words);
     }
     Ok(start_store(origins, plan.workers))
 }
@@ -40,7 +40,7 @@ fn prepared<S: Source>(
     alloc: Global,
     words: &[String],
     source: &mut S,
-) -> Result<(Plan, Input, Parts), Refusal> {
+) -> Result<(Plan, Input, Parts), BenchError> {
     let plan = read_plan(words)?;
     let input = read_input(alloc, source)?;
     let parts = store(alloc, &plan)?;
@@ -48,7 +48,7 @@ fn prepared<S: Source>(
 }
 
 // Says why not all was answered.
-fn refused(rt: &HostRuntime, refusal: &Refusal) -> io::Result<ExitCode> {
+fn refused(rt: &HostRuntime, refusal: &BenchError) -> io::Result<ExitCode> {
     eprintln!(rt; "{refusal:?}")?;
     Ok(ExitCode::from(1))
 }

@@ -2,8 +2,8 @@
 
 ghost use Rattle.std.specs.Prelude.{◌≡◌};
 
+use crate::bench_error::BenchError;
 use crate::input::{Input, Plan};
-use crate::refusal::Refusal;
 use answer_cache::AnswerCache;
 use axfr_apply::{Taken, Wanted};
 use dns_name::{Name, Octets};
@@ -45,7 +45,7 @@ fn worker<N: StoreName>(
 }
 
 // The messages as jobs of a client.
-fn jobs(alloc: Global, messages: &[Octets]) -> Result<Vec<Job>, Refusal> {
+fn jobs(alloc: Global, messages: &[Octets]) -> Result<Vec<Job>, BenchError> {
     let mut jobs = Vec::with_capacity(alloc, messages.len())?;
     for message in messages {
         jobs.push(Job {
@@ -89,7 +89,7 @@ fn start<N: StoreName + Send + Sync + 'static, R: Threads + Copy + Drop + Send +
     messages: &[Octets],
     queries: u64,
     running: Arc<AtomicU64, Global>,
-) -> Result<JoinHandle<Counts>, Refusal> {
+) -> Result<JoinHandle<Counts>, BenchError> {
     let mut worker = worker(alloc, reader)?;
     let jobs = jobs(alloc, messages)?;
     let started = thread::spawn(&rt, move || {
@@ -99,7 +99,7 @@ fn start<N: StoreName + Send + Sync + 'static, R: Threads + Copy + Drop + Send +
     });
     match started {
         Ok(handle) => Ok(handle),
-        Err(_) => Err(Refusal::System),
+        Err(_) => Err(BenchError::System),
     }
 }
 
@@ -109,9 +109,9 @@ fn load<N: StoreName, R: Wait>(
     alloc: Global,
     publisher: &mut Publisher<N>,
     stream: Octets,
-) -> Result<(), Refusal> {
+) -> Result<(), BenchError> {
     if !publisher.has_zone(1) {
-        return Err(Refusal::Words);
+        return Err(BenchError::Words);
     }
     let origin = publisher.origin(1).clone()?;
     let mut source = Bytes::new(stream.into_vec());
@@ -121,7 +121,7 @@ fn load<N: StoreName, R: Wait>(
             let _loaded = publisher.publish(rt, 1, transfer)?;
             Ok(())
         }
-        Taken::Current { .. } => Err(Refusal::Ended),
+        Taken::Current { .. } => Err(BenchError::Ended),
     }
 }
 
@@ -150,13 +150,13 @@ fn publish_while<N: StoreName, R: Wait + Clock>(
     publisher: &mut Publisher<N>,
     running: &AtomicU64,
     pause: u64,
-) -> Result<(), Refusal> {
+) -> Result<(), BenchError> {
     for serial in 1..u32::MAX {
         if running.load(Ordering::SeqCst) == 0 {
             break;
         }
         if !publisher.has_zone(2) {
-            return Err(Refusal::Words);
+            return Err(BenchError::Words);
         }
         let _published = publisher.publish(rt, 2, empty_transfer(alloc, serial)?)?;
         thread::sleep(rt, Duration::from_millis(pause));
@@ -165,15 +165,15 @@ fn publish_while<N: StoreName, R: Wait + Clock>(
 }
 
 // Says something on standard error.
-fn say<R: Eprint>(rt: &R, text: &str) -> Result<(), Refusal> {
-    eprintln!(rt; "{text}").map_err(|_| Refusal::System)
+fn say<R: Eprint>(rt: &R, text: &str) -> Result<(), BenchError> {
+    eprintln!(rt; "{text}").map_err(|_| BenchError::System)
 }
 
 /// Loads the first zone, answers in as many threads as the store has readers, and publishes the second zone meanwhile.
 pub fn serve<
     N: StoreName + Send + Sync + 'static,
     R: Threads + Wait + Clock + Eprint + Copy + Drop + Send + Sync + 'static,
->(rt: R, alloc: Global, parts: Parts, input: Input, plan: Plan) -> Result<Counts, Refusal>
+>(rt: R, alloc: Global, parts: Parts, input: Input, plan: Plan) -> Result<Counts, BenchError>
     requires { parts ≡ N.store }
 {
     let (mut publisher, readers) = parts.open::<N, R>(&rt, alloc)?;
@@ -192,7 +192,7 @@ fn load_and_answer<
     readers: Vec<PolicyReader<N>>,
     input: Input,
     plan: Plan,
-) -> Result<Counts, Refusal> {
+) -> Result<Counts, BenchError> {
     let Input { stream, messages } = input;
     load(&rt, alloc, publisher, stream)?;
     say(&rt, "loaded")?;

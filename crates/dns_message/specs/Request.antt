@@ -13,7 +13,7 @@ use Rattle.dns_message.specs.declared.triage.TheConstants.{NO_ERROR, FORMAT_ERRO
 use Rattle.dns_message.specs.declared.request.Incoming.TheVariants.{Silent, Refuse, Query as Asks}
 use Rattle.dns_message.specs.Reading.{header_in, message_of}
 
--- The bytes are long enough for a header, and it is no response's. What does not speak is not answered, so
+-- The bytes are long enough for a header, and QR is 0. Anything else gets no reply, so
 -- that no two servers answer each other without end.
 abbrev pub speaks_in : List ℕ → Bool
 speaks_in bytes = nat_le 12 (length bytes) && not (header_in bytes).qr
@@ -42,17 +42,17 @@ abbrev pub with_question : ℕ → Header → Question → Option Edns → Messa
 with_question rcode h question edns = refusal rcode h (Some question) edns
 
 -- what a request asks, and what its OPT record says
-abbrev pub Asked : Type 0
-Asked = Question × Option Edns
+abbrev pub QueryParts : Type 0
+QueryParts = Question × Option Edns
 
-abbrev pub asked_of : Option Question → Option Edns → Option Asked
-asked_of None edns = None
-asked_of (Some question) edns = Some (question, edns)
+abbrev pub query_parts : Option Question → Option Edns → Option QueryParts
+query_parts None edns = None
+query_parts (Some question) edns = Some (question, edns)
 
 -- a well formed request has a question
-abbrev pub asked_in : Result Message MessageFault → Option Asked
-asked_in (Ok m) = asked_of m.question m.edns
-asked_in (Err fault) = None
+abbrev pub query_parts_in : Result Message MessageFault → Option QueryParts
+query_parts_in (Ok m) = query_parts m.question m.edns
+query_parts_in (Err fault) = None
 
 -- the request has an OPT record of a version that isn't served
 abbrev pub has_later_version : Option Edns → Bool
@@ -72,7 +72,7 @@ query_or_refusal h question edns client transport =
     else Refuse (with_question REFUSED h question (reply_edns 0 edns)))
 
 -- a request of the opcode 0
-abbrev pub request_outcome : Header → Option Asked → Addr → Transport → Incoming
+abbrev pub request_outcome : Header → Option QueryParts → Addr → Transport → Incoming
 request_outcome h None client transport = Refuse (header_alone FORMAT_ERROR h)
 request_outcome h (Some asked) client transport = query_or_refusal h asked.0 asked.1 client transport
 
@@ -80,5 +80,5 @@ request_outcome h (Some asked) client transport = query_or_refusal h asked.0 ask
 unfoldable pub incoming_of : List ℕ → Addr → Transport → Incoming
 incoming_of bytes client transport =
     if not (speaks_in bytes) then Silent
-    else (if (header_in bytes).opcode == 0 then request_outcome (header_in bytes) (asked_in (message_of bytes)) client transport
+    else (if (header_in bytes).opcode == 0 then request_outcome (header_in bytes) (query_parts_in (message_of bytes)) client transport
     else Refuse (header_alone NOT_IMPLEMENTED (header_in bytes)))

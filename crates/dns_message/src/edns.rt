@@ -1,4 +1,4 @@
-//! The extension of a message (RFC 6891).
+//! What an OPT record says (EDNS, RFC 6891).
 
 ghost use Rattle.std.specs.Prelude.{◌≡◌, option_copied};
 ghost use Rattle.dns_message.specs.Request.{reply_edns as told_edns};

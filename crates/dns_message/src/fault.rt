@@ -13,7 +13,7 @@ use std::alloc::{AllocError, AllocFailed};
 pub enum MessageFault {
     /// There are under 12 bytes, or the question reaches past the end, or its name is faulty.
     Short,
-    /// There is more than one question. The count alone tells it, before anything behind the header.
+    /// There is more than one question. The count alone decides it, before anything behind the header is looked at.
     Question,
     /// A record is faulty.
     Record(RecordFault),

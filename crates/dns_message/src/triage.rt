@@ -2,7 +2,7 @@
 
 ghost use Rattle.std.specs.Prelude.{◌≡◌, IfOk};
 ghost use Rattle.dns_message.specs.Reading.{message_of};
-ghost use Rattle.dns_message.specs.Request.{speaks_in, refusal as refusal_of, asked_of as asked_by, asked_in, has_later_version as later_version, is_served as serves, query_or_refusal as answered_by, incoming_of};
+ghost use Rattle.dns_message.specs.Request.{speaks_in, refusal as refusal_of, query_parts as asked_by, query_parts_in, has_later_version as later_version, is_served as serves, query_or_refusal as answered_by, incoming_of};
 
 use crate::edns::{BAD_VERSION, EDNS_VERSION, Edns, reply_edns};
 use crate::fault::MessageError;
@@ -76,17 +76,17 @@ pub fn classify(
 
 // What a well formed request asks and what its OPT record says, or none if it is not well formed.
 fn read_asked(alloc: Global, bytes: &[u8]) -> Result<Option<(Question, Option<Edns>)>, AllocError>
-    ensures { IfOk result (λ asked. asked ≡ asked_in (message_of bytes.now)) }
+    ensures { IfOk result (λ asked. asked ≡ query_parts_in (message_of bytes.now)) }
 {
     match read_message(alloc, bytes) {
-        Ok(message) => Ok(asked_of(message)),
+        Ok(message) => Ok(query_parts(message)),
         Err(MessageError::Fault(_)) => Ok(None),
         Err(MessageError::OutOfMemory) => Err(AllocError),
     }
 }
 
 // What a message asks and what its OPT record says, if it has a question.
-fn asked_of(message: Message) -> Option<(Question, Option<Edns>)>
+fn query_parts(message: Message) -> Option<(Question, Option<Edns>)>
     ensures { result ≡ asked_by message.question message.edns }
 {
     let Message {

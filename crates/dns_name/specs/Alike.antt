@@ -9,15 +9,15 @@ use Rattle.dns_name.specs.Labels.{lowered}
 abbrev pub same_name : List (List ℕ) → List (List ℕ) → Bool
 same_name a b = pointwise bytes_eq (lowered a) (lowered b)
 
--- the last labels of the name are the zone's: it is the zone or lies below it (RFC 1034, section 3.1)
+-- the name ends with the labels of the zone's name: it is that name or lies below it (RFC 1034, section 3.1)
 abbrev pub ends_with : List (List ℕ) → List (List ℕ) → Bool
 ends_with name zone = lists.ends_with bytes_eq (lowered name) (lowered zone)
 
--- What a pattern is about: its base, or all names below it and not the base itself (draft-vixie-dnsop-dns-rpz, section 4.2).
+-- A pattern matches its base, or all names below its base and not the base itself (draft-vixie-dnsop-dns-rpz, section 4.2).
 pub record PlainPattern : Type 0 where
   pub base : List (List ℕ)
   pub wild : Bool
 
--- the pattern is about this name
+-- the pattern matches this name
 abbrev pub matches : PlainPattern → List (List ℕ) → Bool
 matches pattern name = if pattern.wild then ends_with name pattern.base && not (same_name name pattern.base) else same_name name pattern.base

@@ -6,7 +6,7 @@ use Rattle.dns_name.specs.declared.limits.TheConstants.{NAME_LIMIT, LABEL_LIMIT}
 use Rattle.dns_name.specs.Labels.{IsLabel, label_octets}
 use Rattle.dns_name.specs.Reading.{Outcome, with_labels, with_after}
 
--- the bytes begin so
+-- the bytes begin with these octets
 abbrev pub Begins : List ℕ → List ℕ → Type 0
 Begins bytes front = take (length front) bytes ≡ front
 
@@ -28,7 +28,7 @@ Shows run used [] Short = Unit {0}
 Shows run used (n ∷ rest) Short = ((1 ≤ n) × (n ≤ LABEL_LIMIT) × (length rest < n)) ⊎ ((192 ≤ n) × (rest ≡ []))
 -- the byte begins with the bits 01 or 10
 Shows run used (n ∷ rest) LabelType = (64 ≤ n) × (n < 192)
--- a pointer leads to where the labels began, or behind it
+-- a pointer leads to where the labels began, or after it
 Shows run used (n ∷ low ∷ rest) Pointer = (192 ≤ n) × (run ≤ target_of n low)
 -- the label is whole, and after it the zero has no room
 Shows run used (n ∷ rest) TooLong = (1 ≤ n) × (n ≤ LABEL_LIMIT) × (n ≤ length rest) × (NAME_LIMIT < used + n + 2)

@@ -20,7 +20,7 @@ is_dot b = b == 46
 abbrev pub has_text_bytes : List ℕ → Bool
 has_text_bytes text = list_all (λ b. is_label_byte b || is_dot b) text
 
--- one dot at the end says nothing
+-- the text without the dot at its end, if it has one
 abbrev pub without_last_dot : List ℕ → List ℕ
 without_last_dot text = if ends_with nat_eq text (46 ∷ []) then take (length text - 1) text else text
 

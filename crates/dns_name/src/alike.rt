@@ -1,4 +1,4 @@
-//! Octets that are alike.
+//! Octets that are the same without case.
 
 ghost use Rattle.std.specs.Prelude.{◌≡◌, ◌↔◌, IsTrue, map};
 ghost use Rattle.std.specs.Char.{to_ascii_lowercase};

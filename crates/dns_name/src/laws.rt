@@ -59,7 +59,7 @@ pub fn names_that_are_alike()
     ensures within { (name zone : List (List ℕ)) → IsTrue (ends_with name zone) ↔ EndsWith name zone }
 {}
 
-/// A name in lower case has no upper case more, and a pattern is about a name exactly if it is about the name in lower
+/// A name in lower case has no upper case left, and a pattern matches a name exactly if it matches the name in lower
 /// case.
 pub fn case_does_not_matter()
     ensures lower { (name : List (List ℕ)) → lowered (lowered name) ≡ lowered name }

@@ -1,4 +1,4 @@
-//! Patterns, which are about one name or about all names below one (draft-vixie-dnsop-dns-rpz, section 4.2).
+//! Patterns, which match one name, or all names below one (draft-vixie-dnsop-dns-rpz, section 4.2).
 
 ghost use Rattle.std.specs.Prelude.{◌≡◌, IfOk};
 ghost use Rattle.dns_name.specs.Labels.{IsName, lowered};
@@ -8,7 +8,7 @@ use crate::name::Name;
 use std::alloc::{AllocError, Global};
 use std::marker::Model;
 
-/// A base, in lower case: the pattern is about this name alone, or, where it is wild, about all names
+/// A base, in lower case: the pattern matches this name alone, or, where it is wild, all names
 /// below it and not the base itself.
 #[derive(Debug, Drop)]
 pub struct Pattern {

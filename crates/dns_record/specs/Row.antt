@@ -49,7 +49,7 @@ AreLowered (Fixed count ∷ parts) octets low =
     (first : List ℕ) × (rest : List ℕ) × (low_rest : List ℕ) × (length first ≡ count)
     × (octets ≡ first ++ rest) × (low ≡ first ++ low_rest) × AreLowered parts rest low_rest
 
--- the same of data of this layout; without one it is as it was
+-- the same of data of this layout; data without a layout stays as it is
 abbrev pub IsLoweredBy : Option (List Part) → List ℕ → List ℕ → Type 0
 IsLoweredBy None rdata low = low ≡ rdata
 IsLoweredBy (Some parts) rdata low = AreLowered parts rdata low

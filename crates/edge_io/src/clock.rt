@@ -1,15 +1,15 @@
-// What tells the time, and a clock in memory.
+// Clocks, and one in memory.
 ghost use Rattle.std.specs.Prelude.{◌≡◌, ℕ, List, Option, Some};
 ghost use Rattle.edge_io.specs.Told.{ComesNext};
 
 use std::alloc::Global;
 use std::collections::VecDeque;
 
-/// What tells the time.
+/// A clock.
 ///
-/// A clock in memory tells which seconds are still to come. The system's clock doesn't.
+/// Of a clock in memory contracts know which seconds are still to come, and not of the system's clock.
 pub trait Clock {
-    /// The seconds that `now` is still to give, in order, where it tells. Behind the last come zeros.
+    /// The seconds that `now` is still to give, in order, where they are known. After the last come zeros.
     ghost moments: { Self → Option (List ℕ) };
 
     /// The time in seconds.

@@ -8,9 +8,9 @@ pub struct Failed;
 
 /// What bytes are read from.
 ///
-/// A source in memory tells which bytes are left. One over std's readers doesn't.
+/// Of a source in memory contracts know which bytes are left, and not of one over std's readers.
 pub trait Source {
-    /// The bytes that are left, where it tells.
+    /// The bytes that are left, where they are known.
     ghost left: { Self → Option (List ℕ) };
 
     /// How often a read has failed. It never falls, and stands still at 2^64 - 1.
@@ -42,9 +42,9 @@ pub enum SinkError {
 
 /// What bytes are written to.
 ///
-/// A sink in memory tells which bytes it was given. One over std's writers doesn't.
+/// Of a sink in memory contracts know which bytes it was given, and not of one over std's writers.
 pub trait Sink {
-    /// The bytes that it was given, where it tells.
+    /// The bytes that it was given, where they are known.
     ghost held: { Self → Option (List ℕ) };
 
     /// How often a write has failed. It never falls, and stands still at 2^64 - 1.

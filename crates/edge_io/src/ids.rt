@@ -7,9 +7,9 @@ use std::collections::VecDeque;
 
 /// Where the IDs of questions come from (RFC 1035, section 4.1.1).
 ///
-/// A list in memory tells which IDs are still to come. A generator of random ones doesn't.
+/// Of a list in memory contracts know which IDs are still to come, and not of a generator of random ones.
 pub trait Ids {
-    /// The IDs that `next_id` is still to give, in order, where it tells. Behind the last come zeros.
+    /// The IDs that `next_id` is still to give, in order, where they are known. After the last come zeros.
     ghost ids: { Self → Option (List ℕ) };
 
     /// An ID for the next question.

@@ -53,12 +53,12 @@ impl<T: Drop> From<AllocFailed<T>> for SendError {
 
 /// Where replies to datagrams go, and where connections are closed.
 ///
-/// One in memory tells what was sent and which connection was closed last. One over sockets doesn't.
+/// Of those in memory contracts know what was sent and which connection was closed last, and not of those over sockets.
 pub trait Replies<S: Source, K: Sink> {
-    /// The replies that were sent, in order, where it tells. One that was not sent is not among them.
+    /// The replies that were sent, in order, where they are known. One that was not sent is not among them.
     ghost sent: { Self → Option (List PlainReply) };
 
-    /// How many connections were closed, and the last of them, where it tells.
+    /// How many connections were closed, and the last of them, where it is known.
     ghost closings: { Self → Option (Closings S K) };
 
     /// How often a send has failed. It never falls, and stands still at 2^64 - 1.

@@ -4,7 +4,7 @@ ghost use Rattle.std.specs.Prelude.{◌≡◌, None};
 use crate::{Failed, Sink, SinkError, Source};
 use std::io::{Read, Write};
 
-/// A reader of std. It doesn't tell its bytes, and each error of the reader is a fault.
+/// A reader of std. Its bytes aren't known to contracts, and each error of the reader is a fault.
 #[derive(Drop)]
 pub struct ReaderSource<R: Read + Drop> {
     reader: R,
@@ -38,7 +38,7 @@ impl<R: Read + Drop> Source for ReaderSource<R> {
     }
 }
 
-/// A writer of std. It doesn't tell its bytes. Each error of the writer is a fault, and so is a
+/// A writer of std. Its bytes aren't known to contracts. Each error of the writer is a fault, and so is a
 /// write that takes nothing.
 #[derive(Drop)]
 pub struct WriterSink<W: Write + Drop> {

@@ -46,7 +46,7 @@ pub trait Spawner<E: Send + Drop + 'static> {
     /// How many tasks were started and are not yet gathered.
     ghost waiting: { Self → ℕ };
 
-    /// The values that were gathered, in order, where it tells.
+    /// The values that were gathered, in order, where they are known.
     ghost gathered: { Self → Option (List E) };
 
     /// How often a start has failed. It never falls, and stands still at 2^64 - 1.

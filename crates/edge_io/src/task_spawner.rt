@@ -7,7 +7,7 @@ use std::alloc::Global;
 use std::collections::VecDeque;
 use std::thread::Threads;
 
-/// Runs each task in a thread of its own, or at once in the thread that starts it. It tells the values that were
+/// Runs each task in a thread of its own, or at once in the thread that starts it. Contracts know the values that were
 /// gathered, and a start fails where it is told to, or where no thread can be made.
 #[derive(Drop)]
 pub struct TaskSpawner<E: Copy + Send + 'static, R: Threads + Drop> {

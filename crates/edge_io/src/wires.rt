@@ -36,7 +36,7 @@ pub enum Arrival<S: Source + Drop, K: Sink + Drop> {
 
 /// The network of a server: the endpoint that it serves, the primary servers of its policy zones, and the upstream.
 ///
-/// Wires in memory tell what is still to come and which endpoints they were given. Wires over sockets don't.
+/// Of wires in memory contracts know what is still to come and which endpoints they were given, and not of those over sockets.
 pub trait Wires {
     /// The reading side of a connection, whether a client opened it or `fetch` did.
     type In: Source + Drop + Send + 'static;
@@ -50,15 +50,15 @@ pub trait Wires {
     /// Where replies go.
     type Back: Replies<Self::In, Self::Out> + Drop + Send + 'static;
 
-    /// The arrivals that are still to come, in order, where it tells. `None` is one that fails, and behind the last
+    /// The arrivals that are still to come, in order, where known. `None` is one that fails, and behind the last
     /// all fail.
     ghost arrivals: { Self → Option (List (Option (Arrival Self.In Self.Out))) };
 
-    /// The connections that `fetch` is still to give, in order, where it tells. `None` is a fetch that fails, and
+    /// The connections that `fetch` is still to give, in order, where known. `None` is a fetch that fails, and
     /// behind the last all fail.
     ghost fetches: { Self → Option (List (Option (Self.In × Self.Out))) };
 
-    /// The endpoints that `bind` was given, in order, where it tells. A call that ran out of memory is not among
+    /// The endpoints that `bind` was given, in order, where known. A call that ran out of memory is not among
     /// them; one that failed is.
     ghost bound: { Self → Option (List Endpoint) };
 

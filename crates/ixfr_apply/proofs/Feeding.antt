@@ -4,7 +4,7 @@ use Rattle.std.specs.List.{flat_map}
 use Rattle.std.proofs.lemmas.Grind.{flat_map-append}
 use Rattle.dns_name.specs.Reading.{◌>>=◌}
 use Rattle.zone_rows.specs.declared.transfer.Transfer.{Transfer}
-use Rattle.axfr_apply.specs.declared.asked.Asked.{Asked}
+use Rattle.axfr_apply.specs.declared.transfer_request.TransferRequest.{TransferRequest}
 use Rattle.axfr_apply.specs.declared.fault.TransferError.{TransferError}
 use Rattle.axfr_apply.specs.declared.fault.TransferError.TheVariants as errors
 use Rattle.axfr_apply.specs.declared.fault.TransferFault.{TransferFault}
@@ -36,12 +36,12 @@ same_more : (p q : Progress) → more p ≡ more q → p ≡ q
 same_more p q e = cc
 
 -- what a message does to a reader that waits
-pub record Fated (asked : Asked) (p : Progress) (messages : List (List ℕ)) (gives : Result FeedOutcome TransferFault) : Type 0 where
+pub record Fated (asked : TransferRequest) (p : Progress) (messages : List (List ℕ)) (gives : Result FeedOutcome TransferFault) : Type 0 where
   pub ends : outcome_of asked messages ≡ outcome_by gives
   pub waits : (q : Progress) → gives ≡ Ok (more q) → WaitsBehind asked (Some q) messages
 
 -- where no item ends the transfer, it is what the blocks are
-goes_by : (asked : Asked) (p : Progress) (messages : List (List ℕ)) (transfer : Option Transfer) → Stands asked p (items messages) → transfer_of p.gathered ≡ transfer → Fated asked p messages (Ok (transfer_outcome transfer p))
+goes_by : (asked : TransferRequest) (p : Progress) (messages : List (List ℕ)) (transfer : Option Transfer) → Stands asked p (items messages) → transfer_of p.gathered ≡ transfer → Fated asked p messages (Ok (transfer_outcome transfer p))
 unfolding outcome_of
 goes_by asked p messages None stands e =
     let here : transfer_of (blocks (records (items messages))) ≡ None = rw (← stands.gathered) e in
@@ -50,7 +50,7 @@ goes_by asked p messages (Some transfer) stands e =
     let here : transfer_of (blocks (records (items messages))) ≡ Some transfer = rw (← stands.gathered) e in
     record { ends = rw (stands.no_end, here) refl; waits = λ q same. absurd cc }
 
-fated_by : (asked : Asked) (p : Progress) (messages : List (List ℕ)) (octets : List ℕ) (run : Result Next TransferFault) → Stands asked p (items messages) → Agrees asked (items messages) (items_of octets) run
+fated_by : (asked : TransferRequest) (p : Progress) (messages : List (List ℕ)) (octets : List ℕ) (run : Result Next TransferFault) → Stands asked p (items messages) → Agrees asked (items messages) (items_of octets) run
     → Fated asked p (messages ++ octets ∷ []) (run >>= next_outcome)
 unfolding outcome_of
 fated_by asked p messages octets (Err fault) stands agrees =
@@ -64,11 +64,11 @@ fated_by asked p messages octets (Ok (on q)) stands agrees =
     let g = goes_by asked q (messages ++ octets ∷ []) (transfer_of q.gathered) behind refl in
     record { ends = g.ends; waits = g.waits }
 
-pub fated : (goes : GoesByRecords) (asked : Asked) (p : Progress) (messages : List (List ℕ)) (octets : List ℕ) → Stands asked p (items messages) → Fated asked p (messages ++ octets ∷ []) (feed_outcome asked (Some p) octets)
+pub fated : (goes : GoesByRecords) (asked : TransferRequest) (p : Progress) (messages : List (List ℕ)) (octets : List ℕ) → Stands asked p (items messages) → Fated asked p (messages ++ octets ∷ []) (feed_outcome asked (Some p) octets)
 fated goes asked p messages octets stands = fated_by asked p messages octets (message_run asked p octets) stands (message_agrees goes asked p (items messages) octets stands)
 
 -- a reader meets what a message does to it
-meets_feeds : (asked : Asked) (p : Progress) (new : Reader) (messages : List (List ℕ)) (gives : Result FeedOutcome TransferFault) (result : Result Fed TransferError) (np : Option Progress) → new.asked ≡ asked → new.progress ≡ np → Fated asked p messages gives → Meets result np gives
+meets_feeds : (asked : TransferRequest) (p : Progress) (new : Reader) (messages : List (List ℕ)) (gives : Result FeedOutcome TransferFault) (result : Result Fed TransferError) (np : Option Progress) → new.asked ≡ asked → new.progress ≡ np → Fated asked p messages gives → Meets result np gives
     → Feeds result new messages (outcome_of asked messages)
 meets_feeds asked p new messages gives (Ok fed.More) None same is f meets = absurd meets
 meets_feeds asked p new messages gives (Ok fed.More) (Some q) same is f meets =
@@ -78,18 +78,18 @@ meets_feeds asked p new messages gives (Ok (fed.Done transfer)) np same is f mee
 meets_feeds asked p new messages gives (Err errors.OutOfMemory) np same is f meets = is ∙ meets
 meets_feeds asked p new messages gives (Err (errors.Fault fault)) np same is f meets = (f.ends ∙ ap outcome_by meets.0, is ∙ meets.1)
 
-feeds_by : (goes : GoesByRecords) (asked : Asked) (old : Option Progress) (new : Reader) (messages : List (List ℕ)) (octets : List ℕ) (result : Result Fed TransferError) → new.asked ≡ asked → WaitsBehind asked old messages → Meets result new.progress (feed_outcome asked old octets)
+feeds_by : (goes : GoesByRecords) (asked : TransferRequest) (old : Option Progress) (new : Reader) (messages : List (List ℕ)) (octets : List ℕ) (result : Result Fed TransferError) → new.asked ≡ asked → WaitsBehind asked old messages → Meets result new.progress (feed_outcome asked old octets)
     → Feeds result new (messages ++ octets ∷ []) (outcome_of asked (messages ++ octets ∷ []))
 feeds_by goes asked None new messages octets result same waits meets = absurd waits
 feeds_by goes asked (Some p) new messages octets result same waits meets = meets_feeds asked p new (messages ++ octets ∷ []) (feed_outcome asked (Some p) octets) result new.progress same refl (fated goes asked p messages octets waits.0) meets
 
-meets_old : (old : Reader) (new : Option Progress) (p : Progress) (asked : Asked) (octets : List ℕ) (result : Result Fed TransferError) → old.asked ≡ asked → old.progress ≡ Some p → Meets result new (feed_outcome asked (Some p) octets)
+meets_old : (old : Reader) (new : Option Progress) (p : Progress) (asked : TransferRequest) (octets : List ℕ) (result : Result Fed TransferError) → old.asked ≡ asked → old.progress ≡ Some p → Meets result new (feed_outcome asked (Some p) octets)
     → Meets result new (feed_outcome old.asked old.progress octets)
 meets_old old new p asked octets result same is meets =
-    subst (λ (o : Option Progress). Meets result new (feed_outcome old.asked o octets)) (sym is) (subst (λ (a : Asked). Meets result new (feed_outcome a (Some p) octets)) (sym same) meets)
+    subst (λ (o : Option Progress). Meets result new (feed_outcome old.asked o octets)) (sym is) (subst (λ (a : TransferRequest). Meets result new (feed_outcome a (Some p) octets)) (sym same) meets)
 
 -- what a message does to a reader that has come so far
-pub feeds : (goes : GoesByRecords) (old new : Reader) (p : Progress) (asked : Asked) (octets : List ℕ) (result : Result Fed TransferError) → old.asked ≡ asked → old.progress ≡ Some p → new.asked ≡ asked → Meets result new.progress (feed_outcome asked (Some p) octets)
+pub feeds : (goes : GoesByRecords) (old new : Reader) (p : Progress) (asked : TransferRequest) (octets : List ℕ) (result : Result Fed TransferError) → old.asked ≡ asked → old.progress ≡ Some p → new.asked ≡ asked → Meets result new.progress (feed_outcome asked (Some p) octets)
     → (messages : List (List ℕ)) → Waits old messages → Feeds result new (messages ++ octets ∷ []) (outcome_of old.asked (messages ++ octets ∷ []))
 feeds goes old new p asked octets result same is after meets messages waits =
     feeds_by goes old.asked old.progress new messages octets result (after ∙ sym same) waits (meets_old old new.progress p asked octets result same is meets)
@@ -103,24 +103,24 @@ run_more (Err fault) q e = absurd cc
 run_more (Ok (current theirs)) q e = absurd cc
 run_more (Ok (on p)) q e = let fated : transfer_outcome (transfer_of p.gathered) p ≡ more q = cc in ap (λ (x : Progress). Ok (on x)) (more_is (transfer_of p.gathered) p q fated)
 
-falls_by : (asked : Asked) (p : Progress) (np : Option Progress) (octets : List ℕ) (result : Result Fed TransferError) → Meets result np (feed_outcome asked (Some p) octets) → Falls result (asked.most - p.count) (progress_left asked np)
+falls_by : (asked : TransferRequest) (p : Progress) (np : Option Progress) (octets : List ℕ) (result : Result Fed TransferError) → Meets result np (feed_outcome asked (Some p) octets) → Falls result (asked.most - p.count) (progress_left asked np)
 falls_by asked p None octets (Ok fed.More) meets = absurd meets
 falls_by asked p (Some q) octets (Ok fed.More) meets = let rises = message_rises asked p q octets (run_more (message_run asked p octets) q meets) in omega (arith, rises.0, rises.1)
 falls_by asked p np octets (Ok (fed.Current theirs)) meets = tt
 falls_by asked p np octets (Ok (fed.Done transfer)) meets = tt
 falls_by asked p np octets (Err e) meets = tt
 
-left_is : (old : Reader) (p : Progress) (asked : Asked) → old.asked ≡ asked → old.progress ≡ Some p → left_of old ≡ asked.most - p.count
-left_is old p asked same is = ap (λ (o : Option Progress). progress_left old.asked o) is ∙ ap (λ (a : Asked). a.most - p.count) same
+left_is : (old : Reader) (p : Progress) (asked : TransferRequest) → old.asked ≡ asked → old.progress ≡ Some p → left_of old ≡ asked.most - p.count
+left_is old p asked same is = ap (λ (o : Option Progress). progress_left old.asked o) is ∙ ap (λ (a : TransferRequest). a.most - p.count) same
 
-pub falls : (old new : Reader) (p : Progress) (asked : Asked) (octets : List ℕ) (result : Result Fed TransferError) → old.asked ≡ asked → old.progress ≡ Some p → new.asked ≡ asked → Meets result new.progress (feed_outcome asked (Some p) octets)
+pub falls : (old new : Reader) (p : Progress) (asked : TransferRequest) (octets : List ℕ) (result : Result Fed TransferError) → old.asked ≡ asked → old.progress ≡ Some p → new.asked ≡ asked → Meets result new.progress (feed_outcome asked (Some p) octets)
     → Falls result (left_of old) (left_of new)
 falls old new p asked octets result same is after meets =
-    let left : left_of new ≡ progress_left asked new.progress = ap (λ (a : Asked). progress_left a new.progress) after in
+    let left : left_of new ≡ progress_left asked new.progress = ap (λ (a : TransferRequest). progress_left a new.progress) after in
     subst (λ (n : ℕ). Falls result n (left_of new)) (sym (left_is old p asked same is))
     (subst (λ (n : ℕ). Falls result (asked.most - p.count) n) (sym left) (falls_by asked p new.progress octets result meets))
 
 -- nothing came yet
-pub none_waits : (asked : Asked) → Stands asked new_progress (items [])
+pub none_waits : (asked : TransferRequest) → Stands asked new_progress (items [])
 unfolding items first_end records
 none_waits asked = record { count = refl; no_end = refl; gathered = refl }

@@ -10,16 +10,16 @@ use Rattle.dns_record.specs.Serial.{is_newer}
 use Rattle.dns_message.specs.declared.fault.MessageFault.{MessageFault}
 use Rattle.dns_message.specs.declared.message.Message.{Message}
 use Rattle.dns_message.specs.Reading.{message_of}
-use Rattle.axfr_apply.specs.declared.asked.Asked.{Asked}
-use Rattle.axfr_apply.specs.declared.asked.Wanted.{Wanted}
-use Rattle.axfr_apply.specs.declared.asked.Wanted.TheVariants as wants
+use Rattle.axfr_apply.specs.declared.transfer_request.TransferRequest.{TransferRequest}
+use Rattle.axfr_apply.specs.declared.transfer_request.Wanted.{Wanted}
+use Rattle.axfr_apply.specs.declared.transfer_request.Wanted.TheVariants as wants
 use Rattle.axfr_apply.specs.declared.fault.TransferError.{TransferError}
 use Rattle.axfr_apply.specs.declared.fault.TransferError.TheVariants as errors
 use Rattle.axfr_apply.specs.declared.fault.TransferFault.{TransferFault}
 use Rattle.axfr_apply.specs.declared.fault.TransferFault.TheVariants.{WrongId, NotResponse, Truncated, Rcode, WrongQuestion, NoLeadingSoa, WrongClass, OutOfZone, WrongSoaOwner, SoaDiffers, Gap, SerialNotNewer, TrailingRecord, TooManyRecords}
 use Rattle.axfr_apply.specs.Block.{Block, is_empty, is_incremental, is_soa, soa_held, transfer_of}
 use Rattle.axfr_apply.specs.Checks.{checked_head, checked_message, unless}
-use Rattle.axfr_apply.specs.Reading.{End, answer_end, begins, begin_fault, behind_step_fault, close_fault, first_soa_end, first_step_fault, forward_fault, head_fault, later_soa_fault, open_end, place_fault, place_or, question_fits, soa_end, step_soa_fault}
+use Rattle.axfr_apply.specs.Reading.{End, answer_end, soa_block, begin_fault, behind_step_fault, close_fault, first_soa_end, first_step_fault, forward_fault, head_fault, later_soa_fault, open_end, place_fault, place_or, question_fits, soa_end, step_soa_fault}
 use Rattle.ixfr_apply.specs.declared.progress.Progress.{Progress}
 use Rattle.ixfr_apply.specs.declared.reader.Fed.{Fed}
 use Rattle.ixfr_apply.specs.Feeding.{IsOfMessage, IsOfReader, FeedOutcome, feed_outcome, next_outcome, Meets}
@@ -54,7 +54,7 @@ fails_then : {X Y : Type 0} (x : Result X TransferFault) (f : X → Result Y Tra
 fails_then (Ok v) f p q = q v
 fails_then (Err fault) f p q = p
 
-own_head : (asked : Asked) (is_first : Bool) (m : Message) → IsOwn (head_fault asked is_first m)
+own_head : (asked : TransferRequest) (is_first : Bool) (m : Message) → IsOwn (head_fault asked is_first m)
 own_head asked is_first m =
     five_own (not (m.header.id == asked.id)) (not (m.header.qr && m.header.opcode == 0)) m.header.tc (not (m.header.rcode == 0)) (not (question_fits asked is_first m.question)) m.header.rcode
 
@@ -65,7 +65,7 @@ own_unless : {X : Type 0} (fault : Option TransferFault) (x : X) → IsOwn fault
 own_unless None x p = tt
 own_unless (Some fault) x p = p
 
-own_checked : (asked : Asked) (is_first : Bool) (read : Result Message MessageFault) → FailsOwn (checked_head asked is_first read)
+own_checked : (asked : TransferRequest) (is_first : Bool) (read : Result Message MessageFault) → FailsOwn (checked_head asked is_first read)
 own_checked asked is_first (Ok m) = own_unless (head_fault asked is_first m) m (own_head asked is_first m)
 own_checked asked is_first (Err fault) = tt
 
@@ -109,7 +109,7 @@ own_step wanted newest (old ∷ new ∷ next ∷ others) found = own_step wanted
 
 own_later : (wanted : Wanted) (first : Block) (others : List Block) (soa : Soa) → IsOwn (later_soa_fault wanted first others soa)
 own_later wanted first others soa =
-    own_if (is_incremental (first ∷ (others ++ begins soa ∷ []))) (step_soa_fault wanted first.soa.serial others soa.serial) (close_fault first.soa.serial soa.serial)
+    own_if (is_incremental (first ∷ (others ++ soa_block soa ∷ []))) (step_soa_fault wanted first.soa.serial others soa.serial) (close_fault first.soa.serial soa.serial)
     (own_step wanted first.soa.serial others soa.serial) (own_close first.soa.serial soa.serial)
 
 own_first : (wanted : Wanted) (alone : Bool) (theirs : ℕ) → EndsOwn (first_soa_end wanted alone theirs)
@@ -131,7 +131,7 @@ own_open : (wanted : Wanted) (alone : Bool) (bs : List Block) (soa : Option Soa)
 own_open wanted alone bs None fault p = ends_if (is_empty bs) (Some (Err NoLeadingSoa)) (place_or fault None) tt (own_placed fault None p tt)
 own_open wanted alone bs (Some soa) fault p = own_placed fault (soa_end wanted alone bs soa) p (own_soa wanted alone bs soa)
 
-own_record : (asked : Asked) (alone : Bool) (bs : List Block) (r : PlainRecord) → EndsOwn (answer_end asked alone bs r)
+own_record : (asked : TransferRequest) (alone : Bool) (bs : List Block) (r : PlainRecord) → EndsOwn (answer_end asked alone bs r)
 own_record asked alone bs r =
     let fault : Option TransferFault = place_fault asked.origin (is_soa r) r in
     ends_if (is_some (transfer_of bs)) (Some (Err TrailingRecord)) (open_end asked.wanted alone bs (soa_held r) fault) tt
@@ -142,10 +142,10 @@ own_stepped p r None h = tt
 own_stepped p r (Some (Ok theirs)) h = tt
 own_stepped p r (Some (Err fault)) h = h
 
-own_counted : (asked : Asked) (p : Progress) → FailsOwn (one_more asked p)
+own_counted : (asked : TransferRequest) (p : Progress) → FailsOwn (one_more asked p)
 own_counted asked p = fails_if (nat_le asked.most (p.count + 1)) (Err (TooManyRecords asked.most)) (Ok (record p { count = p.count + 1 })) tt tt
 
-own_answer : (asked : Asked) (alone : Bool) (p : Progress) (r : PlainRecord) → FailsOwn (answer_run asked alone p r)
+own_answer : (asked : TransferRequest) (alone : Bool) (p : Progress) (r : PlainRecord) → FailsOwn (answer_run asked alone p r)
 own_answer asked alone p r =
     fails_then (one_more asked p) (λ now. next_of now r (answer_end asked alone now.gathered r)) (own_counted asked p)
     (λ now. own_stepped now r (answer_end asked alone now.gathered r) (own_record asked alone now.gathered r))
@@ -154,13 +154,13 @@ own_going : (f : Progress → Result Next TransferFault) → ((p : Progress) →
 own_going f own (on p) = own p
 own_going f own (current theirs) = tt
 
-own_answers : (asked : Asked) (alone : Bool) (p : Progress) (rs : List PlainRecord) → FailsOwn (answers_run asked alone p rs)
+own_answers : (asked : TransferRequest) (alone : Bool) (p : Progress) (rs : List PlainRecord) → FailsOwn (answers_run asked alone p rs)
 own_answers asked alone p [] = tt
 own_answers asked alone p (r ∷ rs) =
     fails_then (answer_run asked alone p r) (then_more (λ now. answers_run asked alone now rs)) (own_answer asked alone p r)
     (own_going (λ now. answers_run asked alone now rs) (λ now. own_answers asked alone now rs))
 
-own_message : (asked : Asked) (p : Progress) (octets : List ℕ) → FailsOwn (message_run asked p octets)
+own_message : (asked : TransferRequest) (p : Progress) (octets : List ℕ) → FailsOwn (message_run asked p octets)
 unfolding message_run
 own_message asked p octets = fails_then (one_more asked p) (λ now. checked_message asked (p.count == 0) octets >>= λ m. answers_run asked (length m.answer == 1) now m.answer) (own_counted asked p)
     (λ now. fails_then (checked_message asked (p.count == 0) octets) (λ m. answers_run asked (length m.answer == 1) now m.answer) (own_checked asked (p.count == 0) (message_of octets)) (λ m. own_answers asked (length m.answer == 1) now m.answer))
@@ -169,7 +169,7 @@ own_next : (next : Next) → FailsOwn (next_outcome next)
 own_next (on p) = tt
 own_next (current theirs) = tt
 
-own_fate : (asked : Asked) (p : Progress) (octets : List ℕ) → FailsOwn (feed_outcome asked (Some p) octets)
+own_fate : (asked : TransferRequest) (p : Progress) (octets : List ℕ) → FailsOwn (feed_outcome asked (Some p) octets)
 own_fate asked p octets = fails_then (message_run asked p octets) next_outcome (own_message asked p octets) own_next
 
 own_error : (gives : Result FeedOutcome TransferFault) (e : TransferError) (new : Option Progress) → FailsOwn gives → Meets (Err e) new gives → IsOfReader e
@@ -177,6 +177,6 @@ own_error gives errors.OutOfMemory new own meets = tt
 own_error gives (errors.Fault fault) new own meets = subst (λ (x : Result FeedOutcome TransferFault). FailsOwn x) meets.0 own
 
 -- a fault that a reader shows is one of its message
-pub own_result : (asked : Asked) (p : Progress) (octets : List ℕ) (result : Result Fed TransferError) (new : Option Progress) → Meets result new (feed_outcome asked (Some p) octets) → IfErr result IsOfReader
+pub own_result : (asked : TransferRequest) (p : Progress) (octets : List ℕ) (result : Result Fed TransferError) (new : Option Progress) → Meets result new (feed_outcome asked (Some p) octets) → IfErr result IsOfReader
 own_result asked p octets (Ok x) new meets = tt
 own_result asked p octets (Err e) new meets = own_error (feed_outcome asked (Some p) octets) e new (own_fate asked p octets) meets

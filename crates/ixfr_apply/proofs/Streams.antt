@@ -4,7 +4,7 @@ use Rattle.std.specs.Prelude.{nat_lt, IfSome}
 use Rattle.std.proofs.lemmas.Bool.{lt-ltb, le-ltb}
 use Rattle.edge_io.specs.Edge.{prepended, IsAtEnd}
 use Rattle.edge_io.specs.Frame.{Frame, none, cut, whole, frame_at, frame_octets, TakesSome, TakesFrame, TakesNone, TakesCut, IsCut}
-use Rattle.axfr_apply.specs.declared.asked.Asked.{Asked}
+use Rattle.axfr_apply.specs.declared.transfer_request.TransferRequest.{TransferRequest}
 use Rattle.axfr_apply.specs.declared.fault.TransferError.{TransferError}
 use Rattle.axfr_apply.specs.declared.fault.TransferError.TheVariants as errors
 use Rattle.axfr_apply.specs.declared.fault.TransferFault.TheVariants.{ReadFault, Cut, EndedEarly}
@@ -18,14 +18,14 @@ use Rattle.axfr_apply.specs.Reading.{Outcome, outcome_of}
 use Rattle.ixfr_apply.specs.Stream.{Read, read_end, read_of_frame, read_from, reading, BlamesSource, Reads, ReadsAs, TakesMessage}
 
 -- a stream of which these messages were read, and the rest is left
-pub record Comes (asked : Asked) (messages : List (List ℕ)) (bytes : List ℕ) (now : Option (List ℕ)) : Type 0 where
+pub record Comes (asked : TransferRequest) (messages : List (List ℕ)) (bytes : List ℕ) (now : Option (List ℕ)) : Type 0 where
   pub rest : List ℕ
   pub left : now ≡ Some rest
   pub frames : ℕ
   pub enough : length rest < frames
   pub goes : reading asked bytes ≡ read_from frames asked messages rest
 
-pub record HasCome (asked : Asked) (reader : Reader) (before now : Option (List ℕ)) : Type 0 where
+pub record HasCome (asked : TransferRequest) (reader : Reader) (before now : Option (List ℕ)) : Type 0 where
   pub same : reader.asked ≡ asked
   pub messages : List (List ℕ)
   pub waits : Waits reader messages
@@ -43,17 +43,17 @@ prepended-two xs ys (Some rest) = ap Some (sym (append_assoc xs ys rest))
 pub takes_more : (before now after : Option (List ℕ)) → TakesSome before now → TakesSome now after → TakesSome before after
 takes_more before now after first other = (first.0 ++ other.0, first.1 ∙ ap (prepended first.0) other.1 ∙ prepended-two first.0 other.0 after)
 
-first_comes : (asked : Asked) (before : Option (List ℕ)) → IfSome before (λ bytes. Comes asked [] bytes before)
+first_comes : (asked : TransferRequest) (before : Option (List ℕ)) → IfSome before (λ bytes. Comes asked [] bytes before)
 unfolding reading
 first_comes asked None = tt
 first_comes asked (Some bytes) = record { rest = bytes; left = refl; frames = length bytes + 1; enough = omega arith; goes = refl }
 
 -- nothing was read
-pub first_come : (asked : Asked) (reader : Reader) (before : Option (List ℕ)) → reader.asked ≡ asked → Waits reader [] → HasCome asked reader before before
+pub first_come : (asked : TransferRequest) (reader : Reader) (before : Option (List ℕ)) → reader.asked ≡ asked → Waits reader [] → HasCome asked reader before before
 first_come asked reader before same waits = record { same = same; messages = []; waits = waits; bytes = first_comes asked before; taken = takes_none before }
 
 -- the next step of the reading, at what the rest begins with
-read_step : (asked : Asked) (messages : List (List ℕ)) (rest : List ℕ) (frames : ℕ) (frame : Frame) → length rest < frames → frame_at rest ≡ frame
+read_step : (asked : TransferRequest) (messages : List (List ℕ)) (rest : List ℕ) (frames : ℕ) (frame : Frame) → length rest < frames → frame_at rest ≡ frame
     → (fewer : ℕ) × (frames ≡ suc fewer) × (read_from frames asked messages rest ≡ read_of_frame (read_from fewer asked) asked messages frame)
 unfolding read_from
 read_step asked messages rest zero frame enough e = absurd (omega (arith, enough))
@@ -67,7 +67,7 @@ at_end_nil : (after : Option (List ℕ)) (left : List ℕ) → after ≡ Some le
 at_end_nil after left e end = rw e at end
 
 -- the stream ended between frames
-pub none_ends : (asked : Asked) (messages : List (List ℕ)) (bytes : List ℕ) (now after : Option (List ℕ)) → Comes asked messages bytes now → TakesNone now after
+pub none_ends : (asked : TransferRequest) (messages : List (List ℕ)) (bytes : List ℕ) (now after : Option (List ℕ)) → Comes asked messages bytes now → TakesNone now after
     → ((reading asked bytes).0 ≡ Err EndedEarly) × (after ≡ Some (reading asked bytes).1)
 none_ends asked messages bytes now after comes takes =
     let empty : comes.rest ≡ [] = at_end_nil now comes.rest comes.left takes.at_end in
@@ -81,7 +81,7 @@ cut_at (high ∷ []) is = refl
 cut_at (high ∷ low ∷ message) is = rw (lt-ltb (length message) (256 * high + low) is) refl
 
 -- the stream ended inside a frame
-pub cut_ends : (asked : Asked) (messages : List (List ℕ)) (bytes : List ℕ) (now after : Option (List ℕ)) → Comes asked messages bytes now → TakesCut now after
+pub cut_ends : (asked : TransferRequest) (messages : List (List ℕ)) (bytes : List ℕ) (now after : Option (List ℕ)) → Comes asked messages bytes now → TakesCut now after
     → ((reading asked bytes).0 ≡ Err Cut) × (after ≡ Some (reading asked bytes).1)
 cut_ends asked messages bytes now after comes takes =
     let parts = is_some_end after comes.rest takes.octets (sym comes.left ∙ takes.taken) in
@@ -97,14 +97,14 @@ whole_at high low message left e =
     rw (long, take_at message left (256 * high + low) e, drop_at message left (256 * high + low) e) refl
 
 -- a message that was read, and how the reading goes on behind it
-pub record Framed (asked : Asked) (messages : List (List ℕ)) (bytes : List ℕ) (after : Option (List ℕ)) : Type 0 where
+pub record Framed (asked : TransferRequest) (messages : List (List ℕ)) (bytes : List ℕ) (after : Option (List ℕ)) : Type 0 where
   pub rest : List ℕ
   pub left : after ≡ Some rest
   pub frames : ℕ
   pub enough : length rest < frames
   pub goes : reading asked bytes ≡ read_end (read_from frames asked) messages rest (outcome_of asked messages)
 
-pub frame_comes : (asked : Asked) (messages : List (List ℕ)) (message bytes : List ℕ) (now after : Option (List ℕ)) → Comes asked messages bytes now → TakesFrame message now after → Framed asked (messages ++ message ∷ []) bytes after
+pub frame_comes : (asked : TransferRequest) (messages : List (List ℕ)) (message bytes : List ℕ) (now after : Option (List ℕ)) → Comes asked messages bytes now → TakesFrame message now after → Framed asked (messages ++ message ∷ []) bytes after
 frame_comes asked messages message bytes now after comes takes =
     let parts = is_some_end after comes.rest (frame_octets message) (sym comes.left ∙ takes.taken) in
     let frame : frame_at comes.rest ≡ whole message parts.0 = ap frame_at parts.2 ∙ whole_at (length message / 256) (length message % 256) message parts.0 (omega arith) in
@@ -118,14 +118,14 @@ frame_comes asked messages message bytes now after comes takes =
     }
 
 -- the message ends the transfer
-pub framed_ends : (asked : Asked) (messages : List (List ℕ)) (bytes : List ℕ) (after : Option (List ℕ)) (outcome : Outcome) → Framed asked messages bytes after → outcome_of asked messages ≡ Some outcome
+pub framed_ends : (asked : TransferRequest) (messages : List (List ℕ)) (bytes : List ℕ) (after : Option (List ℕ)) (outcome : Outcome) → Framed asked messages bytes after → outcome_of asked messages ≡ Some outcome
     → ((reading asked bytes).0 ≡ outcome) × (after ≡ Some (reading asked bytes).1)
 framed_ends asked messages bytes after outcome framed e =
     let read : reading asked bytes ≡ (outcome, framed.rest) = framed.goes ∙ ap (read_end (read_from framed.frames asked) messages framed.rest) e in
     (ap (λ (x : Read). x.0) read, framed.left ∙ ap Some (sym (ap (λ (x : Read). x.1) read)))
 
 -- the message doesn't
-pub framed_comes : (asked : Asked) (messages : List (List ℕ)) (bytes : List ℕ) (after : Option (List ℕ)) → Framed asked messages bytes after → outcome_of asked messages ≡ None → Comes asked messages bytes after
+pub framed_comes : (asked : TransferRequest) (messages : List (List ℕ)) (bytes : List ℕ) (after : Option (List ℕ)) → Framed asked messages bytes after → outcome_of asked messages ≡ None → Comes asked messages bytes after
 framed_comes asked messages bytes after framed e = record {
   rest = framed.rest;
   left = framed.left;
@@ -140,7 +140,7 @@ if_some None P Q more h = tt
 if_some (Some bytes) P Q more h = more bytes h
 
 -- what an error of reading a message says of the stream
-pub message_error : (asked : Asked) (reader : Reader) (before now after : Option (List ℕ)) (e : TransferError) → HasCome asked reader before now → TakesMessage (Err e) now after → Reads asked (Err e) before after
+pub message_error : (asked : TransferRequest) (reader : Reader) (before now after : Option (List ℕ)) (e : TransferError) → HasCome asked reader before now → TakesMessage (Err e) now after → Reads asked (Err e) before after
 message_error asked reader before now after errors.OutOfMemory come takes = takes_more before now after come.taken takes
 message_error asked reader before now after (errors.Fault ReadFault) come takes = takes_more before now after come.taken takes
 message_error asked reader before now after (errors.Fault Cut) come takes = if_some before _ _ (λ bytes comes. cut_ends asked come.messages bytes now after comes takes) come.bytes
@@ -164,30 +164,30 @@ pub frame_taken : (message : List ℕ) (now after : Option (List ℕ)) → Takes
 frame_taken message now after takes = (frame_octets message, takes.taken)
 
 -- how a message that was fed ends the transfer
-abbrev FedAll : Asked → Reader → Reader → List ℕ → Result Fed TransferError → Type 0
+abbrev FedAll : TransferRequest → Reader → Reader → List ℕ → Result Fed TransferError → Type 0
 FedAll asked old new message result = (messages : List (List ℕ)) → Waits old messages → Feeds result new (messages ++ message ∷ []) (outcome_of old.asked (messages ++ message ∷ []))
 
-ends_so : (asked : Asked) (old : Reader) (before now after : Option (List ℕ)) (message : List ℕ) (outcome : Outcome) → (come : HasCome asked old before now) → TakesFrame message now after
+ends_so : (asked : TransferRequest) (old : Reader) (before now after : Option (List ℕ)) (message : List ℕ) (outcome : Outcome) → (come : HasCome asked old before now) → TakesFrame message now after
     → outcome_of old.asked (come.messages ++ message ∷ []) ≡ Some outcome → ReadsAs asked outcome before after
 ends_so asked old before now after message outcome come takes e =
     let ended : outcome_of asked (come.messages ++ message ∷ []) ≡ Some outcome = rw (← come.same) e in
     if_some before _ _ (λ bytes comes. framed_ends asked (come.messages ++ message ∷ []) bytes after outcome (frame_comes asked come.messages message bytes now after comes takes) ended) come.bytes
 
-pub fed_error : (asked : Asked) (old new : Reader) (before now after : Option (List ℕ)) (message : List ℕ) (e : TransferError) → HasCome asked old before now → TakesFrame message now after → FedAll asked old new message (Err e) → Reads asked (Err e) before after
+pub fed_error : (asked : TransferRequest) (old new : Reader) (before now after : Option (List ℕ)) (message : List ℕ) (e : TransferError) → HasCome asked old before now → TakesFrame message now after → FedAll asked old new message (Err e) → Reads asked (Err e) before after
 fed_error asked old new before now after message errors.OutOfMemory come takes feeds = takes_more before now after come.taken (frame_taken message now after takes)
 fed_error asked old new before now after message (errors.Fault ReadFault) come takes feeds = takes_more before now after come.taken (frame_taken message now after takes)
 fed_error asked old new before now after message (errors.Fault fault) come takes feeds = ends_so asked old before now after message (Err fault) come takes (feeds come.messages come.waits).0
 
-pub fed_current : (asked : Asked) (old new : Reader) (before now after : Option (List ℕ)) (message : List ℕ) (theirs : ℕ) → HasCome asked old before now → TakesFrame message now after → FedAll asked old new message (Ok (fed.Current theirs))
+pub fed_current : (asked : TransferRequest) (old new : Reader) (before now after : Option (List ℕ)) (message : List ℕ) (theirs : ℕ) → HasCome asked old before now → TakesFrame message now after → FedAll asked old new message (Ok (fed.Current theirs))
     → ReadsAs asked (Ok (taken.Current theirs)) before after
 fed_current asked old new before now after message theirs come takes feeds = ends_so asked old before now after message (Ok (taken.Current theirs)) come takes (feeds come.messages come.waits).0
 
-pub fed_done : (asked : Asked) (old new : Reader) (before now after : Option (List ℕ)) (message : List ℕ) (transfer : Transfer) → HasCome asked old before now → TakesFrame message now after → FedAll asked old new message (Ok (fed.Done transfer))
+pub fed_done : (asked : TransferRequest) (old new : Reader) (before now after : Option (List ℕ)) (message : List ℕ) (transfer : Transfer) → HasCome asked old before now → TakesFrame message now after → FedAll asked old new message (Ok (fed.Done transfer))
     → ReadsAs asked (Ok (taken.New transfer)) before after
 fed_done asked old new before now after message transfer come takes feeds = ends_so asked old before now after message (Ok (taken.New transfer)) come takes (feeds come.messages come.waits).0
 
 -- the transfer goes on behind the message
-pub comes_on : (asked : Asked) (old new : Reader) (before now after : Option (List ℕ)) (message : List ℕ) → HasCome asked old before now → TakesFrame message now after → FedAll asked old new message (Ok fed.More) → new.asked ≡ old.asked
+pub comes_on : (asked : TransferRequest) (old new : Reader) (before now after : Option (List ℕ)) (message : List ℕ) → HasCome asked old before now → TakesFrame message now after → FedAll asked old new message (Ok fed.More) → new.asked ≡ old.asked
     → HasCome asked new before after
 comes_on asked old new before now after message come takes feeds same =
     let f = feeds come.messages come.waits in
@@ -201,11 +201,11 @@ comes_on asked old new before now after message come takes feeds same =
     }
 
 -- a reader that has come so far hasn't ended
-waits_on : (asked : Asked) (progress : Option Progress) (messages : List (List ℕ)) → WaitsBehind asked progress messages → progress ≡ None → ⊥
+waits_on : (asked : TransferRequest) (progress : Option Progress) (messages : List (List ℕ)) → WaitsBehind asked progress messages → progress ≡ None → ⊥
 waits_on asked None messages waits e = waits
 waits_on asked (Some p) messages waits e = absurd cc
 
-pub goes_on : (asked : Asked) (reader : Reader) (before now : Option (List ℕ)) → HasCome asked reader before now → IsFinished reader → ⊥
+pub goes_on : (asked : TransferRequest) (reader : Reader) (before now : Option (List ℕ)) → HasCome asked reader before now → IsFinished reader → ⊥
 goes_on asked reader before now come e = waits_on reader.asked reader.progress come.messages come.waits e
 
 pub own_blames : (e : TransferError) (blame : Type 0) → IsOfReader e → BlamesSource e blame

@@ -2,7 +2,7 @@
 use Rattle.std.specs.Prelude.{◌≡◌, ℕ, ◌-◌, ◌<◌, List, [], length, Option, Some, None, Result, Ok, Err, ⊤}
 use Rattle.dns_name.specs.Reading.{◌>>=◌}
 use Rattle.zone_rows.specs.declared.transfer.Transfer.{Transfer}
-use Rattle.axfr_apply.specs.declared.asked.Asked.{Asked}
+use Rattle.axfr_apply.specs.declared.transfer_request.TransferRequest.{TransferRequest}
 use Rattle.axfr_apply.specs.declared.fault.TransferError.{TransferError}
 use Rattle.axfr_apply.specs.declared.fault.TransferError.TheVariants as errors
 use Rattle.axfr_apply.specs.declared.fault.TransferFault.{TransferFault}
@@ -18,10 +18,10 @@ use Rattle.ixfr_apply.specs.Progress.{Next, on, current, message_run, new_progre
 
 -- a reader: what was asked for, and how far the transfer has come, unless it has ended
 pub record Reader : Type 0 where
-  pub asked : Asked
+  pub asked : TransferRequest
   pub progress : Option Progress
 
-abbrev pub new_reader : Asked → Reader
+abbrev pub new_reader : TransferRequest → Reader
 new_reader asked = record { asked = asked; progress = Some new_progress }
 
 -- the transfer has ended
@@ -29,13 +29,13 @@ abbrev pub IsFinished : Reader → Type 0
 IsFinished reader = reader.progress ≡ None
 
 -- this is how far the items have brought the transfer, which none of them ends
-pub record Stands (asked : Asked) (p : Progress) (its : List Item) : Type 0 where
+pub record Stands (asked : TransferRequest) (p : Progress) (its : List Item) : Type 0 where
   pub count : p.count ≡ length its
   pub no_end : first_end asked [] its ≡ None
   pub gathered : p.gathered ≡ blocks (records its)
 
 -- the same, and the SOA that closes it didn't come
-abbrev pub WaitsBehind : Asked → Option Progress → List (List ℕ) → Type 0
+abbrev pub WaitsBehind : TransferRequest → Option Progress → List (List ℕ) → Type 0
 WaitsBehind asked None messages = ⊥
 WaitsBehind asked (Some p) messages = Stands asked p (items messages) × (transfer_of p.gathered ≡ None)
 
@@ -43,7 +43,7 @@ WaitsBehind asked (Some p) messages = Stands asked p (items messages) × (transf
 abbrev pub Waits : Reader → List (List ℕ) → Type 0
 Waits reader messages = WaitsBehind reader.asked reader.progress messages
 
--- what a message did to a reader, where the transfer of all messages up to this ends so, or doesn't
+-- what a message did to a reader, by how all messages up to this one end the transfer, or that they don't
 abbrev pub Feeds : Result Fed TransferError → Reader → List (List ℕ) → Option Outcome → Type 0
 Feeds (Ok fed.More) new messages outcome = (outcome ≡ None) × Waits new messages
 Feeds (Ok (fed.Current theirs)) new messages outcome = (outcome ≡ Some (Ok (Current theirs))) × IsFinished new
@@ -51,7 +51,7 @@ Feeds (Ok (fed.Done transfer)) new messages outcome = (outcome ≡ Some (Ok (New
 Feeds (Err errors.OutOfMemory) new messages outcome = IsFinished new
 Feeds (Err (errors.Fault fault)) new messages outcome = (outcome ≡ Some (Err fault)) × IsFinished new
 
--- a fault that a message shows, and not its stream or its reader
+-- a fault that a message shows, not the stream or the reader
 abbrev pub IsOfMessage : TransferFault → Type 0
 IsOfMessage ReadFault = ⊥
 IsOfMessage Cut = ⊥
@@ -64,7 +64,7 @@ IsOfReader errors.OutOfMemory = Unit {0}
 IsOfReader (errors.Fault fault) = IsOfMessage fault
 
 -- how many more messages and records there may be
-abbrev pub progress_left : Asked → Option Progress → ℕ
+abbrev pub progress_left : TransferRequest → Option Progress → ℕ
 progress_left asked None = 0
 progress_left asked (Some p) = asked.most - p.count
 
@@ -90,7 +90,7 @@ abbrev pub next_outcome : Next → Result FeedOutcome TransferFault
 next_outcome (on p) = Ok (transfer_outcome (transfer_of p.gathered) p)
 next_outcome (current theirs) = Ok (current_at theirs)
 
-abbrev pub feed_outcome : Asked → Option Progress → List ℕ → Result FeedOutcome TransferFault
+abbrev pub feed_outcome : TransferRequest → Option Progress → List ℕ → Result FeedOutcome TransferFault
 feed_outcome asked None octets = Err Finished
 feed_outcome asked (Some p) octets = message_run asked p octets >>= next_outcome
 

@@ -6,10 +6,10 @@ use Rattle.zone_rows.specs.declared.zone.Content.{Content}
 use Rattle.zone_rows.specs.declared.zone.PlainZone.{PlainZone}
 use Rattle.zone_rows.specs.Content.{content_serial}
 use Rattle.zone_rows.specs.Zone.{apply_outcome}
-use Rattle.axfr_apply.specs.declared.asked.TheConstants.{MOST}
-use Rattle.axfr_apply.specs.declared.asked.Asked.{Asked}
-use Rattle.axfr_apply.specs.declared.asked.Wanted.{Wanted}
-use Rattle.axfr_apply.specs.declared.asked.Wanted.TheVariants.{Whole, Newer}
+use Rattle.axfr_apply.specs.declared.transfer_request.TheConstants.{MOST}
+use Rattle.axfr_apply.specs.declared.transfer_request.TransferRequest.{TransferRequest}
+use Rattle.axfr_apply.specs.declared.transfer_request.Wanted.{Wanted}
+use Rattle.axfr_apply.specs.declared.transfer_request.Wanted.TheVariants.{Whole, Newer}
 use Rattle.axfr_apply.specs.declared.taken.Taken.TheVariants as taken
 use Rattle.axfr_apply.specs.Reading.{Outcome}
 use Rattle.ixfr_apply.specs.declared.refusal.Refusal.{Refusal}
@@ -43,7 +43,7 @@ abbrev pub wanted_of : Bool → Option Content → Wanted
 wanted_of marked content = wanted_by marked (content_serial content)
 
 -- the request of an ID for a zone that is marked or not
-abbrev pub request_of : ℕ → Bool → PlainZone → Asked
+abbrev pub request_of : ℕ → Bool → PlainZone → TransferRequest
 request_of id marked zone = record { id = id; origin = zone.origin; wanted = wanted_of marked zone.content; most = MOST }
 
 -- what a zone that is marked or not does with a stream, which comes for a request of this ID

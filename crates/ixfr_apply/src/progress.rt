@@ -5,7 +5,7 @@ ghost use Rattle.axfr_apply.specs.Block.{soa_held, transfer_of};
 ghost use Rattle.ixfr_apply.specs.Progress.{Counts, Takes, TakesRow, answer_run, answers_run, counted_run, message_run, new_progress, one_more, row_run, soa_run};
 
 use axfr_apply::{
-    Asked, Gathered, NextSoa, TransferError, TransferFault, check_place, read_checked,
+    Gathered, NextSoa, TransferError, TransferFault, TransferRequest, check_place, read_checked,
 };
 use dns_record::{Record, Row, Soa, soa_of};
 use std::alloc::{AllocError, Global};
@@ -16,7 +16,7 @@ use std::mem;
 pub(crate) struct Progress {
     /// How many messages and answer records there were, counted together.
     pub(crate) count: u32,
-    /// What the records have come to.
+    /// The records so far.
     pub(crate) gathered: Gathered,
 }
 
@@ -32,7 +32,7 @@ impl Progress {
     }
 
     // Counts a message or a record.
-    fn count_one(&mut self, asked: &Asked) -> Result<(), TransferFault>
+    fn count_one(&mut self, asked: &TransferRequest) -> Result<(), TransferFault>
         ensures { Counts result self.new (one_more asked.now self.old) }
     {
         let most = asked.most;
@@ -46,7 +46,12 @@ impl Progress {
     }
 
     // Takes an answer record that is no SOA record.
-    fn take_row(&mut self, alloc: Global, asked: &Asked, rr: &Record) -> Result<(), TransferError>
+    fn take_row(
+        &mut self,
+        alloc: Global,
+        asked: &TransferRequest,
+        rr: &Record,
+    ) -> Result<(), TransferError>
         requires open { transfer_of self.old.gathered ≡ None }
         requires row { soa_held rr.now ≡ None }
         ensures { TakesRow result self.new
@@ -64,7 +69,7 @@ impl Progress {
     fn take_soa(
         &mut self,
         alloc: Global,
-        asked: &Asked,
+        asked: &TransferRequest,
         alone: bool,
         rr: &Record,
         soa: Soa,
@@ -90,7 +95,7 @@ impl Progress {
     fn take_answer(
         &mut self,
         alloc: Global,
-        asked: &Asked,
+        asked: &TransferRequest,
         alone: bool,
         rr: &Record,
     ) -> Result<Option<u32>, TransferError>
@@ -104,7 +109,7 @@ impl Progress {
     fn take_counted(
         &mut self,
         alloc: Global,
-        asked: &Asked,
+        asked: &TransferRequest,
         alone: bool,
         rr: &Record,
     ) -> Result<Option<u32>, TransferError>
@@ -126,7 +131,7 @@ impl Progress {
     fn take_answers(
         &mut self,
         alloc: Global,
-        asked: &Asked,
+        asked: &TransferRequest,
         alone: bool,
         answers: &[Record],
     ) -> Result<Option<u32>, TransferError>
@@ -145,7 +150,7 @@ impl Progress {
     pub(crate) fn take_message(
         &mut self,
         alloc: Global,
-        asked: &Asked,
+        asked: &TransferRequest,
         bytes: &[u8],
     ) -> Result<Option<u32>, TransferError>
         ensures { Takes result self.new (message_run asked.now self.old bytes.now) }

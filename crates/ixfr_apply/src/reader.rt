@@ -1,7 +1,7 @@
 //! A reader of a transfer.
 
 ghost use Rattle.std.specs.Prelude.{◌≡◌, ℕ, List, [], ◌∷◌, ◌++◌, Some, None, Err, IfOk, IfErr};
-ghost use Rattle.axfr_apply.specs.declared.asked.TheConstants.{MOST};
+ghost use Rattle.axfr_apply.specs.declared.transfer_request.TheConstants.{MOST};
 ghost use Rattle.axfr_apply.specs.declared.fault.TransferError.TheVariants as errors;
 ghost use Rattle.axfr_apply.specs.declared.fault.TransferFault.TheVariants as faults;
 ghost use Rattle.axfr_apply.specs.Reading.{outcome_of};
@@ -9,7 +9,7 @@ ghost use Rattle.ixfr_apply.specs.Feeding.{Falls, Feeds, IsFinished, IsOfReader,
 
 use crate::progress::Progress;
 use axfr_apply::laws::a_record_is_a_block_or_a_row;
-use axfr_apply::{Asked, AtEnd, MOST, TransferError, TransferFault, Wanted};
+use axfr_apply::{AtEnd, MOST, TransferError, TransferFault, TransferRequest, Wanted};
 use dns_name::Name;
 use std::alloc::{AllocError, Global};
 use std::marker::Model;
@@ -31,7 +31,7 @@ pub enum Fed {
 #[derive(Debug, Drop)]
 pub struct TransferReader {
     alloc: Global,
-    asked: Asked,
+    asked: TransferRequest,
     progress: Option<Progress>,
 }
 
@@ -69,7 +69,7 @@ impl TransferReader {
         let origin = origin.clone()?;
         Ok(TransferReader {
             alloc,
-            asked: Asked {
+            asked: TransferRequest {
                 id,
                 origin,
                 wanted,

@@ -26,7 +26,7 @@ pub fn request_newer(alloc: Global, id: u16, origin: &Name, soa: &Soa) -> Result
     ensures request { IfOk result (λ octets. octets ≡ spelling (newer_request id origin.now soa.now)) }
     ensures short { IfOk result (λ octets. length octets ≤ FRAME_MAX) }
 {
-    // what their clauses say is wanted here: names are short
+    // called for their clauses: names are short
     let _origin = origin.octets();
     let _mname = soa.mname.octets();
     let _rname = soa.rname.octets();

@@ -3,7 +3,7 @@
 ghost use Rattle.std.specs.Prelude.{◌≡◌, ◌≢◌, ◌≤◌, [], Err, IfErr};
 ghost use Rattle.edge_io.specs.Edge.{Rose};
 ghost use Rattle.edge_io.specs.Frame.{TakesSome};
-ghost use Rattle.axfr_apply.specs.declared.asked.TheConstants.{MOST};
+ghost use Rattle.axfr_apply.specs.declared.transfer_request.TheConstants.{MOST};
 ghost use Rattle.axfr_apply.specs.declared.fault.TransferError.TheVariants.{Fault as AFault};
 ghost use Rattle.axfr_apply.specs.declared.fault.TransferFault.TheVariants.{ReadFault as AReadFault};
 ghost use Rattle.ixfr_apply.specs.Feeding.{Waits};

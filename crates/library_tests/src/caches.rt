@@ -1,4 +1,4 @@
-//! A cache of what was learned, and what a look-up finds at a second.
+//! A cache of what was learned, and what a look-up finds at a given second.
 
 use crate::links::{learned, question};
 use answer_cache::AnswerCache;

@@ -1,5 +1,5 @@
 //! Tests of the libraries below, and nothing else. They show what neither a proof nor a scenario can: that a read or
-//! a write which fails is told, that a generic function works at a concrete type, and that the functions which no
+//! a write which fails is reported, that a generic function works at a concrete type, and that the functions which no
 //! script reaches give their values, and succeed where memory suffices.
 #![tactic(auto)]
 

@@ -5,7 +5,7 @@ use dns_name::{Name, Octets};
 use edge_io::ListLink;
 use std::alloc::Global;
 use std::test::Fail;
-use upstream_link::{Asked, Fact, Learned, ask};
+use upstream_link::{AskOutcome, Fact, Learned, ask};
 
 // The response to the question (x.example, A, IN) in a message of the ID 7: x.example 60 A 192.0.2.9 (RFC 1035, section 4.1).
 const RESPONSE: &[u8] =
@@ -32,8 +32,8 @@ fn link(alloc: Global, count: usize, call: u64) -> Result<ListLink, Fail> {
 // What is learned of the question at the second 100.
 fn asked(alloc: Global, link: &mut ListLink) -> Result<Option<Learned<ListLink>>, Fail> {
     match ask(alloc, link, 7, &question(alloc)?, 100)? {
-        Asked::Learned(learned) => Ok(Some(learned)),
-        Asked::Failed => Ok(None),
+        AskOutcome::Learned(learned) => Ok(Some(learned)),
+        AskOutcome::Failed => Ok(None),
     }
 }
 
@@ -81,7 +81,7 @@ fn what_is_learned_has_a_life(rt: HostRuntime) -> Result<(), Fail> {
     Ok(())
 }
 
-// The records at a second at which they may be told.
+// The records of a fact at a second at which it may be used.
 fn records(alloc: Global, learned: &Learned<ListLink>, now: u32) -> Result<Octets, Fail> {
     let mut out = Octets::new(alloc);
     if learned.is_live(now) {

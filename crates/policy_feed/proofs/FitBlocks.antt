@@ -8,14 +8,14 @@ use Rattle.dns_record.specs.Row.{PlainRow, row_of}
 use Rattle.zone_rows.specs.Steps.{PlainStep}
 use Rattle.zone_rows.specs.declared.transfer.Transfer.{Transfer}
 use Rattle.zone_rows.specs.declared.transfer.Transfer.TheVariants.{Whole, Steps}
-use Rattle.axfr_apply.specs.declared.asked.Asked.{Asked}
-use Rattle.axfr_apply.specs.declared.asked.Wanted.{Wanted}
-use Rattle.axfr_apply.specs.declared.asked.Wanted.TheVariants as wants
+use Rattle.axfr_apply.specs.declared.transfer_request.TransferRequest.{TransferRequest}
+use Rattle.axfr_apply.specs.declared.transfer_request.Wanted.{Wanted}
+use Rattle.axfr_apply.specs.declared.transfer_request.Wanted.TheVariants as wants
 use Rattle.axfr_apply.specs.declared.fault.TransferFault.{TransferFault}
 use Rattle.axfr_apply.specs.declared.fault.TransferFault.TheVariants.{SoaDiffers, Gap, TrailingRecord}
 use Rattle.axfr_apply.specs.Block.{Block, incremental_transfer, is_empty, is_incremental, is_soa, soa_held, step_between, steps_to, transfer_of, whole_transfer}
 use Rattle.axfr_apply.specs.Gathered.{with_held, with_record, with_row}
-use Rattle.axfr_apply.specs.Reading.{End, answer_end, begins, close_fault, first_soa_end, first_step_fault, later_soa_fault, open_end, place_fault, place_or, soa_end}
+use Rattle.axfr_apply.specs.Reading.{End, answer_end, soa_block, close_fault, first_soa_end, first_step_fault, later_soa_fault, open_end, place_fault, place_or, soa_end}
 
 -- the first SOA, of this serial, goes on with the transfer
 abbrev pub GoesOn : Wanted → ℕ → Type 0
@@ -59,11 +59,11 @@ fit_row wanted (first ∷ second ∷ []) row fit = fit
 fit_row wanted (first ∷ second ∷ third ∷ others) row fit = fit
 
 -- a SOA behind the blocks
-fit_soa : (wanted : Wanted) (alone : Bool) (bs : List Block) (soa : Soa) → soa_end wanted alone bs soa ≡ None → Fit wanted bs → Fit wanted (bs ++ begins soa ∷ [])
+fit_soa : (wanted : Wanted) (alone : Bool) (bs : List Block) (soa : Soa) → soa_end wanted alone bs soa ≡ None → Fit wanted bs → Fit wanted (bs ++ soa_block soa ∷ [])
 fit_soa wanted alone [] soa e fit = ((alone, e), tt)
 fit_soa wanted alone (first ∷ []) soa e fit = (
   fit.0,
-  begins_if (is_incremental (first ∷ begins soa ∷ [])) (first_step_fault wanted first.soa.serial soa.serial) (close_fault first.soa.serial soa.serial)
+  begins_if (is_incremental (first ∷ soa_block soa ∷ [])) (first_step_fault wanted first.soa.serial soa.serial) (close_fault first.soa.serial soa.serial)
       (without_fault (later_soa_fault wanted first [] soa) e),
 )
 fit_soa wanted alone (first ∷ second ∷ others) soa e fit = fit
@@ -74,7 +74,7 @@ fit_held wanted alone bs row None fault e fit = fit_row wanted bs row fit
 fit_held wanted alone bs row (Some soa) fault e fit = fit_soa wanted alone bs soa (well_placed fault (soa_end wanted alone bs soa) e) fit
 
 -- a record that doesn't end the transfer
-pub fit_record : (asked : Asked) (alone : Bool) (bs : List Block) (r : PlainRecord) → answer_end asked alone bs r ≡ None → Fit asked.wanted bs → Fit asked.wanted (with_record bs r)
+pub fit_record : (asked : TransferRequest) (alone : Bool) (bs : List Block) (r : PlainRecord) → answer_end asked alone bs r ≡ None → Fit asked.wanted bs → Fit asked.wanted (with_record bs r)
 fit_record asked alone bs r e fit =
     let fault : Option TransferFault = place_fault asked.origin (is_soa r) r in
     fit_held asked.wanted alone bs (row_of r) (soa_held r) fault (no_more (is_some (transfer_of bs)) (Err TrailingRecord) (open_end asked.wanted alone bs (soa_held r) fault) e) fit
@@ -102,10 +102,10 @@ is_same false fault e = cc
 -- a step that begins at the second block, where that makes the transfer incremental
 step_fits : (wanted : Wanted) (first second : Block) (step : PlainStep) (steps : List PlainStep) → step.old ≡ second.soa → is_incremental (first ∷ second ∷ []) ≡ true
     → BeginsSteps wanted first second → StepsFit wanted (step ∷ steps)
-step_fits (wants.Whole have) first second step steps old is begins =
-    differ (is_empty first.rows) (second.soa.serial == first.soa.serial) (SoaDiffers first.soa.serial second.soa.serial) is (begins is)
-step_fits (wants.Newer ours) first second step steps old is begins =
-    ap (λ (soa : Soa). soa.serial) old ∙ eqb-true second.soa.serial ours (is_same (second.soa.serial == ours) (Gap ours second.soa.serial) (begins is))
+step_fits (wants.Whole have) first second step steps old is soa_block =
+    differ (is_empty first.rows) (second.soa.serial == first.soa.serial) (SoaDiffers first.soa.serial second.soa.serial) is (soa_block is)
+step_fits (wants.Newer ours) first second step steps old is soa_block =
+    ap (λ (soa : Soa). soa.serial) old ∙ eqb-true second.soa.serial ours (is_same (second.soa.serial == ours) (Gap ours second.soa.serial) (soa_block is))
 
 -- steps with this one as the first
 first_fits : (wanted : Wanted) (reached : Bool) (step : PlainStep) (more : Option (List PlainStep)) (steps : List PlainStep) → ((rest : List PlainStep) → StepsFit wanted (step ∷ rest))
@@ -116,22 +116,22 @@ first_fits wanted false step (Some others) steps fits e = let same : step ∷ ot
 
 steps_fit : (wanted : Wanted) (newest : ℕ) (first second : Block) (others : List Block) (steps : List PlainStep) → is_incremental (first ∷ second ∷ []) ≡ true → BeginsSteps wanted first second
     → steps_to newest (second ∷ others) ≡ Some steps → StepsFit wanted steps
-steps_fit wanted newest first second [] steps is begins e = absurd cc
-steps_fit wanted newest first second (new ∷ []) steps is begins e = absurd cc
-steps_fit wanted newest first second (new ∷ next ∷ others) steps is begins e =
+steps_fit wanted newest first second [] steps is soa_block e = absurd cc
+steps_fit wanted newest first second (new ∷ []) steps is soa_block e = absurd cc
+steps_fit wanted newest first second (new ∷ next ∷ others) steps is soa_block e =
     first_fits wanted (new.soa.serial == newest) (step_between second new) (steps_to newest (next ∷ others)) steps
-    (λ rest. step_fits wanted first second (step_between second new) rest refl is begins) e
+    (λ rest. step_fits wanted first second (step_between second new) rest refl is soa_block) e
 
 incremental_fits : (wanted : Wanted) (first second : Block) (others : List Block) (steps : Option (List PlainStep)) (transfer : Transfer) → is_incremental (first ∷ second ∷ []) ≡ true → BeginsSteps wanted first second
     → steps_to first.soa.serial (second ∷ others) ≡ steps → option_map Steps steps ≡ Some transfer → TransferFits wanted transfer
-incremental_fits wanted first second others None transfer is begins steps e = absurd cc
-incremental_fits wanted first second others (Some them) transfer is begins steps e =
-    let same : Steps them ≡ transfer = cc in subst (TransferFits wanted) same (steps_fit wanted first.soa.serial first second others them is begins steps)
+incremental_fits wanted first second others None transfer is soa_block steps e = absurd cc
+incremental_fits wanted first second others (Some them) transfer is soa_block steps e =
+    let same : Steps them ≡ transfer = cc in subst (TransferFits wanted) same (steps_fit wanted first.soa.serial first second others them is soa_block steps)
 
 kind_fits : (wanted : Wanted) (b : Bool) (first second : Block) (others : List Block) (transfer : Transfer) → is_incremental (first ∷ second ∷ []) ≡ b → GoesOn wanted first.soa.serial → BeginsSteps wanted first second
     → (if b then incremental_transfer (first ∷ second ∷ others) else whole_transfer (first ∷ second ∷ others)) ≡ Some transfer → TransferFits wanted transfer
-kind_fits wanted true first second others transfer is goes begins e = incremental_fits wanted first second others (steps_to first.soa.serial (second ∷ others)) transfer is begins refl e
-kind_fits wanted false first second others transfer is goes begins e =
+kind_fits wanted true first second others transfer is goes soa_block e = incremental_fits wanted first second others (steps_to first.soa.serial (second ∷ others)) transfer is soa_block refl e
+kind_fits wanted false first second others transfer is goes soa_block e =
     let same : Whole first.soa first.rows ≡ transfer = cc in subst (TransferFits wanted) same goes
 
 pub transfer_fits : (wanted : Wanted) (bs : List Block) (transfer : Transfer) → Fit wanted bs → transfer_of bs ≡ Some transfer → TransferFits wanted transfer

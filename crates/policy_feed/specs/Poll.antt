@@ -33,20 +33,20 @@ request_for id marked origin (Some content) = if marked then whole_request id or
 abbrev pub request_octets : ℕ → Bool → PlainZone → List ℕ
 request_octets id marked zone = frame_octets (spelling (request_for id marked zone.origin zone.content))
 
--- what contracts see of a poll: the publisher, the bytes that are left of the source, where it tells, and those that the sink
--- holds, where it tells
+-- what contracts see of a poll: the publisher, and the bytes that are left of the source and those that the sink holds, where
+-- they are known
 pub record Exchange : Type 0 where
   pub published : Published
   pub left : Option (List ℕ)
   pub held : Option (List ℕ)
 
 -- the same with the zone of this number marked, or not marked
-abbrev pub marking : Published → ℕ → Bool → Published
-marking published number marked = record { list = published.list; version = published.version; marks = with_mark published.marks number marked }
+abbrev pub with_zone_mark : Published → ℕ → Bool → Published
+with_zone_mark published number marked = record { list = published.list; version = published.version; marks = with_mark published.marks number marked }
 
 -- after a refusal all of the zone is asked for next, where what is newer was wanted, or where it was so before
-abbrev pub refusing : Published → ℕ → PlainZone → Published
-refusing published number zone = let marked = mark_at published.marks number in marking published number (marked || asks_newer (wanted_of marked zone.content))
+abbrev pub after_refusal : Published → ℕ → PlainZone → Published
+after_refusal published number zone = let marked = mark_at published.marks number in with_zone_mark published number (marked || asks_newer (wanted_of marked zone.content))
 
 -- the request was written whole
 abbrev pub Requests : ℕ → ℕ → PlainZone → Exchange → Exchange → Type 0
@@ -56,7 +56,7 @@ Requests id number zone before after = after.held ≡ appended before.held (requ
 abbrev pub BeginsRequest : ℕ → ℕ → PlainZone → Exchange → Exchange → Type 0
 BeginsRequest id number zone before after = WritesPrefix (request_octets id (mark_at before.published.marks number) zone) before.held after.held
 
--- where the source tells its bytes, it is read as this transfer, or as that we are current
+-- where the bytes of the source are known: it is read as this transfer, or says that we are current
 abbrev pub ReadsTransfer : ℕ → ℕ → PlainZone → Taken → Exchange → Exchange → Type 0
 ReadsTransfer id number zone read before after = ReadsAs (request_of id (mark_at before.published.marks number) zone) (Ok read) before.left after.left
 
@@ -66,7 +66,7 @@ ReadsTransfer id number zone read before after = ReadsAs (request_of id (mark_at
 abbrev pub Polls : ℕ → ℕ → PlainZone → Result Polled FeedError → Exchange → Exchange → Type 0
 Polls id number zone (Ok (Current theirs)) before after =
     Requests id number zone before after × ReadsTransfer id number zone (taken.Current theirs) before after
-    × (after.published ≡ marking before.published number false)
+    × (after.published ≡ with_zone_mark before.published number false)
 Polls id number zone (Ok (New told)) before after =
     (transfer : Transfer) × Requests id number zone before after × ReadsTransfer id number zone (taken.New transfer) before after
     × Publishes number zone transfer (Ok told) before.published after.published
@@ -76,7 +76,7 @@ Polls id number zone (Err (errors.Fault WriteFault)) before after =
     BeginsRequest id number zone before after × (after.left ≡ before.left) × (after.published ≡ before.published)
 Polls id number zone (Err (errors.Fault (TransferFaulty fault))) before after =
     Requests id number zone before after × Faults (request_of id (mark_at before.published.marks number) zone) fault before.left after.left
-    × (after.published ≡ refusing before.published number zone)
+    × (after.published ≡ after_refusal before.published number zone)
 Polls id number zone (Err (errors.Fault (Apply fault))) before after =
     (transfer : Transfer) × Requests id number zone before after × ReadsTransfer id number zone (taken.New transfer) before after
-    × (apply_outcome zone transfer ≡ Err fault) × (after.published ≡ refusing before.published number zone)
+    × (apply_outcome zone transfer ≡ Err fault) × (after.published ≡ after_refusal before.published number zone)

@@ -9,7 +9,7 @@ ghost use Rattle.ixfr_apply.specs.Marks.{mark_at};
 ghost use Rattle.ixfr_apply.specs.Offer.{request_of};
 ghost use Rattle.ixfr_apply.specs.Stream.{BlamesSource, Reads};
 ghost use Rattle.policy_snapshot.specs.Policy.{zone_at};
-ghost use Rattle.policy_feed.specs.Poll.{refusing};
+ghost use Rattle.policy_feed.specs.Poll.{after_refusal};
 ghost use Rattle.policy_feed.specs.Taking.{Offers, TakesAnswer};
 ghost use Rattle.policy_feed.specs.declared.fault.FeedError.TheVariants as errors;
 ghost use Rattle.policy_feed.specs.declared.fault.FeedFault.TheVariants as faults;
@@ -54,7 +54,7 @@ fn read_answer<N: StoreName, S: Source>(
 fn mark_refused<N: StoreName>(publisher: &mut Publisher<N>, number: u32)
     requires { IsSome (zone_at publisher.old.version.zones number) }
     ensures { IfSome (zone_at publisher.old.version.zones number) (λ zone.
-        publisher.new ≡ refusing publisher.old number zone) }
+        publisher.new ≡ after_refusal publisher.old number zone) }
 {
     if asks_newer(publisher.wanted(number)) {
         publisher.mark_whole(number);

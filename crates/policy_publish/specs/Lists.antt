@@ -20,11 +20,11 @@ pub record Known : Type 0 where
 abbrev pub IsNew : Known → Type 0
 IsNew known = (known.seen ≡ []) × (known.told ≡ [])
 
--- the reader was told this list, or one that goes on from it
+-- the reader was told this list, or a longer one that begins with it
 abbrev pub WasTold : Known → List Entry → Type 0
 WasTold known list = IsPrefix list known.told
 
--- each list that was told before still is
+-- what the reader was told before, it was told afterwards, too
 abbrev pub KeepsTold : Known → Known → Type 0
 KeepsTold old new = (list : List Entry) → WasTold old list → WasTold new list
 

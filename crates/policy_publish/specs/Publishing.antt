@@ -11,7 +11,7 @@ use Rattle.policy_snapshot.specs.Stands.{PlainSnapshot, with_zone}
 use Rattle.policy_publish.specs.Lists.{Published}
 use Rattle.policy_publish.specs.declared.publication.Publication.{Publication}
 
--- the serial and the number of rows that are told
+-- the serial and the number of rows that a publication reports
 abbrev pub told_size : Publication → ℕ × ℕ
 told_size publication = (publication.serial, publication.rows)
 
@@ -19,8 +19,8 @@ told_size publication = (publication.serial, publication.rows)
 abbrev pub HasSize : Publication → Option Content → Type 0
 HasSize publication content = told_size publication ≡ content_size content
 
--- The zone takes the transfer, and the new version is the old one with the zone as it is then, whose serial and number of rows are
--- told.
+-- The zone takes the transfer, and the new version is the old one with the zone as it is then. The publication has the serial and
+-- the number of rows of that zone.
 pub record Takes (number : ℕ) (zone : PlainZone) (transfer : Transfer) (told : Publication) (old new : PlainSnapshot) : Type 0 where
   pub next : PlainZone
   pub taken : apply_outcome zone transfer ≡ Ok next

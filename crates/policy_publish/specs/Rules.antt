@@ -10,6 +10,6 @@ pub record IsKept (cells : List Cell) (log : List Entry) : Type 0 where
 abbrev pub head_of : Book → Named
 head_of b = record { tracked = true; key = 0; book = b }
 
--- the entry was added to all that had been seen; or the list was longer, and was seen
+-- the entry was added at the end of the list that had been seen; or the list had grown since, and is seen now
 abbrev pub Adds : Step Entry → View Entry ℕ → ℕ → View Entry ℕ → Type 0
 Adds s v found w = MatchBool (found == s.old) (w.0 ≡ v.0 ++ s.ask ∷ []) (length w.0 ≡ found)

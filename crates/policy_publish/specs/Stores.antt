@@ -14,7 +14,7 @@ pub record Listed : Type 0 where
   pub book : Book
   pub entries : List Entry
 
--- the same, and an entry that is to stand behind them
+-- the same, and an entry that is to be added after them
 pub record Added : Type 0 where
   pub book : Book
   pub entries : List Entry

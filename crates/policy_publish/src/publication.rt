@@ -1,4 +1,4 @@
-//! What is told of a publication.
+//! The serial and the number of rows of a zone that was published.
 
 /// What a zone holds once its transfer was published.
 #[derive(Clone, Copy, Debug, PartialEq, Eq)]

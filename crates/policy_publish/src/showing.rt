@@ -1,4 +1,4 @@
-//! How a version gets to where readers take it.
+//! How a version is shown to readers.
 
 ghost use Rattle.std.specs.Prelude.{◌≡◌, [], ◌∷◌, drop};
 ghost use Rattle.std.specs.Option.{IsSomeAnd};

@@ -1,4 +1,4 @@
-//! What readers take: one version, and the line that it stands for.
+//! What readers take: one version, and the list of transfers that it stands for.
 
 ghost use Rattle.std.specs.Prelude.{◌≡◌, IfOk};
 ghost use Rattle.std.specs.Arc.{arc_value};

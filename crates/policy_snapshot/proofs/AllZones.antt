@@ -16,7 +16,7 @@ use Rattle.trigger_codec.specs.declared.trigger.Trigger.{Trigger}
 use Rattle.action_codec.specs.declared.action.Action.{Action}
 use Rattle.zone_index.specs.Indexed.{HasRows}
 use Rattle.zone_index.specs.Laws.{IsInOrder}
-use Rattle.zone_index.specs.Listed.{listed, zone_rules}
+use Rattle.zone_index.specs.Listed.{rules_by_kind, zone_rules}
 use Rattle.zone_index.specs.Rules.{rules_of}
 use Rattle.rpz_precedence.specs.Best.{PlainHit, AreHits, IsBest, best}
 use Rattle.rpz_precedence.specs.Rank.{precedes, trigger_order}
@@ -37,7 +37,7 @@ use Rattle.policy_snapshot.proofs.RuleRanks.{ZoneLaws, rule_with, rule_of, among
 -- what the laws of an index and of ranks say, as one premise
 pub record Laws : Type 0 where
   pub ordered : (origin : List (List ℕ)) (rows : List PlainRow) → IsInOrder (rules_of origin rows)
-  pub listed : (origin : List (List ℕ)) (rows : List PlainRow) → All IsRow rows → (rule : Trigger × Action) → Contains (zone_rules origin rows) rule ↔ Contains (listed (rules_of origin rows)) rule
+  pub listed : (origin : List (List ℕ)) (rows : List PlainRow) → All IsRow rows → (rule : Trigger × Action) → Contains (zone_rules origin rows) rule ↔ Contains (rules_by_kind (rules_of origin rows)) rule
   pub ranks : RankLaws
   pub one_server : OneServer
 
@@ -68,9 +68,9 @@ module _ (laws : Laws) (query : Query) (facts : PlainFacts) (position : ℕ) (na
       let same = laws.listed origin content.rows rows in
       let indexed = index_rules laws.ranks laws.one_server query facts position name number soa (rules_of origin content.rows) in
       let into : (r : PlainRule) → Contains indexed r → Contains (content_rules number origin (Some content)) r =
-      λ r at. let m = from_map made (listed (rules_of origin content.rows)) r at in subst (Contains (content_rules number origin (Some content))) m.is (to_map made (zone_rules origin content.rows) m.x ((same m.x).1 m.within)) in
+      λ r at. let m = from_map made (rules_by_kind (rules_of origin content.rows)) r at in subst (Contains (content_rules number origin (Some content))) m.is (to_map made (zone_rules origin content.rows) m.x ((same m.x).1 m.within)) in
       let back : (r : PlainRule) → Contains (content_rules number origin (Some content)) r → Contains indexed r =
-      λ r at. let m = from_map made (zone_rules origin content.rows) r at in subst (Contains indexed) m.is (to_map made (listed (rules_of origin content.rows)) m.x ((same m.x).0 m.within)) in
+      λ r at. let m = from_map made (zone_rules origin content.rows) r at in subst (Contains indexed) m.is (to_map made (rules_by_kind (rules_of origin content.rows)) m.x ((same m.x).0 m.within)) in
       best_of_same _ _ _ (hits_within query facts position name _ _ into) (hits_within query facts position name _ _ back)
       (best_in_index laws.ranks laws.one_server query facts position name number soa lists all same_names same_addresses (rules_of origin content.rows) (laws.ordered origin content.rows))
 

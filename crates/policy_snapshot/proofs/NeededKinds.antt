@@ -22,7 +22,7 @@ use Rattle.action_codec.specs.declared.action.Action.{Action}
 use Rattle.zone_index.specs.Addresses.{has_some}
 use Rattle.zone_index.specs.Indexed.{HasRows}
 use Rattle.zone_index.specs.Kinds.{PlainRules, has_kind}
-use Rattle.zone_index.specs.Listed.{listed, with_triggers, zone_rules}
+use Rattle.zone_index.specs.Listed.{rules_by_kind, with_triggers, zone_rules}
 use Rattle.zone_index.specs.Rules.{rules_of}
 use Rattle.rpz_precedence.specs.Best.{PlainHit}
 use Rattle.rpz_precedence.specs.Rank.{kind_number}
@@ -38,7 +38,7 @@ use Rattle.policy_snapshot.proofs.RuleRanks.{rule_with}
 
 -- what the law of an index says of the rules of a zone, as one premise
 pub record IndexLaw : Type 0 where
-  pub listed : (origin : List (List ℕ)) (rows : List PlainRow) → All IsRow rows → (rule : Trigger × Action) → Contains (zone_rules origin rows) rule ↔ Contains (listed (rules_of origin rows)) rule
+  pub listed : (origin : List (List ℕ)) (rows : List PlainRow) → All IsRow rows → (rule : Trigger × Action) → Contains (zone_rules origin rows) rule ↔ Contains (rules_by_kind (rules_of origin rows)) rule
 
 -- ---- tests that some element passes
 
@@ -84,7 +84,7 @@ module _ {K : Type 0} (p : Trigger × Action → Bool) (trigger : K → Trigger)
 
 module _ (rules : PlainRules) where
   -- what each kind of rules gives, one after another
-  by_kinds : (p : Trigger × Action → Bool) → list_any p (listed rules)
+  by_kinds : (p : Trigger × Action → Bool) → list_any p (rules_by_kind rules)
       ≡ (list_any p (with_triggers ClientIp rules.client_ip)
       || (list_any p (with_triggers Qname rules.qname)
       || (list_any p (with_triggers ResponseIp rules.response_ip)
@@ -101,14 +101,14 @@ module _ (rules : PlainRules) where
 
   pieces : (p : Trigger × Action → Bool) (a b c d e : Bool)
       → list_any p (with_triggers ClientIp rules.client_ip) ≡ a → list_any p (with_triggers Qname rules.qname) ≡ b → list_any p (with_triggers ResponseIp rules.response_ip) ≡ c
-      → list_any p (with_triggers NsDname rules.nsdname) ≡ d → list_any p (with_triggers NsIp rules.nsip) ≡ e → list_any p (listed rules) ≡ (a || (b || (c || (d || e))))
+      → list_any p (with_triggers NsDname rules.nsdname) ≡ d → list_any p (with_triggers NsIp rules.nsip) ≡ e → list_any p (rules_by_kind rules) ≡ (a || (b || (c || (d || e))))
   pieces p a b c d e f g h j k = by_kinds p ∙ (λ i. f i || (g i || (h i || (j i || k i))))
 
   abbrev own_test : Kind → Trigger × Action → Bool
   own_test kind r = is_of_kind kind r.0
 
   -- there is a rule of the kind in the list exactly where the index has one
-  kind_listed : (kind : Kind) → list_any (own_test kind) (listed rules) ≡ has_kind rules kind
+  kind_listed : (kind : Kind) → list_any (own_test kind) (rules_by_kind rules) ≡ has_kind rules kind
   kind_listed kinds.ClientIp =
       let p = own_test kinds.ClientIp in
       pieces p (has_some rules.client_ip) false false false false
@@ -176,7 +176,7 @@ module _ (law : IndexLaw) (kind : Kind) where
       ∙ any_same (λ r. test hit (rule_with number soa r)) (λ r. is_of_kind kind r.0 && could) own
       (λ r at. and_if (is_of_kind kind r.0) (could_decide hit (rule_with number soa r)) could (λ t. could_by_kind hit number soa r (eqb-true (kind_number r.0) (place_of_kind kind) t)))
       ∙ any_both (own_test index kind) could own
-      ∙ ap (λ (b : Bool). b && could) (any_members (own_test index kind) own (listed index) (law.listed origin content.rows rows) ∙ kind_listed index kind)
+      ∙ ap (λ (b : Bool). b && could) (any_members (own_test index kind) own (rules_by_kind index) (law.listed origin content.rows rows) ∙ kind_listed index kind)
 
   needs_from : (hit : Option PlainHit) (number : ℕ) (zones : List PlainZone) → HaveRows zones → list_any (test hit) (rules_from number zones) ≡ zones_need kind number hit zones
   needs_from hit number [] rows = refl

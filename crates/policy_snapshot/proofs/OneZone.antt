@@ -21,7 +21,7 @@ use Rattle.action_codec.specs.declared.action.Action.{Action}
 use Rattle.zone_index.specs.Addresses.{holds_within}
 use Rattle.zone_index.specs.Kinds.{PlainRules}
 use Rattle.zone_index.specs.Laws.{IsInOrder}
-use Rattle.zone_index.specs.Listed.{listed, with_triggers}
+use Rattle.zone_index.specs.Listed.{rules_by_kind, with_triggers}
 use Rattle.zone_index.proofs.SameAction.{pattern_order_total}
 use Rattle.rpz_precedence.specs.Best.{PlainHit, IsBest}
 use Rattle.rpz_precedence.specs.Rank.{precedes, trigger_order}
@@ -68,7 +68,7 @@ hits-append query facts position name first second =
 module _ (ranks : RankLaws) (one_server : OneServer) (query : Query) (facts : PlainFacts) (position : ℕ) (name : List (List ℕ)) (number : ℕ) (soa : PlainRecord) where
   -- the rules of an index
   abbrev pub index_rules : PlainRules → List PlainRule
-  index_rules rules = map (rule_with number soa) (listed rules)
+  index_rules rules = map (rule_with number soa) (rules_by_kind rules)
 
   abbrev hits_of : {K : Type 0} → (K → Trigger) → List (K × Action) → List PlainHit
   hits_of kind es = hits (kind_rules number soa kind es) query facts position name

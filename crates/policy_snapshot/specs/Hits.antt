@@ -12,13 +12,13 @@ use Rattle.upstream_link.specs.Facts.{PlainFacts, main_records}
 use Rattle.upstream_link.specs.Servers.{address_records, servers}
 use Rattle.policy_snapshot.specs.Rules.{PlainRule}
 
--- an address of the server is in the prefix
+-- an address of the name server is in the prefix
 abbrev pub has_address : PlainFacts → PlainPrefix → List (List ℕ) → Bool
 has_address facts prefix server = list_any (holds_within prefix server) (address_records facts server)
 
 -- The trigger is hit at a position of the chain, where this name stands: the client is in the prefix, which counts at the name
--- of the query alone; the pattern is about the name; an address of the answer for this name is in the prefix; the pattern is
--- about a server of the name; an address of a server of the name is in the prefix.
+-- of the query alone; the pattern matches the name; an address of the answer for this name is in the prefix; the pattern
+-- matches a name server of the name; an address of a name server of the name is in the prefix.
 abbrev pub is_hit : Query → PlainFacts → ℕ → List (List ℕ) → Trigger → Bool
 is_hit query facts position name (ClientIp prefix) = position == 0 && contains prefix query.client
 is_hit query facts position name (Qname pattern) = matches pattern name

@@ -1,4 +1,4 @@
--- Points from which no further fact matters.
+-- When no further fact changes what is decided.
 use Rattle.std.specs.Prelude.{◌≡◌, ℕ, Bool, true, false, List}
 use Rattle.dns_message.specs.declared.request.Query.{Query}
 use Rattle.rpz_precedence.specs.Best.{best}

@@ -1,4 +1,4 @@
--- What rules are looked up by at a position of the chain of aliases.
+-- What look-ups of rules take at a position of the chain of aliases.
 use Rattle.std.specs.Prelude.{ℕ, List, map}
 use Rattle.dns_record.specs.Record.{PlainRecord}
 use Rattle.dns_message.specs.declared.request.Query.{Query}

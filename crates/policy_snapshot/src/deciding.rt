@@ -57,7 +57,7 @@ impl Snapshot {
         the_order_of_ranks_is_total();
         an_index_is_in_order_of_precedence();
         case_does_not_matter();
-        // what its clause says is wanted here: that the rows of the zones are rows
+        // called for its clause: the rows of the zones are rows
         let _zones = self.zones();
         let lower = name.lower(alloc)?;
         let servers = self.servers_for_rules(alloc, facts, name)?;
@@ -91,7 +91,7 @@ impl Snapshot {
             IsSettled (rules self.now.zones) query.now facts.now position name.now) }
     {
         nothing_unasked_could_matter();
-        // what its clause says is wanted here: that the rows of the zones are rows
+        // called for its clause: the rows of the zones are rows
         let _zones = self.zones();
         self.next_question(alloc, query, facts, name, hit)
     }
@@ -109,7 +109,7 @@ impl Snapshot {
             ≡ pending (rules self.now.zones) query.now facts.now name.now (option_map hit_seen hit.now)) }
     {
         an_index_has_the_rules_of_its_zone();
-        // what its clause says is wanted here: that the rows of the zones are rows
+        // called for its clause: the rows of the zones are rows
         let _zones = self.zones();
         let main = self.pending_answer(query, facts, hit)?;
         if main.is_some() {

@@ -1,4 +1,4 @@
-//! What rules are looked up by at a position of the chain of aliases.
+//! What look-ups of rules take at a position of the chain of aliases.
 
 use dns_name::Name;
 use dns_record::Record;

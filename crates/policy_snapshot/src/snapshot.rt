@@ -118,7 +118,7 @@ impl Snapshot {
         let place = number as usize - 1;
         let old: &Zone = &self.zones[place];
         let zone = old.apply(alloc, transfer)?;
-        // what its clause says is wanted here: that the rows of the new zone are rows
+        // called for its clause: the rows of the new zone are rows
         let _index = zone.index();
         let zones = with_zone_at(alloc, &self.zones, place, zone)?;
         Ok(Snapshot {

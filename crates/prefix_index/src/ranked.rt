@@ -29,7 +29,7 @@ impl Ranked {
         ensures of { result ≡ prefix }
         ensures is_prefix { IsPrefix result }
     {
-        // what its clause says is wanted here: that this is a prefix
+        // called for its clause: this is a prefix
         prefix.length();
         Ranked { prefix }
     }

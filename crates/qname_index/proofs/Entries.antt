@@ -37,7 +37,7 @@ module _ {V : Type 0} where
   pub each-removed : (P : PlainPattern → Type 0) (test : PlainPattern → Bool) (old new : List (PlainPattern × V)) → Each P old → new ≡ remove_entry test old → Each P new
   each-removed P test old new h entries = subst (Each P) (sym entries) (each-remove P test old h)
 
-  -- an insertion, which may want memory, leaves what is true of each pattern and of the new one true
+  -- an insertion, which may run out of memory, leaves what is true of each pattern and of the new one true
   pub each-inserted : {A E : Type 0} (P : PlainPattern → Type 0) (r : Result A E) (k : PlainPattern) (v : V) (old new : List (PlainPattern × V)) → P k → Each P old
       → OnOk r (new ≡ insert_entry pattern_order old k v) → OnErr r (new ≡ old) → Each P new
   each-inserted P (Ok _) k v old new is h ok err = subst (Each P) (sym ok) (each-insert P k v old is h)
@@ -47,7 +47,7 @@ module _ {V : Type 0} where
   pub index-remove : (test : PlainPattern → Bool) (old new : List (PlainPattern × V)) → IsIndex old → IsStrictlySortedBy pattern_order (keys_of new) → new ≡ remove_entry test old → IsIndex new
   index-remove test old new h ordered entries = record { keys = each-removed IsKey test old new h.keys entries; ordered = ordered }
 
-  -- an insertion, which may want memory, leaves entries that are ordered an index
+  -- an insertion, which may run out of memory, leaves entries that are ordered an index
   pub index-insert : {A E : Type 0} (r : Result A E) (k : PlainPattern) (v : V) (old new : List (PlainPattern × V)) → IsKey k → IsIndex old → IsStrictlySortedBy pattern_order (keys_of new)
       → OnOk r (new ≡ insert_entry pattern_order old k v) → OnErr r (new ≡ old) → IsIndex new
   index-insert r k v old new is h ordered ok err = record { keys = each-inserted IsKey r k v old new is h.keys ok err; ordered = ordered }

@@ -54,7 +54,7 @@ pub(crate) fn head_of(octets: &[u8]) -> u128
 // What a look-up knows of a pattern: whether it is wild, how many labels its base has, the base as it is
 // written, and the head of that.
 #[derive(Clone, Copy)]
-pub(crate) struct Asked<'a> {
+pub(crate) struct KeyParts<'a> {
     pub(crate) wild: bool,
     pub(crate) labels: usize,
     pub(crate) octets: &'a [u8],
@@ -62,14 +62,14 @@ pub(crate) struct Asked<'a> {
     ghost headed: { IsHead octets.now head },
 }
 
-impl<'a> Asked<'a> {
+impl<'a> KeyParts<'a> {
     pub(crate) fn of(pattern: &'a Pattern) -> Self
         ensures { record { wild = result.wild; labels = result.labels; octets = result.octets.now }
             ≡ rank_of pattern.now }
     {
         let base = pattern.base();
         let octets = base.octets();
-        Asked {
+        KeyParts {
             wild: pattern.is_wild(),
             labels: base.label_count(),
             octets,
@@ -187,7 +187,7 @@ impl Ord for Key {
     }
 }
 
-impl<'a> Comparable<Key> for Asked<'a> {
+impl<'a> Comparable<Key> for KeyParts<'a> {
     ghost compare = { λ q k. rank_order (record { wild = q.wild; labels = q.labels; octets = q.octets.now }) (rank_of k) };
 
     ghost respects_cmp = { λ q x y. rank_total.congr (record { wild = q.wild; labels = q.labels; octets = q.octets.now }) (rank_of x) (rank_of y) };

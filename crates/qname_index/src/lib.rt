@@ -4,7 +4,7 @@
 mod key;
 mod map;
 
-// A crate can name a map in a contract only if the types of its fields are exported.
+// Contracts of other crates can name the map only if the types of its fields are exported, too.
 #[doc(hidden)]
 pub use key::Key;
 pub use map::NameMap;

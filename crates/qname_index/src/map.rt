@@ -10,7 +10,7 @@ ghost use Rattle.qname_index.specs.Best.{pattern_order, best};
 ghost use Rattle.qname_index.specs.Index.{IsIndex, IsMarked};
 ghost use Rattle.qname_index.specs.Rank.{has_rank};
 
-use crate::key::{Asked, Key, head_of};
+use crate::key::{Key, KeyParts, head_of};
 use dns_name::laws::{names_of_equal_octets_are_equal, names_that_are_alike};
 use dns_name::{Name, Pattern};
 use std::alloc::{AllocError, Global};
@@ -96,7 +96,7 @@ impl<V> NameMap<V> {
     pub fn get(&self, pattern: &Pattern) -> Option<&V>
         ensures { option_copied result ≡ lookup (is_at (pattern_order pattern.now)) self.now }
     {
-        self.entries.get(Asked::of(pattern))
+        self.entries.get(KeyParts::of(pattern))
     }
 
     /// Takes out the entry of the pattern, and gives its value back. It takes no memory.
@@ -106,7 +106,7 @@ impl<V> NameMap<V> {
         ensures value { result ≡ lookup (is_at (pattern_order pattern.now)) self.old }
         ensures entries { self.new ≡ remove_entry (is_at (pattern_order pattern.now)) self.old }
     {
-        self.entries.remove(Asked::of(pattern))
+        self.entries.remove(KeyParts::of(pattern))
     }
 
     /// The entries in order of precedence.
@@ -123,7 +123,7 @@ impl<V> NameMap<V> {
     }
 
     // The entry whose pattern has this rank.
-    fn find(&self, asked: Asked<'_>) -> Option<(&Pattern, &V)>
+    fn find(&self, asked: KeyParts<'_>) -> Option<(&Pattern, &V)>
         ensures found { option_map (λ e. (e.0.now, e.1.now)) result
             ≡ lookup_entry (has_rank (record { wild = asked.entry.wild; labels = asked.entry.labels; octets = asked.entry.octets.now })) self.now }
         ensures index { IsIndex self.now }
@@ -142,7 +142,7 @@ impl<V> NameMap<V> {
         ensures index { IsIndex self.now }
     {
         if is_marked(&self.wild_depths, labels) {
-            self.find(Asked {
+            self.find(KeyParts {
                 wild: true,
                 labels,
                 octets,
@@ -169,7 +169,7 @@ impl<V> NameMap<V> {
         let mut labels = name.labels();
         let mut left = name.label_count();
         let octets = labels.octets();
-        let exact = Asked {
+        let exact = KeyParts {
             wild: false,
             labels: left,
             octets,

@@ -14,7 +14,7 @@ use Rattle.dns_record.specs.Record.{PlainRecord}
 use Rattle.rpz_precedence.specs.Best.{PlainHit, best}
 use Rattle.upstream_link.specs.declared.fact.Fact.{Fact}
 use Rattle.upstream_link.specs.declared.facts.TheConstants.{FACT_LIMIT}
-use Rattle.upstream_link.specs.Chain.{asks_alias, chain, followed}
+use Rattle.upstream_link.specs.Chain.{asks_alias, chain, chain_aliases}
 use Rattle.upstream_link.specs.Facts.{Extends, PlainFacts, age_of, fact_about, records_of}
 use Rattle.upstream_link.specs.Question.{question_of, main_question}
 use Rattle.policy_snapshot.specs.Hits.{hits}
@@ -98,7 +98,7 @@ module _ (query : Query) (facts more : PlainFacts) (known : StaysKnown facts mor
 
   -- the aliases of these names in an answer, with what is left of their TTLs
   abbrev aliases_in : List Name → Option Fact → List PlainRecord
-  aliases_in before fact = map (aged (age_of fact)) (followed (records_of fact) before)
+  aliases_in before fact = map (aged (age_of fact)) (chain_aliases (records_of fact) before)
 
   -- the aliases of these names stay the same
   abbrev SameAliases : List Name → Type 0

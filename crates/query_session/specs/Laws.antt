@@ -10,7 +10,7 @@ use Rattle.action_codec.specs.Local.{PlainLocal}
 use Rattle.action_codec.specs.declared.action.Action.TheVariants.{PassThru, TcpOnly, Local}
 use Rattle.upstream_link.specs.declared.fact.Fact.{Fact}
 use Rattle.upstream_link.specs.declared.fact.Fact.TheVariants.{Answer, Broken}
-use Rattle.upstream_link.specs.declared.fact.Why.{Why}
+use Rattle.upstream_link.specs.declared.fact.AnswerFault.{AnswerFault}
 use Rattle.upstream_link.specs.Chain.{asks_alias}
 use Rattle.upstream_link.specs.Facts.{PlainFacts, fact_about}
 use Rattle.upstream_link.specs.Kept.{IsAnswer}
@@ -22,7 +22,7 @@ use Rattle.reply_build.specs.Verdict.{PlainVerdict, passes, fails, hits}
 use Rattle.policy_snapshot.specs.Policy.{PlainPolicy}
 use Rattle.query_session.specs.Session.{turn_by}
 
--- it is said what the client gets, and nothing is asked
+-- the turn replies or stays silent, and asks nothing
 abbrev pub is_said : Turn → Bool
 is_said (Ask question) = false
 is_said (Said s) = true
@@ -31,7 +31,7 @@ is_said (Said s) = true
 abbrev pub Upstream : Type 0
 Upstream = PlainFacts → Question → Fact
 
--- what is known behind a turn: the answer to its question, too, if it asks
+-- what is known after a turn: also the answer to its question, if it asks
 abbrev pub facts_by : Upstream → PlainFacts → Turn → PlainFacts
 facts_by upstream facts (Ask question) = facts ++ (question, upstream facts question) ∷ []
 facts_by upstream facts (Said s) = facts
@@ -53,7 +53,7 @@ AreKept facts = AllByRecursion (λ e. IsKept e.1) facts
 
 -- it is known that the upstream has no answer to this question
 abbrev pub IsBroken : PlainFacts → Question → Type 0
-IsBroken facts question = (why : Why) × (fact_about facts question ≡ Some (Broken why))
+IsBroken facts question = (why : AnswerFault) × (fact_about facts question ≡ Some (Broken why))
 
 -- The answer of the upstream is to pass: no rule is hit, or the rule that decides says PASSTHRU, or it says TCP-Only
 -- and the query came over TCP (draft-vixie-dnsop-dns-rpz, sections 3.3 and 3.5).

@@ -23,8 +23,8 @@ use Rattle.query_session.specs.State.{SessionState}
 abbrev pub verdict_turn : Query → PlainFacts → PlainVerdict → Turn
 verdict_turn query facts verdict = reply (reply_limit query) query verdict facts
 
--- a rule that decides is answered by, and where none is hit the answer passes, once all is known that the reply needs; there is
--- no answer where the chain of aliases is too long
+-- what comes next, as a turn: a question is asked; a rule that decides gives the reply; where no rule is hit, the answer of the
+-- upstream passes; where the chain of aliases is too long, there is no answer
 abbrev pub turn_by_next : Query → PlainFacts → Next → Turn
 turn_by_next query facts (ask question) = Ask question
 turn_by_next query facts (decided_by before name hit) = verdict_turn query facts (hits hit.action hit.soa before name)

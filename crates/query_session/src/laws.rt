@@ -15,7 +15,7 @@ ghost use Rattle.upstream_link.specs.Facts.{Extends, PlainFacts};
 use policy_snapshot::laws::nothing_unasked_could_matter;
 use upstream_link::laws::what_is_known_stays_known;
 
-/// Whatever the policy, the message and the upstream, something is said after at most
+/// Whatever the policy, the message and the upstream, there is a reply, or silence, after at most
 /// [`FACT_LIMIT`](upstream_link::FACT_LIMIT) questions are answered, and no more than these are asked.
 pub fn at_most_128_facts_bring_a_reply()
     ensures said { (policy : PlainPolicy) (incoming : Incoming) (upstream : Upstream) →
@@ -33,7 +33,7 @@ pub fn a_failure_has_a_cause()
         (by_verdict query verdict facts ≡ gives server_failure) ↔ HasCause query verdict facts }
 {}
 
-/// Once something is said, it is said whatever facts come behind, of at most [`FACT_LIMIT`](upstream_link::FACT_LIMIT)
+/// Once there is a reply, or silence, it stays whatever facts come then, of at most [`FACT_LIMIT`](upstream_link::FACT_LIMIT)
 /// in all.
 pub fn a_reply_stands()
     ensures { (policy : PlainPolicy) (incoming : Incoming) (facts more : PlainFacts) →

@@ -1,4 +1,4 @@
-//! A session: one message of a client, from its coming to what is said.
+//! A session: one message of a client, from its arrival to its reply.
 
 ghost use Rattle.std.specs.Prelude.{◌≡◌, ◌≤◌, ◌∷◌, [], true, ◌++◌, length, Some, None, IfOk, IsSome, OnOk, OnErr, option_copied, is_some};
 ghost use Rattle.dns_message.specs.declared.question.Question as questions;
@@ -107,7 +107,7 @@ impl Session {
         ensures ok { OnOk result (self.new ≡ after_fact self.old fact) }
         ensures err { OnErr result (self.new ≡ self.old) }
     {
-        // what is wanted here: a name that the query passes it passes whatever facts come, since the rows of the zones are rows
+        // called for their clauses: a name that passes the rules passes whatever facts come, since the rows of the zones are rows
         nothing_unasked_could_matter();
         let _zones = self.policy.zone_count();
         let Some(question) = self.asked.take() else {

@@ -1,4 +1,4 @@
-//! What is done about a query at a point, by what is known.
+//! The next turn of a query, by what is known.
 
 ghost use Rattle.std.specs.Prelude.{◌≡◌, ◌≤◌, [], ◌∷◌, length, take, drop, true, Some, option_map, IfOk, IfSome};
 ghost use Rattle.dns_message.specs.declared.question.Question.{Question};

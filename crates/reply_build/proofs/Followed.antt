@@ -7,7 +7,7 @@ use Rattle.std.proofs.lemmas.List.Concat.{flat_map-append}
 use Rattle.dns_record.specs.Record.{PlainRecord, record_octets}
 use Rattle.dns_message.specs.Aged.{aged}
 use Rattle.dns_message.specs.Spelling.{records_octets}
-use Rattle.upstream_link.specs.Chain.{alias_of, followed}
+use Rattle.upstream_link.specs.Chain.{alias_of, chain_aliases}
 use Rattle.reply_build.specs.Start.{has_alias}
 
 count_by : (name : List (List ℕ)) (names : List (List (List ℕ))) (others : List PlainRecord) (alias : Option PlainRecord)
@@ -16,20 +16,20 @@ count_by name names others None e = e
 count_by name names others (Some r) e = ap (λ (n : ℕ). suc n) e
 
 -- as many aliases as there are names that have one
-pub count_followed : (records : List PlainRecord) (names : List (List (List ℕ))) → length (filter (has_alias records) names) ≡ length (followed records names)
+pub count_followed : (records : List PlainRecord) (names : List (List (List ℕ))) → length (filter (has_alias records) names) ≡ length (chain_aliases records names)
 count_followed records [] = refl
 count_followed records (name ∷ names) =
-    count_by name (filter (has_alias records) names) (followed records names) (alias_of records name) (count_followed records names)
+    count_by name (filter (has_alias records) names) (chain_aliases records names) (alias_of records name) (count_followed records names)
 
-pub count_aged : (seconds : ℕ) (records : List PlainRecord) (names : List (List (List ℕ))) → length (filter (has_alias records) names) ≡ length (map (aged seconds) (followed records names))
-count_aged seconds records names = count_followed records names ∙ sym (length-map (followed records names) (aged seconds))
+pub count_aged : (seconds : ℕ) (records : List PlainRecord) (names : List (List (List ℕ))) → length (filter (has_alias records) names) ≡ length (map (aged seconds) (chain_aliases records names))
+count_aged seconds records names = count_followed records names ∙ sym (length-map (chain_aliases records names) (aged seconds))
 
 pub no_alias : (seconds : ℕ) (alias : Option PlainRecord) (octets : List ℕ) → alias ≡ None → octets ≡ octets ++ records_octets (map (aged seconds) (option_to_list alias))
 unfolding records_octets
 no_alias seconds alias octets e = rw e (sym (append-nil octets))
 
 abbrev pub kept_octets : ℕ → List PlainRecord → List (List (List ℕ)) → List ℕ
-kept_octets seconds records names = records_octets (map (aged seconds) (followed records names))
+kept_octets seconds records names = records_octets (map (aged seconds) (chain_aliases records names))
 
 -- the alias of one name and those of the others
 kept_first : (seconds : ℕ) (records : List PlainRecord) (name : List (List ℕ)) (names : List (List (List ℕ)))
@@ -37,7 +37,7 @@ kept_first : (seconds : ℕ) (records : List PlainRecord) (name : List (List ℕ
 unfolding records_octets
 kept_first seconds records name names =
     let one = option_to_list (alias_of records name) in
-    let others = followed records names in
+    let others = chain_aliases records names in
     ap records_octets (map-append (aged seconds) one others)
     ∙ flat_map-append record_octets (map (aged seconds) one) (map (aged seconds) others)
 

@@ -19,7 +19,7 @@ use Rattle.action_codec.specs.declared.action.Action.TheVariants.{NxDomain, NoDa
 use Rattle.upstream_link.specs.Kept.{PlainAnswer, aged_answers}
 use Rattle.upstream_link.specs.declared.fact.Fact.{Fact}
 use Rattle.upstream_link.specs.declared.fact.Fact.TheVariants.{Answer, Broken}
-use Rattle.upstream_link.specs.Chain.{asks_alias, followed}
+use Rattle.upstream_link.specs.Chain.{asks_alias, chain_aliases}
 use Rattle.upstream_link.specs.Facts.{PlainFacts, fact_about, main_age, main_records}
 use Rattle.upstream_link.specs.Question.{question_of, main_question}
 use Rattle.reply_build.specs.declared.said.Said.TheVariants.{Reply, Silent}
@@ -163,7 +163,7 @@ by_action query facts place (Local rows) = local_outcome query rows place facts
 -- where a rule decides that is hit behind these names: the aliases are those of the answer to the query, with what is left of
 -- their TTLs
 abbrev pub place_of : Query → PlainFacts → PlainRecord → List (List (List ℕ)) → List (List ℕ) → Place
-place_of query facts soa before name = record { kept = map (aged (main_age query facts)) (followed (main_records query facts) before); name = name; soa = soa }
+place_of query facts soa before name = record { kept = map (aged (main_age query facts)) (chain_aliases (main_records query facts) before); name = name; soa = soa }
 
 abbrev pub by_verdict : Query → PlainVerdict → PlainFacts → Outcome
 by_verdict query passes facts = main_outcome query facts
@@ -176,6 +176,6 @@ outcome_turn limit query (needs question) = Ask question
 outcome_turn limit query (gives s) = Said (Reply (spelling_within limit (reply_of query s)))
 outcome_turn limit query silent = Said Silent
 
--- The question whose answer the reply needs and that isn't known, or what is said to the client, in at most so many bytes.
+-- The question whose answer the reply needs and that isn't known, or the reply, in at most so many bytes, or silence.
 abbrev pub reply : ℕ → Query → PlainVerdict → PlainFacts → Turn
 reply limit query verdict facts = outcome_turn limit query (by_verdict query verdict facts)

@@ -1,4 +1,4 @@
-//! From what is decided of a query to what is asked or said.
+//! The reply to a verdict, or the question that the reply needs.
 
 ghost use Rattle.std.specs.Prelude.{◌≡◌, ◌≤◌, IfOk};
 ghost use Rattle.reply_build.specs.Draft.{draft_outcome};
@@ -7,7 +7,7 @@ ghost use Rattle.reply_build.specs.Reply.{reply};
 ghost use Rattle.reply_build.specs.Seen.{place_seen};
 ghost use Rattle.reply_build.specs.Short.{SaysShort};
 ghost use Rattle.reply_build.specs.Verdict.{verdict_of};
-ghost use Rattle.upstream_link.specs.Chain.{followed};
+ghost use Rattle.upstream_link.specs.Chain.{chain_aliases};
 ghost use Rattle.upstream_link.specs.Facts.{main_records};
 
 use crate::draft::finish;
@@ -26,7 +26,7 @@ use ip_prefix::Transport;
 use std::alloc::{AllocError, Global};
 use upstream_link::Facts;
 
-/// The question whose answer the reply needs and that isn't known, or else what is said to the client. A reply that is
+/// The question whose answer the reply needs and that isn't known, or else the reply, or silence. A reply that is
 /// longer than the limit of 512 to 65,535 bytes is truncated: the same rcode, TC 1, the question and the OPT record
 /// alone.
 pub fn build(
@@ -49,7 +49,7 @@ pub fn build(
     }
 }
 
-// What a verdict comes to.
+// The outcome of a verdict.
 fn by_verdict(
     alloc: Global,
     query: &Query,
@@ -83,7 +83,7 @@ fn by_verdict(
 // The records in which the aliases of these names stand: those of the answer to the query. Where there are no names, it
 // isn't looked for.
 fn records_behind<'f>(query: &Query, facts: &'f Facts, before: &[Name]) -> &'f [Record]
-    ensures { followed result.now before.now ≡ followed (main_records query.now facts.now) before.now }
+    ensures { chain_aliases result.now before.now ≡ chain_aliases (main_records query.now facts.now) before.now }
 {
     if before.is_empty() {
         return &[];
@@ -91,7 +91,7 @@ fn records_behind<'f>(query: &Query, facts: &'f Facts, before: &[Name]) -> &'f [
     facts.records(&query.question.name, query.question.qtype)
 }
 
-// What a rule's action comes to.
+// The outcome of a rule's action.
 fn by_action(
     alloc: Global,
     query: &Query,
@@ -112,7 +112,7 @@ fn by_action(
     }
 }
 
-// What TCP-Only comes to.
+// The outcome of TCP-Only.
 fn tcp_only_outcome(alloc: Global, query: &Query, facts: &Facts) -> Result<DraftOutcome, AllocError>
     ensures { IfOk result (λ outcome. outcome
         ≡ draft_outcome query.now (form.tcp_only_outcome query.now facts.now)) }

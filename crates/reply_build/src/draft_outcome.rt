@@ -1,15 +1,15 @@
-//! What a verdict comes to, by what is known.
+//! The outcome of a verdict, by what is known.
 
 use crate::draft::Draft;
 use dns_message::Question;
 
-/// What a verdict comes to, by what is known.
+/// The outcome of a verdict, by what is known.
 #[derive(Debug, Drop)]
 pub enum DraftOutcome {
     /// The question whose answer the reply needs and that isn't known.
     Needs(Question),
     /// The reply but for its OPT record.
     Gives(Draft),
-    /// Nothing is said.
+    /// No reply.
     Silent,
 }

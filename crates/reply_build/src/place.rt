@@ -5,7 +5,7 @@ ghost use Rattle.std.specs.Option.{option_to_list};
 ghost use Rattle.dns_message.specs.Aged.{aged};
 ghost use Rattle.dns_message.specs.Spelling.{records_octets};
 ghost use Rattle.upstream_link.specs.Chain as chains;
-ghost use Rattle.upstream_link.specs.Chain.{followed};
+ghost use Rattle.upstream_link.specs.Chain.{chain_aliases};
 ghost use Rattle.reply_build.specs.Start as start;
 
 use dns_message::write_aged_records;
@@ -71,7 +71,7 @@ pub fn write_kept(
     age: u32,
     before: &[Name],
 ) -> Result<(), AllocError>
-    ensures { OnOk result (out.new ≡ out.old ++ records_octets (map (aged age) (followed records.now before.now))) }
+    ensures { OnOk result (out.new ≡ out.old ++ records_octets (map (aged age) (chain_aliases records.now before.now))) }
 {
     for name in before {
         write_alias_of(out, records, age, name)?;

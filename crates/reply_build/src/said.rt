@@ -1,11 +1,11 @@
-//! What is said to a client.
+//! The reply to a client, or silence.
 
 use dns_name::Octets;
 
-/// What is said to a client.
+/// The reply to a client, or silence.
 #[derive(Debug, Drop)]
 pub enum Said {
     Reply(Octets),
-    /// Nothing.
+    /// No reply.
     Silent,
 }

@@ -1,4 +1,4 @@
-//! Runs whose reads and writes fail, and what is told of a status. What runs answer stands in scenarios/.
+//! Runs whose reads and writes fail, and the texts of statuses. What runs answer stands in scenarios/.
 
 use crate::alone::{replay_words, run_alone};
 use edge_io::{ListSink, ListSource};

@@ -5,7 +5,7 @@ use Rattle.dns_message.specs.declared.request.Incoming.{Incoming}
 use Rattle.upstream_link.specs.declared.facts.TheConstants.{FACT_LIMIT}
 use Rattle.upstream_link.specs.Facts.{PlainFacts}
 use Rattle.upstream_link.specs.Vouched.{PlainLearned, fact_at}
-use Rattle.answer_cache.specs.Recent.{HaveSameEntries, found, touched}
+use Rattle.answer_cache.specs.Recent.{HaveSameEntries, live_entry, after_look_up}
 use Rattle.answer_cache.proofs.Touched.{found_in, found_touched, touched_same}
 use Rattle.reply_build.specs.declared.turn.Turn.{Turn}
 use Rattle.reply_build.specs.declared.turn.Turn.TheVariants.{Ask, Said}
@@ -36,22 +36,22 @@ module _ (now : ℕ) (policy : PlainPolicy) (incoming : Incoming) where
 
   by_found : (go_on : GoesOn) → ((cached : List PlainLearned) (facts : PlainFacts) → Explains cached facts (go_on cached facts))
       → (cached : List PlainLearned) (facts : PlainFacts) (question : Question) → turn_by policy incoming facts ≡ Ask question
-      → (entry : Option PlainLearned) → found question now cached ≡ entry → Explains cached facts (by_entry go_on now (touched question cached) facts question entry)
+      → (entry : Option PlainLearned) → live_entry question now cached ≡ entry → Explains cached facts (by_entry go_on now (after_look_up question cached) facts question entry)
   by_found go_on deep cached facts question asks None is = record { turn = sym asks; known = no_more facts; same = touched_same question cached }
   by_found go_on deep cached facts question asks (Some entry) is =
       let more = facts ++ (question, fact_at now entry) ∷ [] in
       let one = found_in question now cached entry is in
-      let rest = deep (touched question cached) more in
+      let rest = deep (after_look_up question cached) more in
       record {
         turn = rest.turn;
-        known = one_more facts (go_on (touched question cached) more).facts question entry asks one.0 one.1 one.2
-            (answered_among (touched question cached) cached (λ e c. (touched_same question cached e).0 c) more (go_on (touched question cached) more).facts rest.known);
-        same = same_same (go_on (touched question cached) more).cached (touched question cached) cached rest.same (touched_same question cached);
+        known = one_more facts (go_on (after_look_up question cached) more).facts question entry asks one.0 one.1 one.2
+            (answered_among (after_look_up question cached) cached (λ e c. (touched_same question cached e).0 c) more (go_on (after_look_up question cached) more).facts rest.known);
+        same = same_same (go_on (after_look_up question cached) more).cached (after_look_up question cached) cached rest.same (touched_same question cached);
       }
 
   by_kind : (go_on : GoesOn) → ((cached : List PlainLearned) (facts : PlainFacts) → Explains cached facts (go_on cached facts))
       → (cached : List PlainLearned) (facts : PlainFacts) (turn : Turn) → turn_by policy incoming facts ≡ turn → Explains cached facts (by_turn go_on now cached facts turn)
-  by_kind go_on deep cached facts (Ask question) is = by_found go_on deep cached facts question is (found question now cached) refl
+  by_kind go_on deep cached facts (Ask question) is = by_found go_on deep cached facts question is (live_entry question now cached) refl
   by_kind go_on deep cached facts (Said s) is = record { turn = sym is; known = no_more facts; same = λ e. (λ c. c, λ c. c) }
 
   explained : (left : ℕ) (cached : List PlainLearned) (facts : PlainFacts) → Explains cached facts (resolve_within left now policy incoming cached facts)
@@ -73,21 +73,21 @@ module _ (now : ℕ) (policy : PlainPolicy) (incoming : Incoming) where
   -- what is asked in the end has no live entry, where there is room for so many more facts
   abbrev AsksNone : ℕ → GoesOn → Type 0
   AsksNone left go_on = (cached : List PlainLearned) (facts : PlainFacts) (question : Question) → FACT_LIMIT ≤ left + length facts
-      → (go_on cached facts).turn ≡ Ask question → found question now (go_on cached facts).cached ≡ None
+      → (go_on cached facts).turn ≡ Ask question → live_entry question now (go_on cached facts).cached ≡ None
 
-  none_by : (left : ℕ) (go_on : GoesOn) → AsksNone left go_on → (cached : List PlainLearned) (facts : PlainFacts) (asked question : Question) (entry : Option PlainLearned) → found asked now cached ≡ entry
-      → FACT_LIMIT ≤ suc left + length facts → (by_entry go_on now (touched asked cached) facts asked entry).turn ≡ Ask question
-      → found question now (by_entry go_on now (touched asked cached) facts asked entry).cached ≡ None
+  none_by : (left : ℕ) (go_on : GoesOn) → AsksNone left go_on → (cached : List PlainLearned) (facts : PlainFacts) (asked question : Question) (entry : Option PlainLearned) → live_entry asked now cached ≡ entry
+      → FACT_LIMIT ≤ suc left + length facts → (by_entry go_on now (after_look_up asked cached) facts asked entry).turn ≡ Ask question
+      → live_entry question now (by_entry go_on now (after_look_up asked cached) facts asked entry).cached ≡ None
   none_by left go_on deep cached facts asked question None is many asks =
       let same : asked ≡ question = cc in
-      subst (λ (q : Question). found q now (touched asked cached) ≡ None) same (found_touched asked now cached ∙ is)
+      subst (λ (q : Question). live_entry q now (after_look_up asked cached) ≡ None) same (found_touched asked now cached ∙ is)
   none_by left go_on deep cached facts asked question (Some entry) is many asks =
-      deep (touched asked cached) (facts ++ (asked, fact_at now entry) ∷ []) question (omega (arith, many, length-append facts ((asked, fact_at now entry) ∷ []))) asks
+      deep (after_look_up asked cached) (facts ++ (asked, fact_at now entry) ∷ []) question (omega (arith, many, length-append facts ((asked, fact_at now entry) ∷ []))) asks
 
   none_kind : (left : ℕ) (go_on : GoesOn) → AsksNone left go_on → (cached : List PlainLearned) (facts : PlainFacts) (turn : Turn) (question : Question)
       → FACT_LIMIT ≤ suc left + length facts → (by_turn go_on now cached facts turn).turn ≡ Ask question
-      → found question now (by_turn go_on now cached facts turn).cached ≡ None
-  none_kind left go_on deep cached facts (Ask asked) question many asks = none_by left go_on deep cached facts asked question (found asked now cached) refl many asks
+      → live_entry question now (by_turn go_on now cached facts turn).cached ≡ None
+  none_kind left go_on deep cached facts (Ask asked) question many asks = none_by left go_on deep cached facts asked question (live_entry asked now cached) refl many asks
   none_kind left go_on deep cached facts (Said s) question many asks = absurd cc
 
   asks_none : (left : ℕ) → AsksNone left (resolve_within left now policy incoming)
@@ -96,5 +96,5 @@ module _ (now : ℕ) (policy : PlainPolicy) (incoming : Incoming) where
   asks_none (suc left) cached facts question many asks =
       none_kind left (resolve_within left now policy incoming) (asks_none left) cached facts (turn_by policy incoming facts) question many asks
 
-  pub resolve_asks : (cached : List PlainLearned) (facts : PlainFacts) (question : Question) → (resolve now policy incoming cached facts).turn ≡ Ask question → found question now (resolve now policy incoming cached facts).cached ≡ None
+  pub resolve_asks : (cached : List PlainLearned) (facts : PlainFacts) (question : Question) → (resolve now policy incoming cached facts).turn ≡ Ask question → live_entry question now (resolve now policy incoming cached facts).cached ≡ None
   resolve_asks cached facts question asks = asks_none FACT_LIMIT cached facts question (omega arith) asks

@@ -7,7 +7,7 @@ use Rattle.dns_message.specs.Request.{incoming_of}
 use Rattle.zone_rows.specs.declared.zone.PlainZone.{PlainZone}
 use Rattle.upstream_link.specs.declared.fact.Fact.{Fact}
 use Rattle.upstream_link.specs.declared.fact.Fact.TheVariants.{Broken}
-use Rattle.upstream_link.specs.declared.fact.Why.TheVariants.{Failed}
+use Rattle.upstream_link.specs.declared.fact.AnswerFault.TheVariants.{Failed}
 use Rattle.upstream_link.specs.Facts.{PlainFacts}
 use Rattle.upstream_link.specs.Vouched.{fact_at}
 use Rattle.policy_snapshot.specs.Policy.{PlainPolicy, zone_at}
@@ -24,7 +24,7 @@ use Rattle.ixfr_apply.specs.Marks.{mark_at, with_mark}
 use Rattle.ixfr_apply.specs.Offer.{Offer, takes, is_current, refuses, offer}
 use Rattle.rpz_core.specs.Offer.{offer_output}
 use Rattle.rpz_core.specs.Resolving.{Resolved, resolve}
-use Rattle.rpz_core.specs.Sessions.{PendingQuery, SessionsState, answered_step, caching, facts_with, learned_by, pending_step, query_step, resolved_step, resumed_step, turn_step, with_cached}
+use Rattle.rpz_core.specs.Sessions.{PendingQuery, SessionsState, answered_step, with_learned, facts_with, learned_by, pending_step, query_step, resolved_step, resumed_step, turn_step, with_cached}
 use Rattle.rpz_core.specs.World.{World, clock_step, policy_of, transfer_step, full_step, with_sessions, world_step}
 
 -- the output says something
@@ -111,7 +111,7 @@ answer_does w next worker message None out e = absurd (refused _ next out e)
 answer_does w next worker message (Some None) out e = absurd (refused _ next out e)
 answer_does w next worker message (Some (Some pending)) out e =
     let entry = learned_by pending message w.clock in
-    resumed_does w next (caching w.sessions entry) worker pending (fact_at w.clock entry) out refl e
+    resumed_does w next (with_learned w.sessions entry) worker pending (fact_at w.clock entry) out refl e
 
 failure_does : (w next : World) (worker : ℕ) (slot : Option (Option PendingQuery)) (out : Output) → with_sessions w (pending_step (λ pending. resumed_step w.clock w.sessions worker pending (Broken Failed)) slot) ≡ Ok (next, out) → Keeps w next × Speaks out
 failure_does w next worker None out e = absurd (refused _ next out e)

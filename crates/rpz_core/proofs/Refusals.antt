@@ -5,7 +5,7 @@ use Rattle.dns_message.specs.declared.request.Incoming.{Incoming}
 use Rattle.dns_message.specs.Request.{incoming_of}
 use Rattle.zone_rows.specs.declared.zone.PlainZone.{PlainZone}
 use Rattle.upstream_link.specs.declared.fact.Fact.TheVariants.{Broken}
-use Rattle.upstream_link.specs.declared.fact.Why.TheVariants.{Failed}
+use Rattle.upstream_link.specs.declared.fact.AnswerFault.TheVariants.{Failed}
 use Rattle.policy_snapshot.specs.Policy.{PlainPolicy, zone_at}
 use Rattle.rpz_core.specs.declared.event.CoreFault.{CoreFault}
 use Rattle.rpz_core.specs.declared.event.Event.{Event}

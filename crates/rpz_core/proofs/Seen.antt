@@ -21,7 +21,7 @@ use Rattle.ixfr_apply.specs.Offer.{Offer, takes, is_current, refuses, offer, off
 use Rattle.rpz_core.specs.Offer.{content_taken}
 use Rattle.rpz_core.specs.Sessions.{SessionsState, take_query, take_answer, take_failure}
 use Rattle.rpz_core.specs.State as core
-use Rattle.rpz_core.specs.State.{CoreState, state_of, seen, core_after_offer}
+use Rattle.rpz_core.specs.State.{CoreState, state_of, as_core_outcome, core_after_offer}
 use Rattle.rpz_core.specs.World.{World, policy_of, world_after_offer, transfer_step, full_step, with_sessions, world_step}
 
 state_with : List Bool → SessionsState → ℕ → Output → PlainPolicy → ℕ → CoreState × Output
@@ -59,21 +59,21 @@ reading_takes zone (Ok (taken.Current theirs)) transfer next e = absurd cc
 reading_takes zone (Ok (taken.New t)) transfer next e = outcome_takes zone t (apply_outcome zone t) refl transfer next e
 reading_takes zone (Err fault) transfer next e = absurd cc
 
-transfer_seen : (w : World) (number : ℕ) (stream : List ℕ) (zone : Option PlainZone) → zone_at (policy_of w) number ≡ zone → core.transfer_step (state_of w) number stream zone ≡ seen (transfer_step w number stream zone)
+transfer_seen : (w : World) (number : ℕ) (stream : List ℕ) (zone : Option PlainZone) → zone_at (policy_of w) number ≡ zone → core.transfer_step (state_of w) number stream zone ≡ as_core_outcome (transfer_step w number stream zone)
 transfer_seen w number stream None at = refl
 transfer_seen w number stream (Some zone) at =
     let marked = mark_at w.marks number in
     ap (λ (g : CoreState × Output). Ok g) (offer_seen w number zone stream (offer 0 marked zone stream) at (reading_takes zone (reading (request_of 0 marked zone) stream).0))
 
-full_seen : (w : World) (number : ℕ) (zone : Option PlainZone) → core.full_step (state_of w) number zone ≡ seen (full_step w number zone)
+full_seen : (w : World) (number : ℕ) (zone : Option PlainZone) → core.full_step (state_of w) number zone ≡ as_core_outcome (full_step w number zone)
 full_seen w number None = refl
 full_seen w number (Some zone) = refl
 
-sessions_seen : (w : World) (r : Result (SessionsState × Output) CoreFault) → core.with_sessions (state_of w) r ≡ seen (with_sessions w r)
+sessions_seen : (w : World) (r : Result (SessionsState × Output) CoreFault) → core.with_sessions (state_of w) r ≡ as_core_outcome (with_sessions w r)
 sessions_seen w (Ok next) = refl
 sessions_seen w (Err fault) = refl
 
-pub step_seen : (w : World) (e : Event) → core.core_step (state_of w) e ≡ seen (world_step w e)
+pub step_seen : (w : World) (e : Event) → core.core_step (state_of w) e ≡ as_core_outcome (world_step w e)
 unfolding core.core_step world_step
 step_seen w (Transfer number stream) = transfer_seen w number stream (zone_at (policy_of w) number) refl
 step_seen w (Full number) = full_seen w number (zone_at (policy_of w) number)

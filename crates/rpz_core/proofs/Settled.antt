@@ -1,6 +1,6 @@
 -- What code keeps of an offer does what the offer does.
 use Rattle.std.proofs.Common.{◌≡◌, ℕ, Bool, false, List, Option, Some, Result, Ok, sym, ap, subst, ◌∙◌}
-use Rattle.axfr_apply.specs.declared.asked.Wanted.{Wanted}
+use Rattle.axfr_apply.specs.declared.transfer_request.Wanted.{Wanted}
 use Rattle.zone_rows.specs.declared.zone.PlainZone.{PlainZone}
 use Rattle.policy_snapshot.specs.Policy.{zone_at}
 use Rattle.policy_snapshot.specs.Stands.{PlainSnapshot}

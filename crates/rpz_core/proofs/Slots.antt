@@ -12,7 +12,7 @@ use Rattle.reply_build.specs.declared.turn.Turn.{Turn}
 use Rattle.reply_build.specs.declared.turn.Turn.TheVariants.{Ask, Said}
 use Rattle.rpz_core.specs.declared.event.Output.{Output}
 use Rattle.rpz_core.specs.Resolving.{resolve}
-use Rattle.rpz_core.specs.Sessions.{PendingQuery, SessionsState, caching, facts_with, resumed_step, turn_step, uncached, with_cached}
+use Rattle.rpz_core.specs.Sessions.{PendingQuery, SessionsState, with_learned, facts_with, resumed_step, turn_step, uncached, with_cached}
 use Rattle.rpz_core.specs.State.{TurnsBare, TurnsOrPutsBack}
 
 module _ {X : Type 0} where
@@ -65,9 +65,9 @@ resumed now s new worker pending taken fact (Err e) at is turns =
     turns ∙ ap (λ (ws : List (Option PendingQuery)). let p : SessionsState = record { workers = ws; last_id = s.last_id; cached = [] } in p) (set_set s.workers worker None (Some taken) ∙ ap (slice_set s.workers worker) same ∙ set_same s.workers worker (Some pending) at)
 
 -- a query that got what was learned for it, which was cached
-pub resumed_learned : (now : ℕ) (s mid new : SessionsState) (worker : ℕ) (pending : PendingQuery) (entry : PlainLearned) (fact : Fact) (result : Result Output AllocError) → mid ≡ caching s entry → fact ≡ fact_at now entry
+pub resumed_learned : (now : ℕ) (s mid new : SessionsState) (worker : ℕ) (pending : PendingQuery) (entry : PlainLearned) (fact : Fact) (result : Result Output AllocError) → mid ≡ with_learned s entry → fact ≡ fact_at now entry
     → TurnsBare uncached (resumed_step now mid worker pending fact) result mid new
-    → TurnsBare uncached (resumed_step now (caching s entry) worker pending (fact_at now entry)) result s new
+    → TurnsBare uncached (resumed_step now (with_learned s entry) worker pending (fact_at now entry)) result s new
 resumed_learned now s mid new worker pending entry fact (Ok out) is says turns =
     (λ i. resumed_step now (sym is i) worker pending (sym says i)) ∙ turns
 resumed_learned now s mid new worker pending entry fact (Err e) is says turns = turns ∙ ap uncached is

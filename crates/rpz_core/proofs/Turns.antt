@@ -9,7 +9,7 @@ use Rattle.upstream_link.specs.declared.fact.Fact.{Fact}
 use Rattle.upstream_link.specs.declared.facts.TheConstants.{FACT_LIMIT}
 use Rattle.upstream_link.specs.Facts.{PlainFacts}
 use Rattle.upstream_link.specs.Vouched.{PlainLearned, fact_at}
-use Rattle.answer_cache.specs.Recent.{Recent, found, recent, touched}
+use Rattle.answer_cache.specs.Recent.{Recent, live_entry, recent, after_look_up}
 use Rattle.policy_snapshot.specs.Policy.{PlainPolicy}
 use Rattle.reply_build.specs.declared.said.Said as replies
 use Rattle.reply_build.specs.declared.turn.Turn.{Turn}
@@ -17,7 +17,7 @@ use Rattle.reply_build.specs.declared.turn.Turn.TheVariants.{Ask, Said}
 use Rattle.query_session.specs.Session.{after_fact, after_turn, question_in, turn_by, turn_of}
 use Rattle.query_session.specs.State.{SessionState}
 use Rattle.rpz_core.specs.Pending.{IsLater, Resolves, ResolvesOnce}
-use Rattle.rpz_core.specs.Resolving.{Resolved, by_entry, by_turn, resolve, resolve_within, resolved}
+use Rattle.rpz_core.specs.Resolving.{Resolved, by_entry, by_turn, resolve, resolve_within, resolution}
 
 -- ---- later states of a session
 
@@ -46,34 +46,34 @@ later_turn old new is = record {
 pub once_said : (now : ℕ) (cache : Recent) (old new : SessionState) (said : replies.Said) → Said said ≡ turn_of old → new ≡ after_turn old
     → ResolvesOnce now (Ok (Some (Said said))) cache cache old new
 once_said now cache old new said turn is = (
-  λ go_on. ap (by_turn go_on now cache.entries old.facts) (sym turn) ∙ ap (λ (facts : PlainFacts). resolved cache.entries facts (Said said)) (sym (ap (λ (s : SessionState). s.facts) is)),
+  λ go_on. ap (by_turn go_on now cache.entries old.facts) (sym turn) ∙ ap (λ (facts : PlainFacts). resolution cache.entries facts (Said said)) (sym (ap (λ (s : SessionState). s.facts) is)),
   later_turn old new is,
   ap (λ (s : SessionState). s.asked) is ∙ ap question_in (sym turn),
 )
 
 -- what a look-up finds decides on what a turn that asks comes to
 looked_up : (go_on : List PlainLearned → PlainFacts → Resolved) (now : ℕ) (cached after : List PlainLearned) (facts : PlainFacts) (turn : Turn) (question : Question) (entry : Option PlainLearned)
-    → Ask question ≡ turn → entry ≡ found question now cached → after ≡ touched question cached
+    → Ask question ≡ turn → entry ≡ live_entry question now cached → after ≡ after_look_up question cached
     → by_turn go_on now cached facts turn ≡ by_entry go_on now after facts question entry
 looked_up go_on now cached after facts turn question entry asks finds is =
     ap (by_turn go_on now cached facts) (sym asks)
-    ∙ ap (λ (e : Option PlainLearned). by_entry go_on now (touched question cached) facts question e) (sym finds)
+    ∙ ap (λ (e : Option PlainLearned). by_entry go_on now (after_look_up question cached) facts question e) (sym finds)
     ∙ ap (λ (l : List PlainLearned). by_entry go_on now l facts question entry) (sym is)
 
 -- it asks what no live entry answers
 pub once_asks : (now : ℕ) (cache left : Recent) (old new : SessionState) (question : Question) → Ask question ≡ turn_of old → new ≡ after_turn old
-    → None ≡ found question now cache.entries → left ≡ recent (touched question cache.entries) cache.limit
+    → None ≡ live_entry question now cache.entries → left ≡ recent (after_look_up question cache.entries) cache.limit
     → ResolvesOnce now (Ok (Some (Ask question))) cache left old new
 once_asks now cache left old new question turn is none after = (
   λ go_on. looked_up go_on now cache.entries left.entries old.facts (turn_of old) question None turn none (ap (λ (c : Recent). c.entries) after)
-      ∙ ap (λ (facts : PlainFacts). resolved left.entries facts (Ask question)) (sym (ap (λ (s : SessionState). s.facts) is)),
+      ∙ ap (λ (facts : PlainFacts). resolution left.entries facts (Ask question)) (sym (ap (λ (s : SessionState). s.facts) is)),
   later_turn old new is,
   ap (λ (s : SessionState). s.asked) is ∙ ap question_in (sym turn),
 )
 
 -- a live entry answers it
 pub once_answered : (now : ℕ) (cache left : Recent) (old mid new : SessionState) (question : Question) (entry : PlainLearned) (fact : Fact) → Ask question ≡ turn_of old → mid ≡ after_turn old
-    → Some entry ≡ found question now cache.entries → left ≡ recent (touched question cache.entries) cache.limit
+    → Some entry ≡ live_entry question now cache.entries → left ≡ recent (after_look_up question cache.entries) cache.limit
     → fact ≡ fact_at now entry → new ≡ after_fact mid fact
     → ResolvesOnce now (Ok None) cache left old new
 once_answered now cache left old mid new question entry fact turn is one after says given =
@@ -99,7 +99,7 @@ unfolding resolve_within
 step left now policy incoming cached facts = refl
 
 last : (now : ℕ) (policy : PlainPolicy) (incoming : Incoming) (cached : List PlainLearned) (facts : PlainFacts)
-    → resolve_within 0 now policy incoming cached facts ≡ resolved cached facts (turn_by policy incoming facts)
+    → resolve_within 0 now policy incoming cached facts ≡ resolution cached facts (turn_by policy incoming facts)
 unfolding resolve_within
 last now policy incoming cached facts = refl
 
@@ -113,7 +113,7 @@ at_turn count now policy incoming cached facts lt =
 
 -- the last turn
 at_last : (count now : ℕ) (policy : PlainPolicy) (incoming : Incoming) (cached : List PlainLearned) (facts : PlainFacts) → FACT_LIMIT ≤ count
-    → resolve_within (FACT_LIMIT - count) now policy incoming cached facts ≡ resolved cached facts (turn_by policy incoming facts)
+    → resolve_within (FACT_LIMIT - count) now policy incoming cached facts ≡ resolution cached facts (turn_by policy incoming facts)
 at_last count now policy incoming cached facts le =
     let none : FACT_LIMIT - count ≡ 0 = omega (arith, le) in
     ap (λ (n : ℕ). resolve_within n now policy incoming cached facts) none ∙ last now policy incoming cached facts
@@ -167,7 +167,7 @@ pub turn_last : (now count : ℕ) (first cache : Recent) (old mid new : SessionS
 turn_last now count first cache old mid new turn le h turns is = (
   sym h.goes_on
       ∙ at_last count now old.policy old.incoming cache.entries mid.facts le
-      ∙ (λ i. resolved cache.entries (ap (λ (s : SessionState). s.facts) (sym is) i) ((sym (turn_seen old mid h.later) ∙ sym turns) i)),
+      ∙ (λ i. resolution cache.entries (ap (λ (s : SessionState). s.facts) (sym is) i) ((sym (turn_seen old mid h.later) ∙ sym turns) i)),
   later_later old mid new h.later (later_turn mid new is),
   ap (λ (s : SessionState). s.asked) is ∙ ap question_in (sym turns),
 )

@@ -6,7 +6,7 @@ use Rattle.ixfr_apply.specs.Offer.{Offer, takes, is_current, refuses, content_si
 use Rattle.rpz_core.specs.declared.event.Output.{Output}
 use Rattle.rpz_core.specs.declared.event.Output.TheVariants.{Taken, Current, Refused}
 
--- what is output where a zone took a transfer, and holds this now
+-- what is output where a zone took a transfer: the serial and the number of rows that it has now
 abbrev pub content_taken : ℕ → Option Content → Output
 content_taken number content = Taken number (content_size content).0 (content_size content).1
 

@@ -1,6 +1,6 @@
 -- What code keeps of what a policy does with a stream: see src/offer.rt.
 use Rattle.std.specs.Prelude.{◌≡◌, ℕ, Bool, false, ◌||◌}
-use Rattle.axfr_apply.specs.declared.asked.Wanted.{Wanted}
+use Rattle.axfr_apply.specs.declared.transfer_request.Wanted.{Wanted}
 use Rattle.policy_snapshot.specs.Policy.{zone_at}
 use Rattle.policy_snapshot.specs.Stands.{PlainSnapshot}
 use Rattle.rpz_core.specs.declared.event.Output.{Output}

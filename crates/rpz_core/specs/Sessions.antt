@@ -9,7 +9,7 @@ use Rattle.ip_prefix.specs.declared.Transport.{Transport}
 use Rattle.policy_snapshot.specs.Policy.{PlainPolicy}
 use Rattle.upstream_link.specs.declared.fact.Fact.{Fact}
 use Rattle.upstream_link.specs.declared.fact.Fact.TheVariants.{Broken}
-use Rattle.upstream_link.specs.declared.fact.Why.TheVariants.{Failed}
+use Rattle.upstream_link.specs.declared.fact.AnswerFault.TheVariants.{Failed}
 use Rattle.upstream_link.specs.Facts.{PlainFacts}
 use Rattle.upstream_link.specs.Question.{question_message}
 use Rattle.reply_build.specs.declared.said.Said.{Said}
@@ -22,7 +22,7 @@ use Rattle.rpz_core.specs.declared.event.Output.{Output}
 use Rattle.rpz_core.specs.declared.event.Output.TheVariants as output
 use Rattle.upstream_link.specs.Vouched.{PlainLearned, fact_at, plain_learned}
 use Rattle.answer_cache.specs.declared.cache.TheConstants.{MOST_ENTRIES}
-use Rattle.answer_cache.specs.Recent.{kept}
+use Rattle.answer_cache.specs.Recent.{after_keep}
 use Rattle.rpz_core.specs.declared.sessions.TheConstants.{WORKERS}
 use Rattle.rpz_core.specs.Resolving.{Resolved, resolve}
 
@@ -95,13 +95,13 @@ facts_with pending fact = pending.facts ++ (pending.question, fact) ∷ []
 abbrev pub resumed_step : ℕ → SessionsState → ℕ → PendingQuery → Fact → SessionsState × Output
 resumed_step now sessions worker pending fact = next_turn now sessions worker pending.policy pending.incoming (facts_with pending fact)
 
--- what came at this second for the question that was asked
+-- the bytes that came at this second for the question that was asked, as an entry of the cache
 abbrev pub learned_by : PendingQuery → List ℕ → ℕ → PlainLearned
 learned_by pending message now = plain_learned pending.question pending.id message now
 
 -- an answer that comes is cached for its life
-abbrev pub caching : SessionsState → PlainLearned → SessionsState
-caching sessions entry = with_cached sessions (kept MOST_ENTRIES entry sessions.cached)
+abbrev pub with_learned : SessionsState → PlainLearned → SessionsState
+with_learned sessions entry = with_cached sessions (after_keep MOST_ENTRIES entry sessions.cached)
 
 -- something comes to a worker for the question that its query asked
 abbrev pub pending_step : (PendingQuery → SessionsState × Output) → Option (Option PendingQuery) → Result (SessionsState × Output) CoreFault
@@ -113,7 +113,7 @@ pending_step goes_on (Some (Some pending)) = Ok (goes_on pending)
 abbrev pub answered_step : ℕ → SessionsState → ℕ → List ℕ → PendingQuery → SessionsState × Output
 answered_step now sessions worker message pending =
     let entry = learned_by pending message now in
-    resumed_step now (caching sessions entry) worker pending (fact_at now entry)
+    resumed_step now (with_learned sessions entry) worker pending (fact_at now entry)
 
 -- a message of a client comes to a worker at this second, under a policy
 abbrev pub take_query : ℕ → SessionsState → PlainPolicy → ℕ → Transport → Addr → List ℕ → Result (SessionsState × Output) CoreFault

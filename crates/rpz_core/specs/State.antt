@@ -104,6 +104,6 @@ TurnsOrPutsBack worker pending gives (Ok out) old new = gives ≡ (new, out)
 TurnsOrPutsBack worker pending gives (Err e) old new = uncached new ≡ uncached (with_worker old worker (Some pending) old.last_id)
 
 -- the world after a step, seen as the state of the core
-abbrev pub seen : Result (World × Output) CoreFault → Result (CoreState × Output) CoreFault
-seen (Ok next) = Ok (state_of next.0, next.1)
-seen (Err fault) = Err fault
+abbrev pub as_core_outcome : Result (World × Output) CoreFault → Result (CoreState × Output) CoreFault
+as_core_outcome (Ok next) = Ok (state_of next.0, next.1)
+as_core_outcome (Err fault) = Err fault

@@ -68,7 +68,7 @@ with_sessions world (Err fault) = Err fault
 abbrev pub clock_step : World → ℕ → World × Output
 clock_step world seconds = (record { origins = world.origins; accepted = world.accepted; marks = world.marks; sessions = world.sessions; clock = seconds }, output.None)
 
--- The world after an event, and what the event outputs; or why it can't be. A stream is a transfer that is taken, or names its
+-- The world after an event, and what it outputs; or why it is refused. A stream is a transfer that is taken, or names its
 -- fault and changes nothing but the zone's mark. A query is answered by the policy after the transfers accepted so far, which it
 -- keeps while it is pending; live entries of the cache answer before the upstream is asked, and what it answers is cached. Full
 -- marks its zone. Clock tells the second.

@@ -1,4 +1,4 @@
-//! What happens to the core, what it outputs, and why it refuses.
+//! The events of the core, their outputs, and why an event is refused.
 
 ghost use Rattle.std.specs.Prelude.{◌≡◌};
 ghost use Rattle.rpz_core.specs.declared.event.CoreError.TheVariants.{OutOfMemory, Fault as AFault};

@@ -1,7 +1,7 @@
 //! Laws of the world and its steps. Each function is its clauses, and does nothing.
 
 ghost use Rattle.std.specs.Prelude.{◌≡◌, ◌≢◌, ◌↔◌, ◌-◌, ℕ, List, length, Some, None, Ok, Err};
-ghost use Rattle.answer_cache.specs.Recent.{HaveSameEntries, found};
+ghost use Rattle.answer_cache.specs.Recent.{HaveSameEntries, live_entry};
 ghost use Rattle.dns_message.specs.declared.question.Question.{Question};
 ghost use Rattle.dns_message.specs.declared.request.Incoming.{Incoming};
 ghost use Rattle.policy_snapshot.specs.Policy.{PlainPolicy};
@@ -19,7 +19,7 @@ ghost use Rattle.rpz_core.specs.declared.event.Output.TheVariants as output;
 ghost use Rattle.ixfr_apply.specs.declared.refusal.Refusal.{Refusal};
 ghost use Rattle.rpz_core.specs.Faults.{IsQuiet, fault_of};
 ghost use Rattle.ixfr_apply.specs.Marks.{mark_at};
-ghost use Rattle.rpz_core.specs.State.{CoreState, core_step, seen, state_of};
+ghost use Rattle.rpz_core.specs.State.{CoreState, core_step, as_core_outcome, state_of};
 ghost use Rattle.rpz_core.specs.World.{World, world_step};
 
 /// An event is refused exactly where a zone or a worker of its number isn't there, a query comes to a worker whose query is
@@ -37,7 +37,7 @@ pub fn an_event_has_one_output()
 
 /// The core does in its state what the world does.
 pub fn the_core_does_what_the_world_does()
-    ensures { (world : World) (event : Event) → core_step (state_of world) event ≡ seen (world_step world event) }
+    ensures { (world : World) (event : Event) → core_step (state_of world) event ≡ as_core_outcome (world_step world event) }
 {}
 
 /// No event opens a zone, or changes the number of marks or of workers.
@@ -74,7 +74,7 @@ pub fn the_cache_answers_before_the_upstream()
         AreAnswered now policy incoming cached facts (resolve now policy incoming cached facts).facts }
     ensures asked { (now : ℕ) (policy : PlainPolicy) (incoming : Incoming) (cached : List PlainLearned) (facts : PlainFacts)
         (question : Question) → let r = resolve now policy incoming cached facts in
-        r.turn ≡ Ask question → found question now r.cached ≡ None }
+        r.turn ≡ Ask question → live_entry question now r.cached ≡ None }
     ensures entries { (now : ℕ) (policy : PlainPolicy) (incoming : Incoming) (cached : List PlainLearned) (facts : PlainFacts) →
         HaveSameEntries (resolve now policy incoming cached facts).cached cached }
 {}

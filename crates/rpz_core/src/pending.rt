@@ -40,7 +40,7 @@ pub(crate) enum NextMessage {
     Said(Said),
 }
 
-/// What a session asks at a second that no live entry of the cache answers, in a message of this ID, or what is said. An `Err`
+/// What a session asks at a second that no live entry of the cache answers, in a message of this ID, or the reply. An `Err`
 /// leaves what the session knew, and maybe more.
 pub(crate) fn next_message(
     alloc: Global,

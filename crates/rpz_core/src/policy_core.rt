@@ -4,7 +4,7 @@ ghost use Rattle.std.specs.Prelude.{◌≡◌, ◌≤◌, length, map, IfOk, is_
 ghost use Rattle.zone_rows.specs.declared.zone.TheConstants.{ZONE_LIMIT};
 ghost use Rattle.policy_snapshot.specs.Policy.{zone_at};
 ghost use Rattle.rpz_core.specs.Offered.{core_by_offered};
-ghost use Rattle.rpz_core.specs.State.{Steps, StepsBare, TurnsBare, core_step, uncached_core, full_step, new_core, seen, state_of, transfer_step};
+ghost use Rattle.rpz_core.specs.State.{Steps, StepsBare, TurnsBare, core_step, uncached_core, full_step, new_core, as_core_outcome, state_of, transfer_step};
 ghost use Rattle.rpz_core.specs.World.{World, world_step};
 
 use crate::event::{CoreError, CoreFault, Event, Output};
@@ -75,7 +75,7 @@ impl Core {
     pub fn step(&mut self, event: Event) -> Result<Output, CoreError>
         ensures core { Steps (core_step self.old event) result self.old self.new }
         ensures world { (world : World) → self.old ≡ state_of world →
-            Steps (seen (world_step world event)) result self.old self.new }
+            Steps (as_core_outcome (world_step world event)) result self.old self.new }
     {
         the_core_does_what_the_world_does();
         self.take_or_empty(event)

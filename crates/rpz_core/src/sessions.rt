@@ -2,7 +2,7 @@
 
 ghost use Rattle.std.specs.Prelude.{◌≡◌, map, true, Some, None, IfOk, is_some, slice_get, slice_index_or, slice_set};
 ghost use Rattle.rpz_core.specs.declared.event.Output.TheVariants as out;
-ghost use Rattle.rpz_core.specs.Sessions.{PendingQuery, answered_step, caching, learned_by, next_turn, no_sessions, resumed_step, said_output, take_answer, take_failure, take_query, uncached, with_worker};
+ghost use Rattle.rpz_core.specs.Sessions.{PendingQuery, answered_step, with_learned, learned_by, next_turn, no_sessions, resumed_step, said_output, take_answer, take_failure, take_query, uncached, with_worker};
 ghost use Rattle.rpz_core.specs.State.{StepsBare, TurnsBare, TurnsOrPutsBack};
 ghost use Rattle.upstream_link.specs.Vouched.{fact_at};
 
@@ -20,7 +20,7 @@ use std::alloc::{AllocError, Global};
 use std::hash::BuildHasherDefault;
 use std::marker::Model;
 use std::sync::Arc;
-use upstream_link::{Fact, Learned, Why};
+use upstream_link::{AnswerFault, Fact, Learned};
 
 /// How many workers a core has; the first is worker 0.
 pub const WORKERS: usize = 16;
@@ -216,7 +216,7 @@ impl Sessions {
         requires moment { learned.moment ≡ now }
         requires pending { (pending : PendingQuery) × (slice_get self.old.workers worker ≡ Some (Some pending)) }
         ensures { (pending : PendingQuery) → slice_get self.old.workers worker ≡ Some (Some pending) →
-            TurnsBare uncached (resumed_step now (caching self.old learned) worker pending (fact_at now learned)) result self.old self.new }
+            TurnsBare uncached (resumed_step now (with_learned self.old learned) worker pending (fact_at now learned)) result self.old self.new }
     {
         let fact = learned.fact(alloc, now)?;
         self.cache.keep(alloc, learned)?;
@@ -235,7 +235,12 @@ impl Sessions {
         match self.workers.get(worker as usize) {
             None => Err(CoreError::Fault(CoreFault::NoWorker)),
             Some(None) => Err(CoreError::Fault(CoreFault::NotPending)),
-            Some(Some(_)) => Ok(self.resume(alloc, now, worker, Fact::Broken(Why::Failed))?),
+            Some(Some(_)) => Ok(self.resume(
+                alloc,
+                now,
+                worker,
+                Fact::Broken(AnswerFault::Failed),
+            )?),
         }
     }
 

@@ -4,7 +4,7 @@ use Rattle.std.proofs.lemmas.Bool.Decides.{nat_tests}
 use Rattle.std.specs.Prelude.{IsOk, is_some, slice_get, slice_index_or, ⊤}
 use Rattle.script_codec.specs.declared.line.Line.{Line}
 use Rattle.script_codec.specs.declared.line.Line.TheVariants.{Zone, Transfer, Full, Query, Give, Fail, Clock}
-use Rattle.script_codec.specs.declared.why.Why.{Why}
+use Rattle.script_codec.specs.declared.line_fault.LineFault.{LineFault}
 use Rattle.script_codec.specs.Line.{unnumbered_line}
 use Rattle.script_codec.specs.State.{zone_count, is_pending}
 use Rattle.script_codec.specs.Within.{IsWithin, IsZone, MayOpen}
@@ -36,7 +36,7 @@ workers_in (opening origins) h = refl
 workers_in (running world) h = h
 
 abbrev Outcome : Type 0
-Outcome = Result (ScriptWorld × List ℕ) Why
+Outcome = Result (ScriptWorld × List ℕ) LineFault
 
 pairs_are : (given next : ScriptWorld × List ℕ) → (let o : Outcome = Ok given in o ≡ Ok next) → given ≡ next
 pairs_are given next e = cc
@@ -68,7 +68,7 @@ line_keeps w next (Give worker message) h = event_keeps w next (event.Give worke
 line_keeps w next (Fail worker) h = event_keeps w next (event.Fail worker) h
 line_keeps w next (Clock seconds) h = event_keeps w next (event.Clock seconds) h
 
-text_keeps : (w next : ScriptWorld) (read : Result (Option Line) Why) → HasWorkers w → KeepsWorkers next (text_outcome w read)
+text_keeps : (w next : ScriptWorld) (read : Result (Option Line) LineFault) → HasWorkers w → KeepsWorkers next (text_outcome w read)
 text_keeps w next (Err why) h out is = absurd cc
 text_keeps w next (Ok None) h out is = subst HasWorkers (done_is w next [] out is) h
 text_keeps w next (Ok (Some line)) h out is = line_keeps w next line h out is

@@ -5,7 +5,7 @@ use Rattle.edge_io.specs.Edge.{appended}
 use Rattle.edge_io.proofs.Edges.{prepended-nil, appended-nil}
 use Rattle.script_loop.specs.declared.replay.Stop.{Stop}
 use Rattle.script_loop.specs.declared.replay.Stop.TheVariants.{BadLine, ReadFault, WriteFault, OutOfMemory}
-use Rattle.script_codec.specs.declared.why.Why.{Why}
+use Rattle.script_codec.specs.declared.line_fault.LineFault.{LineFault}
 use Rattle.script_loop.specs.Abstraction.{run_along, verdict_along}
 use Rattle.script_loop.specs.Fold as fold
 use Rattle.script_loop.specs.Fold.{Run, run_of}
@@ -28,29 +28,29 @@ same_verdict script = ap (λ (p : Stage). fold.verdict too_many too_long stage_s
 same_run : (lines : List (List ℕ)) → run_of too_many too_long stage_step (1, new_stage) lines ≡ run_along stage_of (run_of too_many too_long step (1, start) lines)
 same_run lines = ap (λ (p : Stage). run_of too_many too_long stage_step (1, p) lines) (sym start_seen) ∙ run_of-along too_many too_long stage_of step stage_step step_seen (1, start) lines
 
-ok_along : (v : Result (ℕ × ScriptWorld) (ℕ × Why)) (P : ℕ × Stage → Type 0) → IsOkAnd (verdict_along stage_of v) P → IsOk v
+ok_along : (v : Result (ℕ × ScriptWorld) (ℕ × LineFault)) (P : ℕ × Stage → Type 0) → IsOkAnd (verdict_along stage_of v) P → IsOk v
 ok_along (Ok end) P h = refl
 ok_along (Err bad) P h = absurd h
 
-err_along : (v : Result (ℕ × ScriptWorld) (ℕ × Why)) (bad : ℕ × Why) (r : Result (ℕ × Stage) (ℕ × Why)) → r ≡ verdict_along stage_of v → r ≡ Err bad → v ≡ Err bad
+err_along : (v : Result (ℕ × ScriptWorld) (ℕ × LineFault)) (bad : ℕ × LineFault) (r : Result (ℕ × Stage) (ℕ × LineFault)) → r ≡ verdict_along stage_of v → r ≡ Err bad → v ≡ Err bad
 err_along (Ok end) bad r e f = absurd cc
 err_along (Err other) bad r e f = cc
 
 abbrev StageRun : Type 0
-StageRun = Run Stage Why
+StageRun = Run Stage LineFault
 
 abbrev ScriptRun : Type 0
-ScriptRun = Run ScriptWorld Why
+ScriptRun = Run ScriptWorld LineFault
 
-pair_is : (run : ScriptRun) (written : List ℕ) (v : Result (ℕ × ScriptWorld) (ℕ × Why)) → run.0 ≡ written → run.1 ≡ v → run ≡ (written, v)
-pair_is run written v e f = ap (λ (o : List ℕ). let r : ScriptRun = (o, run.1) in r) e ∙ ap (λ (u : Result (ℕ × ScriptWorld) (ℕ × Why)). let r : ScriptRun = (written, u) in r) f
+pair_is : (run : ScriptRun) (written : List ℕ) (v : Result (ℕ × ScriptWorld) (ℕ × LineFault)) → run.0 ≡ written → run.1 ≡ v → run ≡ (written, v)
+pair_is run written v e f = ap (λ (o : List ℕ). let r : ScriptRun = (o, run.1) in r) e ∙ ap (λ (u : Result (ℕ × ScriptWorld) (ℕ × LineFault)). let r : ScriptRun = (written, u) in r) f
 
-no_state : (bad : ℕ × Why) (end : ℕ × Stage) (v : Result (ℕ × ScriptWorld) (ℕ × Why)) → v ≡ Err bad → verdict_along stage_of v ≡ Ok end → ⊥
+no_state : (bad : ℕ × LineFault) (end : ℕ × Stage) (v : Result (ℕ × ScriptWorld) (ℕ × LineFault)) → v ≡ Err bad → verdict_along stage_of v ≡ Ok end → ⊥
 no_state bad end (Ok e) s is = cc
 no_state bad end (Err b) s is = cc
 
 -- a run whose end is a state
-ended_by : (run : ScriptRun) (v : Result (ℕ × ScriptWorld) (ℕ × Why)) (written : List ℕ) (end : ℕ × Stage) (core : StageRun) → run.1 ≡ v → core ≡ run_along stage_of run → core ≡ (written, Ok end) → (e : ℕ × ScriptWorld) × (run ≡ (written, Ok e))
+ended_by : (run : ScriptRun) (v : Result (ℕ × ScriptWorld) (ℕ × LineFault)) (written : List ℕ) (end : ℕ × Stage) (core : StageRun) → run.1 ≡ v → core ≡ run_along stage_of run → core ≡ (written, Ok end) → (e : ℕ × ScriptWorld) × (run ≡ (written, Ok e))
 ended_by run (Ok e) written end core s same is = (e, pair_is run written (Ok e) (ap (λ (r : StageRun). r.0) (sym same ∙ is)) s)
 ended_by run (Err bad) written end core s same is = absurd (no_state bad end run.1 s (ap (λ (r : StageRun). r.1) (sym same ∙ is)))
 
@@ -68,10 +68,10 @@ pub prefix_along : (left_before left_after held_before held_after : Option (List
 prefix_along left_before left_after held_before held_after = moved_along (replay.BeginsTranscript too_many too_long stage_step new_stage) BeginsTranscript left_before left_after held_before held_after begins_along
 
 -- how it ends
-pub ends_along : (result : Result (Unit {0}) (Stop Why)) (new : Stage) (left_before left_after held_before held_after : Option (List ℕ)) → replay.Ends too_many too_long stage_step result new_stage new left_before left_after held_before held_after → Ends result left_before left_after held_before held_after
+pub ends_along : (result : Result (Unit {0}) (Stop LineFault)) (new : Stage) (left_before left_after held_before held_after : Option (List ℕ)) → replay.Ends too_many too_long stage_step result new_stage new left_before left_after held_before held_after → Ends result left_before left_after held_before held_after
 ends_along (Ok u) new None left_after held_before held_after h = tt
 ends_along (Ok u) new (Some script) left_after held_before held_after h =
-    let ok = subst (λ (v : Result (ℕ × Stage) (ℕ × Why)). IsOkAnd v (λ end. end.1 ≡ new)) (same_verdict script) h.1 in
+    let ok = subst (λ (v : Result (ℕ × Stage) (ℕ × LineFault)). IsOkAnd v (λ end. end.1 ≡ new)) (same_verdict script) h.1 in
     (h.0, ok_along (verdict script) (λ end. end.1 ≡ new) ok, h.2 ∙ ap (appended held_before) (same_transcript script))
 ends_along (Err (BadLine line why)) new None left_after held_before held_after h = tt
 ends_along (Err (BadLine line why)) new (Some script) left_after held_before held_after h =

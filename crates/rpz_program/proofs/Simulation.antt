@@ -3,7 +3,7 @@ use Rattle.std.proofs.Common.{◌≡◌, ℕ, List, Option, Some, None, Result, 
 use Rattle.std.specs.Prelude.{is_some}
 use Rattle.script_codec.specs.declared.line.Line.{Line}
 use Rattle.script_codec.specs.declared.line.Line.TheVariants.{Zone, Transfer, Full, Query, Give, Fail, Clock}
-use Rattle.script_codec.specs.declared.why.Why.{Why}
+use Rattle.script_codec.specs.declared.line_fault.LineFault.{LineFault}
 use Rattle.script_codec.specs.Line.{unnumbered_line}
 use Rattle.script_codec.specs.State.{PlainState}
 use Rattle.script_codec.specs.State as state
@@ -16,7 +16,7 @@ use Rattle.rpz_core.specs.declared.event.Event.TheVariants as event
 use Rattle.rpz_core.specs.declared.event.Output.{Output}
 use Rattle.rpz_core.specs.Sessions.{no_sessions}
 use Rattle.ixfr_apply.specs.Marks.{no_marks}
-use Rattle.rpz_core.specs.State.{CoreState, core_step, state_of, seen}
+use Rattle.rpz_core.specs.State.{CoreState, core_step, state_of, as_core_outcome}
 use Rattle.rpz_core.specs.World.{World, world_step}
 use Rattle.rpz_core.proofs.Seen as core
 use Rattle.rpz_program.specs.declared.stage.Stage.TheVariants.{Running}
@@ -42,7 +42,7 @@ unfolding new_state
 core_seen (opening origins) = sym (ap (new_state origins) (policy_after-none origins))
 core_seen (running world) = refl
 
-output_seen : (r : Result (World × Output) CoreFault) → outcome_along Running (shown_outcome (seen r)) ≡ outcome_along stage_of (outcome_along running (shown_outcome r))
+output_seen : (r : Result (World × Output) CoreFault) → outcome_along Running (shown_outcome (as_core_outcome r)) ≡ outcome_along stage_of (outcome_along running (shown_outcome r))
 output_seen (Ok next) = refl
 output_seen (Err fault) = refl
 
@@ -66,7 +66,7 @@ line_seen w (Give worker message) = event_seen w (event.Give worker message)
 line_seen w (Fail worker) = event_seen w (event.Fail worker)
 line_seen w (Clock seconds) = event_seen w (event.Clock seconds)
 
-text_seen : (w : ScriptWorld) (read : Result (Option Line) Why) → stage_text (stage_of w) read ≡ outcome_along stage_of (text_outcome w read)
+text_seen : (w : ScriptWorld) (read : Result (Option Line) LineFault) → stage_text (stage_of w) read ≡ outcome_along stage_of (text_outcome w read)
 text_seen w (Err why) = refl
 text_seen w (Ok None) = refl
 text_seen w (Ok (Some line)) = line_seen w line

@@ -1,7 +1,7 @@
 -- How runs end, by their statuses.
 use Rattle.std.proofs.Common.{◌≡◌, ◌≢◌, ℕ, List, Option, Some, None, Result, Ok, Err, refl, sym, subst}
 use Rattle.std.specs.Prelude.{IfErr, IfSome, IsOk}
-use Rattle.script_codec.specs.declared.why.Why.{Why}
+use Rattle.script_codec.specs.declared.line_fault.LineFault.{LineFault}
 use Rattle.script_loop.specs.Replay.{Blames}
 use Rattle.script_loop.specs.declared.replay.Stop.{Stop}
 use Rattle.script_loop.specs.declared.replay.Stop.TheVariants as stop
@@ -18,24 +18,24 @@ use Rattle.rpz_program.specs.declared.status.Status.TheVariants as status
 use Rattle.rpz_program.specs.declared.zone_source.ZoneSource.{ZoneSource}
 
 -- a bad line comes of the script's stop
-pub bad_line_of : (ended : Result (Unit {0}) (Stop Why)) (line : ℕ) (why : Why) → status_of_replay ended ≡ status.BadLine line why → ended ≡ Err (stop.BadLine line why)
+pub bad_line_of : (ended : Result (Unit {0}) (Stop LineFault)) (line : ℕ) (why : LineFault) → status_of_replay ended ≡ status.BadLine line why → ended ≡ Err (stop.BadLine line why)
 bad_line_of (Ok done) line why e = cc
 bad_line_of (Err (stop.BadLine other cause)) line why e = cc
 bad_line_of (Err stop.ReadFault) line why e = cc
 bad_line_of (Err stop.WriteFault) line why e = cc
 bad_line_of (Err stop.OutOfMemory) line why e = cc
 
-done_is : (world : Result (ℕ × ScriptWorld) (ℕ × Why)) → IsOk world → IsVerdict world status.Done
+done_is : (world : Result (ℕ × ScriptWorld) (ℕ × LineFault)) → IsOk world → IsVerdict world status.Done
 done_is (Ok end) ok = refl
 done_is (Err bad) ok = cc
 
 -- without a fault and with memory, the status is the verdict
-pub verdict_is : (ended : Result (Unit {0}) (Stop Why)) (left_before left_after held_before held_after : Option (List ℕ)) (source sink : Type 0) → Ends ended left_before left_after held_before held_after → IfErr ended (λ why. Blames why source sink) → (source → ⊥) → (sink → ⊥) → status_of_replay ended ≢ status.OutOfMemory
+pub verdict_is : (ended : Result (Unit {0}) (Stop LineFault)) (left_before left_after held_before held_after : Option (List ℕ)) (source sink : Type 0) → Ends ended left_before left_after held_before held_after → IfErr ended (λ why. Blames why source sink) → (source → ⊥) → (sink → ⊥) → status_of_replay ended ≢ status.OutOfMemory
     → IfSome left_before (λ bytes. IsVerdict (verdict bytes) (status_of_replay ended))
 verdict_is ended None left_after held_before held_after source sink ends blames no_source no_sink memory = tt
 verdict_is (Ok done) (Some script) left_after held_before held_after source sink ends blames no_source no_sink memory = done_is (verdict script) ends.1
 verdict_is (Err (stop.BadLine line why)) (Some script) left_after held_before held_after source sink ends blames no_source no_sink memory =
-    let P : Result (ℕ × ScriptWorld) (ℕ × Why) → Type 0 = λ world. IsVerdict world (status.BadLine line why) in
+    let P : Result (ℕ × ScriptWorld) (ℕ × LineFault) → Type 0 = λ world. IsVerdict world (status.BadLine line why) in
     subst P (sym ends.0) refl
 verdict_is (Err stop.ReadFault) (Some script) left_after held_before held_after source sink ends blames no_source no_sink memory = absurd (no_source blames)
 verdict_is (Err stop.WriteFault) (Some script) left_after held_before held_after source sink ends blames no_source no_sink memory = absurd (no_sink blames)

@@ -30,8 +30,8 @@ abbrev pub connection_views : {S K : Type 0} → (S → Option (List ℕ)) → (
 connection_views left source_steady held sink_steady = record { left = left; source_steady = source_steady; held = held; sink_steady = sink_steady }
 
 -- what contracts see between two polls: what is published; of the wires, the connections that `fetch` is still to give and the
--- endpoints that it was given, where they are told, and how often it has failed; the IDs that are still to come and the bytes that
--- were written, where they are told
+-- endpoints that it was given, where known, and how often it has failed; the IDs that are still to come and the bytes that
+-- were written, where they are known
 pub record FeedState (S K : Type 0) : Type 0 where
   pub published : Published
   pub fetches : Option (List (Option (S × K)))
@@ -49,7 +49,7 @@ pub record ZonePoll : Type 0 where
   pub outcome : Result Polled ZoneFault
 
 -- A zone is polled over a connection, in a message of the ID that comes next. A fault of reading or of writing comes only where the
--- connection isn't told to have none.
+-- connection isn't known to be steady.
 pub record PollsOver {S K : Type 0} (views : ConnectionViews S K) (poll : ZonePoll) (stream : S × K) (old new : Published) (ids ids_then : Option (List ℕ)) : Type 0 where
   pub id : ℕ
   pub next : ComesNext ids id ids_then

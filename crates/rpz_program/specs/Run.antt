@@ -6,7 +6,7 @@ use Rattle.script_loop.specs.declared.replay.Stop.{Stop}
 use Rattle.script_loop.specs.declared.replay.Stop.TheVariants as stop
 use Rattle.rpz_program.specs.declared.status.Status.{Status}
 use Rattle.rpz_program.specs.declared.status.Status.TheVariants.{Done, BadLine}
-use Rattle.script_codec.specs.declared.why.Why.{Why}
+use Rattle.script_codec.specs.declared.line_fault.LineFault.{LineFault}
 use Rattle.script_loop.specs.Fold.{run_of}
 use Rattle.script_loop.specs.Lines.{whole_lines}
 use Rattle.script_loop.specs.Replay.{IsPrefix, Moves}
@@ -28,7 +28,7 @@ command_in words = command_of (subcommand_of rpz_app (argv words))
 abbrev pub AreTaken : List (String Global) → Type 0
 AreTaken words = takes rpz_app (argv words) ≡ true
 
--- a server's run that ended early has this status by why it ended
+-- a server's run that ended early: its status says why
 pub record StopsBy {S K : Type 0} (status : Status) (views : ConnectionViews S K) (before : FeedState S K) (turns : ℕ) (zones : List ZoneSource) (held : Option (List ℕ)) : Type 0 where
   pub why : ServeError
   pub status_is : status ≡ status_of_error why
@@ -39,7 +39,7 @@ abbrev pub IsWholeScript : List ℕ → Option (List ℕ) → Option (List ℕ) 
 IsWholeScript script left held_before held_after = (left ≡ Some []) × IsOk (verdict script) × (held_after ≡ appended held_before (transcript script))
 
 -- The line is the first that is refused, and what the lines before it output was written.
-abbrev pub IsFirstBadLine : List ℕ → ℕ → Why → Option (List ℕ) → Option (List ℕ) → Type 0
+abbrev pub IsFirstBadLine : List ℕ → ℕ → LineFault → Option (List ℕ) → Option (List ℕ) → Type 0
 IsFirstBadLine script line why held_before held_after = (verdict script ≡ Err (line, why)) × (held_after ≡ appended held_before (transcript script))
 
 -- each line whose line feed was read is of the form, and what these lines output was written
@@ -51,12 +51,12 @@ abbrev pub BeginsTranscript : List ℕ → List ℕ → Type 0
 BeginsTranscript read written = IsPrefix written (transcript read)
 
 -- the status says what the verdict on the script says
-abbrev pub IsVerdict : Result (ℕ × ScriptWorld) (ℕ × Why) → Status → Type 0
+abbrev pub IsVerdict : Result (ℕ × ScriptWorld) (ℕ × LineFault) → Status → Type 0
 IsVerdict (Ok end) status = status ≡ Done
 IsVerdict (Err bad) status = status ≡ BadLine bad.0 bad.1
 
 -- how a replay ends
-abbrev pub Ends : Result (Unit {0}) (Stop Why) → Option (List ℕ) → Option (List ℕ) → Option (List ℕ) → Option (List ℕ) → Type 0
+abbrev pub Ends : Result (Unit {0}) (Stop LineFault) → Option (List ℕ) → Option (List ℕ) → Option (List ℕ) → Option (List ℕ) → Type 0
 Ends (Ok u) left_before left_after held_before held_after = IfSome left_before (λ script. IsWholeScript script left_after held_before held_after)
 Ends (Err (stop.BadLine line why)) left_before left_after held_before held_after = IfSome left_before (λ script. IsFirstBadLine script line why held_before held_after)
 Ends (Err stop.ReadFault) left_before left_after held_before held_after = Moves left_before left_after held_before held_after AnswersWholeLines

@@ -4,8 +4,8 @@ use Rattle.script_codec.specs.declared.line.Line.{Line}
 use Rattle.script_codec.specs.declared.line.Line.TheVariants.{Zone, Transfer, Full, Query, Give, Fail, Clock}
 use Rattle.script_codec.specs.declared.shown.Shown.{Shown}
 use Rattle.script_codec.specs.declared.shown.Shown.TheVariants as shown
-use Rattle.script_codec.specs.declared.why.Why.{Why}
-use Rattle.script_codec.specs.declared.why.Why.TheVariants as why
+use Rattle.script_codec.specs.declared.line_fault.LineFault.{LineFault}
+use Rattle.script_codec.specs.declared.line_fault.LineFault.TheVariants as why
 use Rattle.script_codec.specs.declared.zone_fault.ZoneFault.{ZoneFault}
 use Rattle.script_codec.specs.declared.zone_fault.ZoneFault.TheVariants as zone_fault
 use Rattle.script_codec.specs.Line.{unnumbered_line}
@@ -53,7 +53,7 @@ event_of (Fail worker) = Some (event.Fail worker)
 event_of (Clock seconds) = Some (event.Clock seconds)
 
 -- a core that refuses an event refuses its line
-abbrev pub why_of : CoreFault → Why
+abbrev pub why_of : CoreFault → LineFault
 why_of fault.NoZone = why.NoZone
 why_of fault.NoWorker = why.NoWorker
 why_of fault.Pending = why.Busy
@@ -78,21 +78,21 @@ shown_octets None = []
 shown_octets (Some s) = shown_line s
 
 -- a step of the core as a line of the transcript, or why its line is refused
-abbrev pub shown_outcome : {S : Type 0} → Result (S × Output) CoreFault → Result (S × List ℕ) Why
+abbrev pub shown_outcome : {S : Type 0} → Result (S × Output) CoreFault → Result (S × List ℕ) LineFault
 shown_outcome (Ok next) = Ok (next.0, shown_octets (shown_of next.1))
 shown_outcome (Err fault) = Err (why_of fault)
 
 -- a zone is opened, before any other line
-abbrev pub zone_outcome : ScriptWorld → List (List ℕ) → Result (ScriptWorld × List ℕ) Why
+abbrev pub zone_outcome : ScriptWorld → List (List ℕ) → Result (ScriptWorld × List ℕ) LineFault
 zone_outcome (opening origins) origin = Ok (opening (origins ++ origin ∷ []), [])
 zone_outcome (running world) origin = Err why.Late
 
 -- any other line is an event of the core
-abbrev pub event_outcome : ScriptWorld → Event → Result (ScriptWorld × List ℕ) Why
+abbrev pub event_outcome : ScriptWorld → Event → Result (ScriptWorld × List ℕ) LineFault
 event_outcome world event = outcome_along running (shown_outcome (world_step (world_in world) event))
 
 -- the world after a line, and what the line writes; or why it is refused
-unfoldable pub line_outcome : ScriptWorld → Line → Result (ScriptWorld × List ℕ) Why
+unfoldable pub line_outcome : ScriptWorld → Line → Result (ScriptWorld × List ℕ) LineFault
 line_outcome world (Zone origin) = zone_outcome world origin
 line_outcome world (Transfer zone stream) = event_outcome world (event.Transfer zone stream)
 line_outcome world (Full zone) = event_outcome world (event.Full zone)
@@ -102,19 +102,19 @@ line_outcome world (Fail worker) = event_outcome world (event.Fail worker)
 line_outcome world (Clock seconds) = event_outcome world (event.Clock seconds)
 
 -- the same of the bytes of a line: nothing where it is skipped
-abbrev pub text_outcome : ScriptWorld → Result (Option Line) Why → Result (ScriptWorld × List ℕ) Why
+abbrev pub text_outcome : ScriptWorld → Result (Option Line) LineFault → Result (ScriptWorld × List ℕ) LineFault
 text_outcome world (Err why) = Err why
 text_outcome world (Ok None) = Ok (world, [])
 text_outcome world (Ok (Some line)) = line_outcome world line
 
-abbrev pub step : ScriptWorld → List ℕ → Result (ScriptWorld × List ℕ) Why
+abbrev pub step : ScriptWorld → List ℕ → Result (ScriptWorld × List ℕ) LineFault
 step world text = text_outcome world (unnumbered_line text (state_in world))
 
 -- why a line is refused whatever it says
-abbrev pub too_many : Why
+abbrev pub too_many : LineFault
 too_many = why.Lines
 
-abbrev pub too_long : Why
+abbrev pub too_long : LineFault
 too_long = why.TooLong
 
 -- The transcript of a script: what its lines write from the start on, up to the first that is refused.
@@ -122,7 +122,7 @@ abbrev pub transcript : List ℕ → List ℕ
 transcript script = fold.transcript too_many too_long step start script
 
 -- the world after a script, or the number of the first line that is refused, and why
-abbrev pub verdict : List ℕ → Result (ℕ × ScriptWorld) (ℕ × Why)
+abbrev pub verdict : List ℕ → Result (ℕ × ScriptWorld) (ℕ × LineFault)
 verdict script = fold.verdict too_many too_long step start script
 
 -- The worlds that scripts reach.

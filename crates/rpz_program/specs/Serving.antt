@@ -44,7 +44,7 @@ EndsPolls views error.WriteFault before after = BeginsPoll views before after
 EndsPolls views error.OutOfMemory before after = (after.held ≡ before.held) ⊎ BeginsPoll views before after
 EndsPolls views why before after = after.held ≡ before.held
 
--- a poll ends a run by these alone
+-- why a poll may end a run: a failed write of its line, or out of memory
 abbrev pub IsOfPolls : ServeError → Type 0
 IsOfPolls error.WriteFault = ⊤
 IsOfPolls error.OutOfMemory = ⊤

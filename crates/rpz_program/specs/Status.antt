@@ -1,7 +1,7 @@
 -- What a run ends with, as the number of the process and as text on standard error.
 use Rattle.std.specs.Prelude.{ℕ, List, ◌++◌, Option, Some, None, Result, Ok, Err, codes, decimal}
-use Rattle.script_codec.specs.Why.{why_text}
-use Rattle.script_codec.specs.declared.why.Why.{Why}
+use Rattle.script_codec.specs.LineFault.{why_text}
+use Rattle.script_codec.specs.declared.line_fault.LineFault.{LineFault}
 use Rattle.script_loop.specs.declared.replay.Stop.{Stop}
 use Rattle.script_loop.specs.declared.replay.Stop.TheVariants as stop
 use Rattle.rpz_program.specs.declared.serve_error.ServeError.{ServeError}
@@ -31,14 +31,14 @@ text_of StartFault = Some (codes "rpz: start fault")
 text_of OutOfMemory = Some (codes "rpz: out of memory")
 
 -- how a script ends a run before the script's end
-abbrev pub status_of_stop : Stop Why → Status
+abbrev pub status_of_stop : Stop LineFault → Status
 status_of_stop (stop.BadLine line why) = BadLine line why
 status_of_stop stop.ReadFault = ReadFault
 status_of_stop stop.WriteFault = WriteFault
 status_of_stop stop.OutOfMemory = OutOfMemory
 
 -- how a script ends a run
-abbrev pub status_of_replay : Result (Unit {0}) (Stop Why) → Status
+abbrev pub status_of_replay : Result (Unit {0}) (Stop LineFault) → Status
 status_of_replay (Ok u) = Done
 status_of_replay (Err why) = status_of_stop why
 

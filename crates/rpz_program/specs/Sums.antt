@@ -24,7 +24,7 @@ abbrev pub sums_of : List Report → Sums
 sums_of [] = no_sums
 sums_of (report ∷ reports) = with_report (sums_of reports) report
 
--- these were gathered behind those before, where they are told; the last stands first
+-- these were gathered behind those before, where they are known; the last stands first
 abbrev pub gathered_with : Option (List Report) → List Report → Option (List Report)
 gathered_with gathered [] = gathered
 gathered_with gathered (report ∷ reports) = one_more (gathered_with gathered reports) report

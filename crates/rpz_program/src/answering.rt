@@ -7,7 +7,7 @@ ghost use Rattle.rpz_program.specs.Script.{shown_outcome, why_of as why};
 
 use crate::showing::shown;
 use rpz_core::{Core, CoreError, CoreFault, Event};
-use script_codec::{Why, write_shown};
+use script_codec::{LineFault, write_shown};
 use script_loop::AnswerError;
 use std::alloc::Global;
 
@@ -19,7 +19,7 @@ pub(crate) fn answer_event(
     core: &mut Core,
     event: Event,
     reply: &mut Vec<u8>,
-) -> Result<(), AnswerError<Why>>
+) -> Result<(), AnswerError<LineFault>>
     requires { reply.old.items ≡ [] }
     ensures { Steps (shown_outcome (core_step core.old event)) result core.new reply.new.items }
 {
@@ -36,13 +36,13 @@ pub(crate) fn answer_event(
 }
 
 // Why the line of an event is refused that the core refuses.
-fn why_of(fault: CoreFault) -> Why
+fn why_of(fault: CoreFault) -> LineFault
     ensures { result ≡ why fault }
 {
     match fault {
-        CoreFault::NoZone => Why::NoZone,
-        CoreFault::NoWorker => Why::NoWorker,
-        CoreFault::Pending => Why::Busy,
-        CoreFault::NotPending => Why::Idle,
+        CoreFault::NoZone => LineFault::NoZone,
+        CoreFault::NoWorker => LineFault::NoWorker,
+        CoreFault::Pending => LineFault::Busy,
+        CoreFault::NotPending => LineFault::Idle,
     }
 }

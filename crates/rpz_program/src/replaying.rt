@@ -9,7 +9,7 @@ ghost use Rattle.rpz_program.specs.Script.{transcript, verdict};
 use crate::stage::Stage;
 use crate::status::Status;
 use edge_io::{Bytes, ListSink, Sink, Source};
-use script_codec::Why;
+use script_codec::LineFault;
 use script_loop::replay::{Stop, replay};
 use std::alloc::Global;
 
@@ -19,9 +19,9 @@ pub(crate) fn replay_script<S: Source, K: Sink>(
     alloc: Global,
     script: &mut S,
     out: &mut K,
-) -> Result<(), Stop<Why>>
+) -> Result<(), Stop<LineFault>>
     ensures ends { Ends result (S.left script.old) (S.left script.new) (K.held out.old) (K.held out.new) }
-    ensures no_further { (line : ℕ) (why : Why) → result ≡ Err (Stop.BadLine line why) →
+    ensures no_further { (line : ℕ) (why : LineFault) → result ≡ Err (Stop.BadLine line why) →
         ReadsNoFurther line (S.left script.old) (S.left script.new) }
     ensures prefix { Moves (S.left script.old) (S.left script.new) (K.held out.old) (K.held out.new) BeginsTranscript }
     ensures fault { IfErr result

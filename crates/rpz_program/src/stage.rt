@@ -10,23 +10,23 @@ use crate::answering::answer_event;
 use crate::origins::Origins;
 use dns_name::Name;
 use rpz_core::{Core, Event};
-use script_codec::{Line, ReadError, ScriptState, Why, read_unnumbered};
+use script_codec::{Line, LineFault, ScriptState, UnnumberedError, read_unnumbered};
 use script_loop::{AnswerError, Machine};
 use std::alloc::Global;
 
 /// How far a script is.
 #[derive(Drop)]
 pub(crate) enum Stage {
-    /// Its zones are opened: only zone lines stood.
+    /// Its zones are opened: all lines so far were zone lines.
     Opening(Origins),
     /// The core runs, with the zones that were opened.
     Running(Core),
 }
 
 impl Machine for Stage {
-    type Why = Why;
+    type Cause = LineFault;
 
-    ghost use Rattle.script_codec.specs.declared.why.Why.TheVariants.{Lines, TooLong};
+    ghost use Rattle.script_codec.specs.declared.line_fault.LineFault.TheVariants.{Lines, TooLong};
     ghost use Rattle.rpz_program.specs.Stage.{stage_step};
 
     ghost step = { stage_step };
@@ -35,12 +35,12 @@ impl Machine for Stage {
 
     ghost too_long = { TooLong };
 
-    fn too_many() -> Why {
-        Why::Lines
+    fn too_many() -> LineFault {
+        LineFault::Lines
     }
 
-    fn too_long() -> Why {
-        Why::TooLong
+    fn too_long() -> LineFault {
+        LineFault::TooLong
     }
 
     fn answer(
@@ -48,12 +48,12 @@ impl Machine for Stage {
         alloc: Global,
         line: &[u8],
         reply: &mut Vec<u8>,
-    ) -> Result<(), AnswerError<Why>> {
+    ) -> Result<(), AnswerError<LineFault>> {
         match read_unnumbered(alloc, line, &self.state()) {
             Ok(None) => Ok(()),
             Ok(Some(line)) => self.take_line(alloc, line, reply),
-            Err(ReadError::Refused(why)) => Err(AnswerError::Refused(why)),
-            Err(ReadError::OutOfMemory) => Err(AnswerError::OutOfMemory),
+            Err(UnnumberedError::Refused(why)) => Err(AnswerError::Refused(why)),
+            Err(UnnumberedError::OutOfMemory) => Err(AnswerError::OutOfMemory),
         }
     }
 }
@@ -88,7 +88,7 @@ impl Stage {
         alloc: Global,
         line: Line,
         reply: &mut Vec<u8>,
-    ) -> Result<(), AnswerError<Why>>
+    ) -> Result<(), AnswerError<LineFault>>
         requires reply { reply.old.items ≡ [] }
         requires within { IsWithin (state_in self.old) line }
         ensures { Steps (stage_line self.old line) result self.new reply.new.items }
@@ -122,7 +122,7 @@ impl Stage {
     }
 
     // Opens a zone, which writes nothing.
-    fn open(&mut self, origin: Name) -> Result<(), AnswerError<Why>>
+    fn open(&mut self, origin: Name) -> Result<(), AnswerError<LineFault>>
         requires { MayOpen (state_in self.old) origin }
         ensures { Steps (stage_zone self.old origin) result self.new [] }
     {
@@ -131,7 +131,7 @@ impl Stage {
                 origins.push(origin)?;
                 Ok(())
             }
-            Stage::Running(_) => Err(AnswerError::Refused(Why::Late)),
+            Stage::Running(_) => Err(AnswerError::Refused(LineFault::Late)),
         }
     }
 
@@ -141,7 +141,7 @@ impl Stage {
         alloc: Global,
         event: Event,
         reply: &mut Vec<u8>,
-    ) -> Result<(), AnswerError<Why>>
+    ) -> Result<(), AnswerError<LineFault>>
         requires { reply.old.items ≡ [] }
         ensures { Steps (stage_event self.old event) result self.new reply.new.items }
     {

@@ -4,7 +4,7 @@ ghost use Rattle.std.specs.Prelude.{◌≡◌, IfOk, option_map, string_bytes};
 ghost use Rattle.rpz_program.specs.Status.{code_of, status_of_replay, status_of_server, status_of_stop, text_of};
 
 use crate::serve_error::ServeError;
-use script_codec::Why;
+use script_codec::LineFault;
 use script_loop::replay::Stop;
 use std::alloc::{AllocError, Global};
 
@@ -16,7 +16,7 @@ pub enum Status {
     /// The words of the command line are none that the program takes.
     Usage,
     /// The first line that is refused, by its number, and why. Line 1 is the first.
-    BadLine { line: u64, why: Why },
+    BadLine { line: u64, why: LineFault },
     /// A read of the script has failed.
     ReadFault,
     /// A write of the output has failed.
@@ -31,7 +31,7 @@ pub enum Status {
 
 impl Status {
     /// How a script ends a run that stops before the script's end.
-    pub(crate) fn of_stop(stop: Stop<Why>) -> Status
+    pub(crate) fn of_stop(stop: Stop<LineFault>) -> Status
         ensures { result ≡ status_of_stop stop }
     {
         match stop {
@@ -43,7 +43,7 @@ impl Status {
     }
 
     /// How a script ends a run.
-    pub(crate) fn of_replay(ended: Result<(), Stop<Why>>) -> Status
+    pub(crate) fn of_replay(ended: Result<(), Stop<LineFault>>) -> Status
         ensures { result ≡ status_of_replay ended }
     {
         match ended {

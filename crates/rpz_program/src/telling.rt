@@ -1,4 +1,4 @@
-//! What workers are handed.
+//! How items are handed to workers.
 
 use crate::poll_lines::PollOutcome;
 use crossbeam_channel::Sender;

@@ -15,7 +15,7 @@ pub(crate) const TURN_LIMIT: u32 = u32::MAX;
 pub struct Settings {
     /// Where queries arrive.
     pub listen: Endpoint,
-    /// The server that is asked for what the policy leaves open.
+    /// The upstream, which is asked for what the policy doesn't decide.
     pub upstream: Endpoint,
     /// How many arrivals are taken: 1 to 4,294,967,295.
     pub turns: u32,

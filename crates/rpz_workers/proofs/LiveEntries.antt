@@ -13,7 +13,7 @@ use Rattle.upstream_link.specs.declared.facts.TheConstants.{FACT_LIMIT}
 use Rattle.upstream_link.specs.Facts.{PlainFacts}
 use Rattle.upstream_link.specs.Vouched.{PlainLearned, life, live}
 use Rattle.answer_cache.specs.Key.{key_of}
-use Rattle.answer_cache.specs.Recent.{Serves, found, if_live, is_about, kept, put_first, touched, without}
+use Rattle.answer_cache.specs.Recent.{Serves, live_entry, if_live, is_about, after_keep, put_first, after_look_up, without}
 use Rattle.policy_snapshot.specs.Policy.{PlainPolicy}
 use Rattle.query_session.specs.Session.{AsksAnew, question_in, turn_by}
 use Rattle.query_session.proofs.FreshQuestions.{asks_anew}
@@ -88,7 +88,7 @@ module _ (p q : Question) (differ : bytes_eq (key_of p) (key_of q) ≡ false) wh
   touched_by m xs y None is e = found_within (is_about q) m (suc m) xs y (omega arith) e
   touched_by m xs y (Some x) is e = behind_one (is_about q) x (take m (without p xs)) (Some y) (apart x (passes (is_about p) xs x is)) (stays_without m xs y e)
 
-  stays_touched : (m : ℕ) (xs : List PlainLearned) (y : PlainLearned) → find (is_about q) (take m xs) ≡ Some y → find (is_about q) (take (suc m) (touched p xs)) ≡ Some y
+  stays_touched : (m : ℕ) (xs : List PlainLearned) (y : PlainLearned) → find (is_about q) (take m xs) ≡ Some y → find (is_about q) (take (suc m) (after_look_up p xs)) ≡ Some y
   stays_touched m xs y e = touched_by m xs y (find (is_about p) xs) refl e
 
   without_by : (m : ℕ) (xs : List PlainLearned) (y : PlainLearned) (o : Option PlainLearned) → find (is_about p) xs ≡ o → find (is_about q) (take m xs) ≡ Some y
@@ -104,15 +104,15 @@ module _ (p q : Question) (differ : bytes_eq (key_of p) (key_of q) ≡ false) wh
       ∙ behind_one (is_about q) entry (take m (without p xs)) (Some y) (apart entry about) e
 
   stays_kept : (limit m : ℕ) (entry : PlainLearned) (xs : List PlainLearned) (y : PlainLearned) → suc m ≤ limit → entry.question ≡ p → find (is_about q) (take m xs) ≡ Some y
-      → find (is_about q) (take (suc m) (kept limit entry (touched p xs))) ≡ Some y
+      → find (is_about q) (take (suc m) (after_keep limit entry (after_look_up p xs))) ≡ Some y
   stays_kept limit m entry xs y room is e =
       let about : is_about p entry ≡ true = (bytes_eq-Decides (key_of p) (key_of entry.question)).1 (ap key_of (sym is)) in
-      cond_both (life entry == 0) (touched p xs) (put_first limit entry (touched p xs)) (λ l. find (is_about q) (take (suc m) l) ≡ Some y)
+      cond_both (life entry == 0) (after_look_up p xs) (put_first limit entry (after_look_up p xs)) (λ l. find (is_about q) (take (suc m) l) ≡ Some y)
       (λ _. stays_touched m xs y e)
-      (λ _. ap (λ (r : Question). find (is_about q) (take (suc m) (take limit (entry ∷ without r (touched p xs))))) is
-      ∙ stays_put limit m entry (touched p xs) y room about (without_by m xs y (find (is_about p) xs) refl e))
+      (λ _. ap (λ (r : Question). find (is_about q) (take (suc m) (take limit (entry ∷ without r (after_look_up p xs))))) is
+      ∙ stays_put limit m entry (after_look_up p xs) y room about (without_by m xs y (find (is_about p) xs) refl e))
 
-  stays_may_keep : (limit m : ℕ) (entry : PlainLearned) (xs after : List PlainLearned) (y : PlainLearned) → suc m ≤ limit → entry.question ≡ p → MayKeep limit entry (touched p xs) after → find (is_about q) (take m xs) ≡ Some y
+  stays_may_keep : (limit m : ℕ) (entry : PlainLearned) (xs after : List PlainLearned) (y : PlainLearned) → suc m ≤ limit → entry.question ≡ p → MayKeep limit entry (after_look_up p xs) after → find (is_about q) (take m xs) ≡ Some y
       → find (is_about q) (take (suc m) after) ≡ Some y
   stays_may_keep limit m entry xs after y room is (inl same) e = ap (λ l. find (is_about q) (take (suc m) l)) same ∙ stays_kept limit m entry xs y room is e
   stays_may_keep limit m entry xs after y room is (inr same) e = ap (λ l. find (is_about q) (take (suc m) l)) same ∙ stays_touched m xs y e
@@ -134,7 +134,7 @@ live_if now (Some x) entry e = (elim (live now x) as (λ b. live now x ≡ b →
 if_lives : (now : ℕ) (o : Option PlainLearned) (entry : PlainLearned) → o ≡ Some entry → live now entry ≡ true → if_live now o ≡ Some entry
 if_lives now o entry e t = ap (if_live now) e ∙ ap (λ b. cond b (Some entry) None) t
 
-has_live : (question : Question) (now m : ℕ) (entries : List PlainLearned) (entry : PlainLearned) → found question now (take m entries) ≡ Some entry → HasLive question entry now m entries
+has_live : (question : Question) (now m : ℕ) (entries : List PlainLearned) (entry : PlainLearned) → live_entry question now (take m entries) ≡ Some entry → HasLive question entry now m entries
 has_live question now m entries entry e =
     let is = live_if now (find (is_about question) (take m entries)) entry e in record { first = is.0; is_live = is.1 }
 
@@ -143,16 +143,16 @@ some_room question entry now zero entries has = let e = has.first in absurd (cc)
 some_room question entry now (suc m) entries has = omega arith
 
 -- a look-up for a question that is alike finds it
-finds : (p q : Question) (y : PlainLearned) (now m : ℕ) (entries : List PlainLearned) → key_of p ≡ key_of q → HasLive q y now m entries → found p now entries ≡ Some y
+finds : (p q : Question) (y : PlainLearned) (now m : ℕ) (entries : List PlainLearned) → key_of p ≡ key_of q → HasLive q y now m entries → live_entry p now entries ≡ Some y
 finds p q y now m entries alike has =
     ap (λ (key : List ℕ). if_live now (find (λ e. bytes_eq key (key_of e.question)) entries)) alike
     ∙ if_lives now (find (is_about q) entries) y (found_of_all (is_about q) m entries y has.first) has.is_live
 
-touched_first : (p : Question) (entries : List PlainLearned) (x : PlainLearned) → find (is_about p) entries ≡ Some x → touched p entries ≡ x ∷ without p entries
+touched_first : (p : Question) (entries : List PlainLearned) (x : PlainLearned) → find (is_about p) entries ≡ Some x → after_look_up p entries ≡ x ∷ without p entries
 touched_first p entries x e = ap (λ o. option_map_or (λ entry. entry ∷ without p entries) o entries) e
 
 -- and moves it to the front
-first_then : (p q : Question) (y : PlainLearned) (now m : ℕ) (entries : List PlainLearned) → key_of p ≡ key_of q → HasLive q y now m entries → HasLive q y now (suc m) (touched p entries)
+first_then : (p q : Question) (y : PlainLearned) (now m : ℕ) (entries : List PlainLearned) → key_of p ≡ key_of q → HasLive q y now m entries → HasLive q y now (suc m) (after_look_up p entries)
 first_then p q y now m entries alike has =
     let here = live_if now (find (is_about p) entries) y (finds p q y now m entries alike has) in
     let about : is_about q y ≡ true = passes (is_about q) (take m entries) y has.first in
@@ -163,7 +163,7 @@ first_then p q y now m entries alike has =
 
 -- ---- one stage
 
-hit_at : {L : Type 0} (now : ℕ) (p : Question) (entry y : PlainLearned) (before : Inquiry) → found p now before.cached ≡ Some entry → Serves p now entry → entry ≡ y
+hit_at : {L : Type 0} (now : ℕ) (p : Question) (entry y : PlainLearned) (before : Inquiry) → live_entry p now before.cached ≡ Some entry → Serves p now entry → entry ≡ y
     → IsHit {L = L} now p y (record { turn = Learned entry; before = before })
 hit_at {L} now p entry y before is serves same =
     record {
@@ -243,7 +243,7 @@ module _ {L : Type 0} (gave : List ℕ → List ℕ → ℕ → Type 0) (limit n
 
 pub live_entry_answers : {L : Type 0} (gave : List ℕ → List ℕ → ℕ → Type 0) (limit now : ℕ) (policy : PlainPolicy) (incoming : Incoming) (first last : Inquiry) (stages : List (Stage Inquiry (Obtained L))) (question : Question) (entry : PlainLearned)
     → first.facts ≡ [] → Chain (Obtains gave limit now policy incoming) first stages last
-    → found question now (take (limit - FACT_LIMIT) first.cached) ≡ Some entry
+    → live_entry question now (take (limit - FACT_LIMIT) first.cached) ≡ Some entry
     → AllByRecursion (HitsFor policy incoming now question entry) stages
 live_entry_answers gave limit now policy incoming first last stages question entry none chain e =
     let has = has_live question now (limit - FACT_LIMIT) first.cached entry e in

@@ -5,7 +5,7 @@ use Rattle.dns_message.specs.declared.request.Incoming.{Incoming}
 use Rattle.upstream_link.specs.declared.fact.Fact.{Fact}
 use Rattle.upstream_link.specs.Facts.{PlainFacts}
 use Rattle.upstream_link.specs.Vouched.{PlainLearned}
-use Rattle.answer_cache.specs.Recent.{Recent, recent, found, kept, touched}
+use Rattle.answer_cache.specs.Recent.{Recent, recent, live_entry, after_keep, after_look_up}
 use Rattle.policy_snapshot.specs.Policy.{PlainPolicy}
 use Rattle.query_session.specs.Session.{turn_by}
 use Rattle.reply_build.specs.declared.said.Said.{Said}
@@ -17,15 +17,15 @@ use Rattle.rpz_workers.specs.Turns.{Asks, Leads, Says, TakesTurn, inquiry}
 
 -- a keep that may fail
 pub may_keep : {E : Type 0} (limit : ℕ) (entry : PlainLearned) (before : List PlainLearned) (after : Recent) (r : Result (Unit {0}) E)
-    → OnOk r (after ≡ recent (kept limit entry before) limit) → OnErr r (after ≡ recent before limit)
+    → OnOk r (after ≡ recent (after_keep limit entry before) limit) → OnErr r (after ≡ recent before limit)
     → MayKeep limit entry before after.entries × (after.limit ≡ limit)
 may_keep limit entry before after (Ok done) ok err = (inl (ap (λ c. c.entries) ok), ap (λ c. c.limit) ok)
 may_keep limit entry before after (Err e) ok err = (inr (ap (λ c. c.entries) err), ap (λ c. c.limit) err)
 
 -- what the link gave, where the cache was looked at before
 pub asked_behind : {L : Type 0} (gave : List ℕ → List ℕ → ℕ → Type 0) (limit now : ℕ) (question : Question) (before : Inquiry) (one : Obtained L) (after : Inquiry)
-    → found question now before.cached ≡ None
-    → Asks gave limit now question (inquiry before.facts (touched question before.cached) before.ids before.link_faults) one after
+    → live_entry question now before.cached ≡ None
+    → Asks gave limit now question (inquiry before.facts (after_look_up question before.cached) before.ids before.link_faults) one after
     → ObtainsFor gave limit now question before one after
 asked_behind gave limit now question before (Learned entry) after none gets =
     inr (record { not_found = none; id = gets.id; next = gets.next; asks = gets.asks; vouched = gets.vouched; facts = gets.facts; cached = gets.cached; link_faults = gets.link_faults })
@@ -39,7 +39,7 @@ one_longer facts after question fact e = ap length e ∙ length-append facts ((q
 pub one_fact_more : {L : Type 0} (gave : List ℕ → List ℕ → ℕ → Type 0) (limit now : ℕ) (question : Question) (before : Inquiry) (one : Obtained L) (after : Inquiry)
     → ObtainsFor gave limit now question before one after → length after.facts ≡ length before.facts + 1
 one_fact_more gave limit now question before (Learned entry) after by =
-    elim by [ inl found ↦ one_longer _ _ _ _ found.facts | inr asked ↦ one_longer _ _ _ _ asked.facts ]
+    elim by [ inl live_entry ↦ one_longer _ _ _ _ live_entry.facts | inr asked ↦ one_longer _ _ _ _ asked.facts ]
 one_fact_more gave limit now question before (Failed asked) after by = one_longer _ _ _ _ by.1.facts
 
 -- nothing obtained leads nowhere

@@ -14,7 +14,7 @@ use Rattle.rpz_workers.specs.declared.obtained.Obtained.{Obtained}
 use Rattle.rpz_workers.specs.Obtaining.{Inquiry, Obtains}
 
 -- what contracts see of a worker: the list of transfers that it saw last and the longest that it was told, the entries of its cache
--- and how many there may be, the IDs that are still to come, where they are told, how often its link has failed, and what it
+-- and how many there may be, the IDs that are still to come, where they are known, how often its link has failed, and what it
 -- obtained for its last query, in order
 pub record PlainWorker (L : Type 0) : Type 0 where
   pub known : Known
@@ -58,7 +58,7 @@ pub record IsNoAnswer {L : Type 0} (old new : PlainWorker L) : Type 0 where
   pub link_faults : old.link_faults ≤ new.link_faults
   pub obtained : new.obtained ≡ []
 
--- what is said to a message, or that memory ran out
+-- the answer to a message, or that memory ran out
 abbrev pub Answers : {L E : Type 0} → List (List (List ℕ)) → (List ℕ → List ℕ → ℕ → Type 0) → Job → ℕ → Result Said E → PlainWorker L → PlainWorker L → Type 0
 Answers origins gave job now (Ok said) old new = IsAnswer origins gave job now said old new
 Answers origins gave job now (Err e) old new = IsNoAnswer old new

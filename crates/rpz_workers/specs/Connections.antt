@@ -16,7 +16,7 @@ use Rattle.rpz_workers.specs.Answering.{Answers, PlainWorker}
 use Rattle.rpz_workers.specs.Replying.{to_send}
 
 -- what contracts see between two messages of a connection: the worker, the seconds that its clock is still to give, the bytes
--- that are left of the source and those that the sink was given, where they are told
+-- that are left of the source and those that the sink was given, where they are known
 pub record ConnectionState (L : Type 0) : Type 0 where
   pub worker : PlainWorker L
   pub moments : Option (List ℕ)

@@ -20,7 +20,7 @@ use Rattle.rpz_workers.specs.Connections.{Serves, connection_state, fault_counts
 use Rattle.rpz_workers.specs.Replying.{to_send}
 
 -- what contracts see between two items: the worker, the seconds that its clock is still to give, the replies that were sent and the
--- connections that were closed, where they are told, and how often a send has failed
+-- connections that were closed, where they are known, and how often a send has failed
 pub record WorkerState (L S K : Type 0) : Type 0 where
   pub worker : PlainWorker L
   pub moments : Option (List ℕ)

@@ -3,7 +3,7 @@ use Rattle.std.specs.Prelude.{◌≡◌, Option, Some, None, List, [], ◌∷◌
 use Rattle.rpz_workers.specs.declared.item.Item.{Item}
 use Rattle.rpz_workers.specs.declared.item.Item.TheVariants as item
 
--- the next of the items that are still to come, where they are told; behind the last comes Stop
+-- the next of the items that are still to come, where they are known; after the last comes Stop
 abbrev pub NextItem : {N S K : Type 0} → Option (List (Item N S K)) → Item N S K → Option (List (Item N S K)) → Type 0
 NextItem None x after = after ≡ None
 NextItem (Some []) x after = (x ≡ item.Stop) × (after ≡ Some [])

@@ -5,7 +5,7 @@ use Rattle.dns_message.specs.declared.question.Question.{Question}
 use Rattle.dns_message.specs.declared.request.Incoming.{Incoming}
 use Rattle.upstream_link.specs.Vouched.{PlainLearned}
 use Rattle.answer_cache.specs.Key.{key_of}
-use Rattle.answer_cache.specs.Recent.{Serves, found}
+use Rattle.answer_cache.specs.Recent.{Serves, live_entry}
 use Rattle.policy_snapshot.specs.Policy.{PlainPolicy}
 use Rattle.query_session.specs.Session.{turn_by}
 use Rattle.reply_build.specs.declared.turn.Turn.TheVariants as turn
@@ -16,7 +16,7 @@ use Rattle.rpz_workers.specs.Obtaining.{Inquiry}
 -- what was obtained is this entry, which the cache had, live and about the question
 pub record IsHit {L : Type 0} (now : ℕ) (asked : Question) (entry : PlainLearned) (stage : Stage Inquiry (Obtained L)) : Type 0 where
   pub turn_is : stage.turn ≡ Learned entry
-  pub is_found : found asked now stage.before.cached ≡ Some entry
+  pub is_found : live_entry asked now stage.before.cached ≡ Some entry
   pub serves : Serves asked now entry
 
 -- if this stage asks a question like this one, this entry of the cache answers it

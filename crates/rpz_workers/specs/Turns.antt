@@ -9,7 +9,7 @@ use Rattle.upstream_link.specs.Asking.{AsksAt}
 use Rattle.upstream_link.specs.Facts.{PlainFacts}
 use Rattle.upstream_link.specs.Vouched.{PlainLearned, Vouched, fact_at}
 use Rattle.upstream_link.specs.declared.fact.Fact.TheVariants.{Broken}
-use Rattle.upstream_link.specs.declared.fact.Why.TheVariants as why
+use Rattle.upstream_link.specs.declared.fact.AnswerFault.TheVariants as why
 use Rattle.policy_snapshot.specs.Policy.{PlainPolicy}
 use Rattle.query_session.specs.Session.{turn_by}
 use Rattle.reply_build.specs.declared.said.Said.{Said}

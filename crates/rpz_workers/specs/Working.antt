@@ -9,7 +9,7 @@ use Rattle.rpz_workers.specs.Handling.{Handles, StreamViews, WorkerState}
 use Rattle.rpz_workers.specs.Items.{NextItem}
 use Rattle.rpz_workers.specs.Reporting.{Counts, counted, no_counts}
 
--- what contracts see between two items, and the items that are still to come, where they are told
+-- what contracts see between two items, and the items that are still to come, where they are known
 pub record RunState (L N S K : Type 0) : Type 0 where
   pub coming : Option (List (Item N S K))
   pub state : WorkerState L S K

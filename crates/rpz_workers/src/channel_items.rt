@@ -8,7 +8,7 @@ use edge_io::{Sink, Source};
 use policy_publish::StoreName;
 use std::sync::Wait;
 
-/// Items out of a channel, which tells nothing of those to come. A channel whose senders are gone and which is empty reads as
+/// Items out of a channel, of which contracts know nothing. A channel whose senders are gone and which is empty reads as
 /// `Stop`.
 #[derive(Drop)]
 pub struct ChannelItems<N: StoreName, S: Source + Drop, K: Sink + Drop, R: Wait + Drop> {

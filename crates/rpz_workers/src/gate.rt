@@ -1,4 +1,4 @@
-//! What holds a worker before it asks the upstream.
+//! A gate, at which a worker may wait before it asks the upstream.
 
 /// How many turns a gate may hold a worker at most, each of which is one look at what it waits for.
 pub const GATE_TURNS: u32 = 10_000;

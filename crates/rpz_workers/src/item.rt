@@ -1,4 +1,4 @@
-//! What a worker is given.
+//! The items of a worker: jobs, connections, lists of transfers, and Stop.
 
 ghost use Rattle.std.specs.Prelude.{List, Option};
 ghost use Rattle.rpz_workers.specs.Items.{NextItem};
@@ -36,9 +36,9 @@ pub enum Item<N: StoreName, S: Source + Drop, K: Sink + Drop> {
 
 /// Where items come from.
 ///
-/// A list in memory tells which items are still to come. A channel doesn't.
+/// Of a list in memory contracts know which items are still to come, and not of a channel.
 pub trait Items<N: StoreName, S: Source + Drop, K: Sink + Drop> {
-    /// The items that `next` is still to give, in order, where it tells. Behind the last comes `Stop`.
+    /// The items that `next` is still to give, in order, where they are known. After the last comes `Stop`.
     ghost coming: { Self → Option (List (items.Item N S K)) };
 
     /// The next item.

@@ -7,7 +7,7 @@ ghost use Rattle.dns_message.specs.declared.question.Question.{Question};
 ghost use Rattle.dns_message.specs.declared.request.Incoming.{Incoming};
 ghost use Rattle.upstream_link.specs.declared.facts.TheConstants.{FACT_LIMIT};
 ghost use Rattle.upstream_link.specs.Vouched.{PlainLearned};
-ghost use Rattle.answer_cache.specs.Recent.{found};
+ghost use Rattle.answer_cache.specs.Recent.{live_entry};
 ghost use Rattle.policy_snapshot.specs.Policy.{PlainPolicy};
 ghost use Rattle.rpz_workers.specs.declared.obtained.Obtained.{Obtained};
 ghost use Rattle.rpz_workers.specs.Laws.{HitsFor};
@@ -22,6 +22,6 @@ pub fn a_live_entry_answers<L: Link>()
         (first last : Inquiry) (stages : List (Stage Inquiry (Obtained L)))
         (question : Question) (entry : PlainLearned) → first.facts ≡ [] →
         Chain (Obtains L.gave limit now policy incoming) first stages last →
-        found question now (take (limit - FACT_LIMIT) first.cached) ≡ Some entry →
+        live_entry question now (take (limit - FACT_LIMIT) first.cached) ≡ Some entry →
         AllByRecursion (HitsFor policy incoming now question entry) stages }
 {}

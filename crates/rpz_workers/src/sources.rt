@@ -1,4 +1,4 @@
-//! Where a worker has its answers from.
+//! A worker's answers, out of its cache or over its link.
 
 ghost use Rattle.std.specs.Prelude.{◌≡◌, ◌≤◌, [], length, Some, IfOk, IfSome, IsSome, OnOk};
 ghost use Rattle.dns_message.specs.Request.{incoming_of};
@@ -20,7 +20,7 @@ use reply_build::{Said, Turn};
 use std::alloc::{AllocError, Global};
 use std::hash::BuildHasher;
 use std::sync::Arc;
-use upstream_link::{Asked, FACT_LIMIT, Fact, Learned, Why, ask};
+use upstream_link::{AnswerFault, AskOutcome, FACT_LIMIT, Fact, Learned, ask};
 
 /// A cache, and the link that is asked where no live entry of the cache answers, with the IDs of its messages and what is passed
 /// before each.
@@ -59,12 +59,12 @@ fn give_failed<L: Link>(
 ) -> Result<Obtained<L>, AllocError>
     requires { IsSome session.old.asked }
     ensures same { IfOk result (λ obtained. obtained ≡ Obtained.Failed question.now) }
-    ensures given { OnOk result (session.new ≡ after_fact session.old (Fact.Broken Why.Failed)) }
+    ensures given { OnOk result (session.new ≡ after_fact session.old (Fact.Broken AnswerFault.Failed)) }
     ensures policy { session.new.policy ≡ session.old.policy }
     ensures incoming { session.new.incoming ≡ session.old.incoming }
 {
     let copy = question.clone()?;
-    session.give(Fact::Broken(Why::Failed))?;
+    session.give(Fact::Broken(AnswerFault::Failed))?;
     Ok(Obtained::Failed(copy))
 }
 
@@ -83,7 +83,7 @@ fn keep<L: Link, H: BuildHasher + Drop>(
     let _kept = cache.keep(alloc, copy);
 }
 
-// What is said after as many facts as a query may have.
+// The reply, or silence, after as many facts as a query may have.
 fn last_turn(session: &mut Session) -> Result<Said, AllocError>
     requires { FACT_LIMIT ≤ length session.old.facts }
     ensures says { IfOk result (λ said. turn_of session.old ≡ Turn.Said said) }
@@ -122,11 +122,11 @@ impl<L: Link + Drop, H: BuildHasher + Drop, I: Ids + Drop, G: Gate + Drop> Sourc
         let id = self.ids.next_id();
         let asked = ask(alloc, &mut self.link, id, question, now)?;
         match asked {
-            Asked::Learned(learned) => {
+            AskOutcome::Learned(learned) => {
                 keep(alloc, &mut self.cache, &learned);
                 give(alloc, session, learned, now)
             }
-            Asked::Failed => give_failed(session, question),
+            AskOutcome::Failed => give_failed(session, question),
         }
     }
 
@@ -157,7 +157,7 @@ impl<L: Link + Drop, H: BuildHasher + Drop, I: Ids + Drop, G: Gate + Drop> Sourc
         }
     }
 
-    // One turn of a session: what is said, or one answer more.
+    // One turn of a session: the reply, or silence, or one answer more.
     fn take_turn(
         &mut self,
         alloc: Global,
@@ -189,7 +189,7 @@ impl<L: Link + Drop, H: BuildHasher + Drop, I: Ids + Drop, G: Gate + Drop> Sourc
         }
     }
 
-    // The turns of a session, until something is said.
+    // The turns of a session, until there is a reply, or silence.
     fn take_turns(
         &mut self,
         alloc: Global,

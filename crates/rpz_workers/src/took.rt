@@ -5,7 +5,7 @@
 pub enum Took {
     /// A job's reply was sent.
     Reply,
-    /// Nothing is said to a job's message.
+    /// A job's message gets no reply.
     Silent,
     /// Memory ran out for a job's reply, or for its send.
     Memory,
@@ -13,7 +13,7 @@ pub enum Took {
     Failed,
     /// A connection was served, and closed.
     Closed,
-    /// What was told is known.
+    /// A list of transfers was learned.
     Learnt,
     Stop,
 }

@@ -9,7 +9,7 @@ use Rattle.zone_rows.specs.declared.zone.TheConstants.{ZONE_LIMIT}
 use Rattle.dns_name.specs.declared.fault.TextFault.{TextFault}
 use Rattle.script_codec.specs.declared.field.TheConstants.{MESSAGE_BYTES}
 use Rattle.script_codec.specs.declared.state.TheConstants.{WORKERS}
-use Rattle.script_codec.specs.declared.why.Why.TheVariants as why
+use Rattle.script_codec.specs.declared.line_fault.LineFault.TheVariants as why
 use Rattle.script_codec.specs.Field.{or_refused, name_of, number_of, zone_of, worker_of, bytes_of, message_of}
 use Rattle.script_codec.specs.Outcome.{refuse_if}
 use Rattle.script_codec.specs.State.{PlainState, opening, running, opens}

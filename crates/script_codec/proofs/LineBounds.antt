@@ -5,8 +5,8 @@ use Rattle.std.specs.Str.{bytes_eq}
 use Rattle.std.proofs.lemmas.Bool.{cond_both, not-false}
 use Rattle.script_codec.specs.declared.line.Line.{Line}
 use Rattle.script_codec.specs.declared.line.Line.TheVariants as line
-use Rattle.script_codec.specs.declared.why.Why.{Why}
-use Rattle.script_codec.specs.declared.why.Why.TheVariants as why
+use Rattle.script_codec.specs.declared.line_fault.LineFault.{LineFault}
+use Rattle.script_codec.specs.declared.line_fault.LineFault.TheVariants as why
 use Rattle.script_codec.specs.Field.{name_of, number_of, zone_of, worker_of, transport_of, address_of, bytes_of, message_of}
 use Rattle.script_codec.specs.Fields.{fields_of, one_field, two_fields, four_fields}
 use Rattle.script_codec.specs.Line.{zone_line, transfer_line, full_line, query_line, give_line, fail_line, clock_line, kind_line, worded_line, is_skipped, is_text_byte, unnumbered_line}
@@ -17,7 +17,7 @@ use Rattle.script_codec.proofs.Binding.{bind_ok, not_refused, ok_is}
 use Rattle.script_codec.proofs.FieldBounds.{zone_bounds, worker_bounds, message_bounds, may_open, name_bounds}
 
 -- from the line that the fields give to the line that is read
-read_is : (state : PlainState) (given says : Line) → (let r : Result Line Why = Ok given in r ≡ Ok says) → IsWithin state given → IsWithin state says
+read_is : (state : PlainState) (given says : Line) → (let r : Result Line LineFault = Ok given in r ≡ Ok says) → IsWithin state given → IsWithin state says
 read_is state given says e h = subst (IsWithin state) (ok_is given says e) h
 
 -- `zone NAME`
@@ -94,7 +94,7 @@ clock_within state fields says e =
 
 -- any kind
 
-abbrev ReadsWithin : PlainState → Line → Result Line Why → Type 0
+abbrev ReadsWithin : PlainState → Line → Result Line LineFault → Type 0
 ReadsWithin state says read = read ≡ Ok says → IsWithin state says
 
 kind_within : (state : PlainState) (word : List ℕ) (fields : List (List ℕ)) (says : Line) → kind_line state word fields ≡ Ok says → IsWithin state says
@@ -114,14 +114,14 @@ worded_within state (word ∷ fields) says e = kind_within state word fields say
 
 -- a line
 
-given_is : (given says : Line) → (let r : Result (Option Line) Why = Ok (Some given) in r ≡ Ok (Some says)) → given ≡ says
+given_is : (given says : Line) → (let r : Result (Option Line) LineFault = Ok (Some given) in r ≡ Ok (Some says)) → given ≡ says
 given_is given says e = cc
 
 pub line_within : (text : List ℕ) (state : PlainState) (says : Line) → unnumbered_line text state ≡ Ok (Some says) → IsWithin state says
 unfolding unnumbered_line
 line_within text state says e =
     let a = bind_ok (refuse_if (not (list_all is_text_byte text)) why.Char) _ (Some says) e in
-    cond_both (is_skipped text) _ _ (λ (r : Result (Option Line) Why). r ≡ Ok (Some says) → IsWithin state says)
+    cond_both (is_skipped text) _ _ (λ (r : Result (Option Line) LineFault). r ≡ Ok (Some says) → IsWithin state says)
     (λ t h. absurd cc)
     (λ t h. let b = bind_ok (worded_line state (fields_of text)) _ (Some says) h in subst (IsWithin state) (given_is b.0 says b.2) (worded_within state (fields_of text) b.0 b.1))
     a.2

@@ -12,17 +12,17 @@ use Rattle.ip_prefix.specs.declared.Transport.{Transport}
 use Rattle.ip_prefix.specs.declared.Transport.TheVariants as transport
 use Rattle.script_codec.specs.declared.field.TheConstants.{MESSAGE_BYTES}
 use Rattle.script_codec.specs.declared.state.TheConstants.{WORKERS}
-use Rattle.script_codec.specs.declared.why.Why.{Why}
-use Rattle.script_codec.specs.declared.why.Why.TheVariants as why
+use Rattle.script_codec.specs.declared.line_fault.LineFault.{LineFault}
+use Rattle.script_codec.specs.declared.line_fault.LineFault.TheVariants as why
 use Rattle.script_codec.specs.Outcome.{◌>>=◌, refuse_if}
 
 -- the value, or else this reason
-abbrev pub or_refused : {A E : Type 0} → Result A E → Why → Result A Why
+abbrev pub or_refused : {A E : Type 0} → Result A E → LineFault → Result A LineFault
 or_refused (Ok x) why = Ok x
 or_refused (Err e) why = Err why
 
 -- the name that a text gives
-abbrev pub name_of : List ℕ → Result (List (List ℕ)) Why
+abbrev pub name_of : List ℕ → Result (List (List ℕ)) LineFault
 name_of text = or_refused (name_form.text_name text) why.Name
 
 -- the number that decimal digits write
@@ -34,11 +34,11 @@ abbrev pub is_number : ℕ → ℕ → List ℕ → Bool
 is_number most bound digits = nat_lt 0 (length digits) && nat_le (length digits) most && list_all is_ascii_digit digits && nat_lt (value_of digits) bound
 
 -- a number: 1 to 10 decimal digits, at most 4,294,967,295
-unfoldable pub number_of : List ℕ → Result ℕ Why
+unfoldable pub number_of : List ℕ → Result ℕ LineFault
 number_of digits = if is_number 10 (2 ^ 32) digits then Ok (value_of digits) else Err why.Number
 
 -- the number of a zone, of so many that there are; zone 1 is the first
-unfoldable pub zone_of : ℕ → List ℕ → Result ℕ Why
+unfoldable pub zone_of : ℕ → List ℕ → Result ℕ LineFault
 zone_of zones digits = do
   zone ← number_of digits
   _ ← refuse_if (zone == 0) why.NoZone
@@ -46,14 +46,14 @@ zone_of zones digits = do
   Ok zone
 
 -- the number of a worker; worker 0 is the first
-unfoldable pub worker_of : List ℕ → Result ℕ Why
+unfoldable pub worker_of : List ℕ → Result ℕ LineFault
 worker_of digits = do
   worker ← number_of digits
   _ ← refuse_if (nat_le WORKERS worker) why.NoWorker
   Ok worker
 
 -- `udp` or `tcp`
-abbrev pub transport_of : List ℕ → Result Transport Why
+abbrev pub transport_of : List ℕ → Result Transport LineFault
 transport_of text =
     if bytes_eq text (codes "udp") then Ok transport.Udp
     else (if bytes_eq text (codes "tcp") then Ok transport.Tcp
@@ -63,11 +63,11 @@ abbrev pub is_dot : ℕ → Bool
 is_dot b = b == 46
 
 -- a part of an address of IP version 4: 1 to 3 decimal digits, at most 255
-unfoldable pub octet_of : List ℕ → Result ℕ Why
+unfoldable pub octet_of : List ℕ → Result ℕ LineFault
 octet_of digits = if is_number 3 256 digits then Ok (value_of digits) else Err why.Address
 
 -- an address of IP version 4: four decimals joined by dots
-unfoldable pub v4_of : List ℕ → Result Addr Why
+unfoldable pub v4_of : List ℕ → Result Addr LineFault
 v4_of text = do
   first ← octet_of (before_first is_dot text)
   let rest = after_first is_dot text
@@ -78,21 +78,21 @@ v4_of text = do
   Ok (addr.V4 (((first * 256 + second) * 256 + third) * 256 + fourth))
 
 -- an address of IP version 6: 32 hexadecimal digits
-unfoldable pub v6_of : List ℕ → Result Addr Why
+unfoldable pub v6_of : List ℕ → Result Addr LineFault
 v6_of text = do
   bytes ← or_refused (decode_sized text 16) why.Address
   Ok (addr.V6 (from_be_bytes w128 bytes))
 
 -- an address; no text is one of both versions
-unfoldable pub address_of : List ℕ → Result Addr Why
+unfoldable pub address_of : List ℕ → Result Addr LineFault
 address_of text = if length text == 32 then v6_of text else v4_of text
 
 -- bytes: `-` for none, else an even number of hexadecimal digits
-unfoldable pub bytes_of : List ℕ → Result (List ℕ) Why
+unfoldable pub bytes_of : List ℕ → Result (List ℕ) LineFault
 bytes_of text = if bytes_eq text (codes "-") then Ok [] else or_refused (decode_of text) why.Hex
 
 -- a message: at most 65,535 bytes (RFC 1035, section 4.2.2)
-unfoldable pub message_of : List ℕ → Result (List ℕ) Why
+unfoldable pub message_of : List ℕ → Result (List ℕ) LineFault
 message_of text = do
   bytes ← bytes_of text
   _ ← refuse_if (nat_lt MESSAGE_BYTES (length bytes)) why.Long

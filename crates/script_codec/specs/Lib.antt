@@ -1,4 +1,4 @@
-pub mod Why
+pub mod LineFault
 pub mod Outcome
 pub mod Fields
 pub mod Field

@@ -5,15 +5,15 @@ use Rattle.std.specs.Str.{bytes_eq}
 use Rattle.script_codec.specs.declared.line.Line.{Line}
 use Rattle.script_loop.specs.declared.limits.TheConstants.{LINE_BYTES, LINES}
 use Rattle.script_codec.specs.declared.line.Line.TheVariants as line
-use Rattle.script_codec.specs.declared.why.Why.{Why}
-use Rattle.script_codec.specs.declared.why.Why.TheVariants as why
+use Rattle.script_codec.specs.declared.line_fault.LineFault.{LineFault}
+use Rattle.script_codec.specs.declared.line_fault.LineFault.TheVariants as why
 use Rattle.script_codec.specs.Outcome.{◌>>=◌, refuse_if}
 use Rattle.script_codec.specs.Fields.{fields_of, one_field, two_fields, four_fields}
 use Rattle.script_codec.specs.Field.{name_of, number_of, zone_of, worker_of, transport_of, address_of, bytes_of, message_of}
 use Rattle.script_codec.specs.State.{PlainState, zone_count, is_pending, opens}
 
 -- `zone NAME`
-unfoldable pub zone_line : PlainState → List (List ℕ) → Result Line Why
+unfoldable pub zone_line : PlainState → List (List ℕ) → Result Line LineFault
 zone_line state fields = do
   text ← one_field fields
   origin ← name_of text
@@ -21,7 +21,7 @@ zone_line state fields = do
   Ok (line.Zone origin)
 
 -- `xfer Z HEX`
-unfoldable pub transfer_line : PlainState → List (List ℕ) → Result Line Why
+unfoldable pub transfer_line : PlainState → List (List ℕ) → Result Line LineFault
 transfer_line state fields = do
   (digits, text) ← two_fields fields
   zone ← zone_of (zone_count state) digits
@@ -29,14 +29,14 @@ transfer_line state fields = do
   Ok (line.Transfer zone stream)
 
 -- `full Z`
-unfoldable pub full_line : PlainState → List (List ℕ) → Result Line Why
+unfoldable pub full_line : PlainState → List (List ℕ) → Result Line LineFault
 full_line state fields = do
   digits ← one_field fields
   zone ← zone_of (zone_count state) digits
   Ok (line.Full zone)
 
 -- `query W udp|tcp ADDR HEX`
-unfoldable pub query_line : PlainState → List (List ℕ) → Result Line Why
+unfoldable pub query_line : PlainState → List (List ℕ) → Result Line LineFault
 query_line state fields = do
   (digits, carrier, source, text) ← four_fields fields
   worker ← worker_of digits
@@ -47,7 +47,7 @@ query_line state fields = do
   Ok (line.Query worker transport client message)
 
 -- `give W HEX`
-unfoldable pub give_line : PlainState → List (List ℕ) → Result Line Why
+unfoldable pub give_line : PlainState → List (List ℕ) → Result Line LineFault
 give_line state fields = do
   (digits, text) ← two_fields fields
   worker ← worker_of digits
@@ -56,7 +56,7 @@ give_line state fields = do
   Ok (line.Give worker message)
 
 -- `fail W`
-unfoldable pub fail_line : PlainState → List (List ℕ) → Result Line Why
+unfoldable pub fail_line : PlainState → List (List ℕ) → Result Line LineFault
 fail_line state fields = do
   digits ← one_field fields
   worker ← worker_of digits
@@ -64,14 +64,14 @@ fail_line state fields = do
   Ok (line.Fail worker)
 
 -- `clock SECONDS`
-unfoldable pub clock_line : List (List ℕ) → Result Line Why
+unfoldable pub clock_line : List (List ℕ) → Result Line LineFault
 clock_line fields = do
   digits ← one_field fields
   seconds ← number_of digits
   Ok (line.Clock seconds)
 
 -- a line of this first word and these fields
-unfoldable pub kind_line : PlainState → List ℕ → List (List ℕ) → Result Line Why
+unfoldable pub kind_line : PlainState → List ℕ → List (List ℕ) → Result Line LineFault
 kind_line state word fields =
     if bytes_eq word (codes "zone") then zone_line state fields
     else (if bytes_eq word (codes "xfer") then transfer_line state fields
@@ -83,7 +83,7 @@ kind_line state word fields =
     else Err why.Word))))))
 
 -- a line that begins with its first word
-abbrev pub worded_line : PlainState → List (List ℕ) → Result Line Why
+abbrev pub worded_line : PlainState → List (List ℕ) → Result Line LineFault
 worded_line state [] = Err why.Word
 worded_line state (word ∷ fields) = kind_line state word fields
 
@@ -97,13 +97,13 @@ abbrev pub is_text_byte : ℕ → Bool
 is_text_byte b = nat_le 32 b && nat_le b 126
 
 -- what a line says, whatever its number and its length; nothing where it is skipped
-unfoldable pub unnumbered_line : List ℕ → PlainState → Result (Option Line) Why
+unfoldable pub unnumbered_line : List ℕ → PlainState → Result (Option Line) LineFault
 unnumbered_line text state = do
   _ ← refuse_if (not (list_all is_text_byte text)) why.Char
   if is_skipped text then Ok None else (worded_line state (fields_of text) >>= λ says. Ok (Some says))
 
 -- what the line of this number says
-unfoldable pub line_of : ℕ → List ℕ → PlainState → Result (Option Line) Why
+unfoldable pub line_of : ℕ → List ℕ → PlainState → Result (Option Line) LineFault
 line_of number text state = do
   _ ← refuse_if (nat_lt LINES number) why.Lines
   _ ← refuse_if (nat_lt LINE_BYTES (length text)) why.TooLong

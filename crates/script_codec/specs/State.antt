@@ -1,15 +1,15 @@
--- What a line is read by.
+-- The state that a line is read in.
 use Rattle.std.specs.Prelude.{ℕ, nat_le, Bool, false, List, length, slice_index_or, Result, Err}
 use Rattle.script_codec.specs.declared.state.ScriptState.{ScriptState}
 use Rattle.script_codec.specs.declared.state.ScriptState.TheVariants.{Opening, Running}
 use Rattle.zone_rows.specs.declared.zone.TheConstants.{ZONE_LIMIT}
-use Rattle.script_codec.specs.declared.why.Why.{Why}
-use Rattle.script_codec.specs.declared.why.Why.TheVariants as why
+use Rattle.script_codec.specs.declared.line_fault.LineFault.{LineFault}
+use Rattle.script_codec.specs.declared.line_fault.LineFault.TheVariants as why
 use Rattle.script_codec.specs.Names.{has_name}
 use Rattle.script_codec.specs.Outcome.{◌>>=◌, refuse_if}
 
--- Only zone lines stood so far, which opened zones of these origins, zone 1 first; or other lines stood, and there are so
--- many zones, and for each worker, worker 0 first, it is said whether it has a pending query.
+-- All lines so far were zone lines, which opened zones of these origins, zone 1 first; or there were others, and there are so
+-- many zones, and the list says of each worker, worker 0 first, whether it has a pending query.
 pub data PlainState : Type 0 where
   opening : List (List (List ℕ)) → PlainState
   running : ℕ → List Bool → PlainState
@@ -30,7 +30,7 @@ is_pending (opening origins) worker = false
 is_pending (running zones pending) worker = slice_index_or pending worker false
 
 -- whether a zone of this origin may be opened
-unfoldable pub opens : PlainState → List (List ℕ) → Result (Unit {0}) Why
+unfoldable pub opens : PlainState → List (List ℕ) → Result (Unit {0}) LineFault
 opens (opening origins) origin = do
   _ ← refuse_if (nat_le ZONE_LIMIT (length origins)) why.Many
   refuse_if (has_name origins origin) why.Repeated

@@ -21,12 +21,12 @@ IsWorker worker = worker < WORKERS
 abbrev pub IsMessage : List ℕ → Type 0
 IsMessage message = length message ≤ MESSAGE_BYTES
 
--- A zone of this origin may be opened: only zone lines stood, there is room for one more zone, and none has this origin.
+-- A zone of this origin may be opened: all lines so far were zone lines, there is room for one more, and none has this origin.
 abbrev pub MayOpen : PlainState → List (List ℕ) → Type 0
 MayOpen (opening origins) origin = (length origins < ZONE_LIMIT) × (has_name origins origin ≡ false)
 MayOpen (running zones pending) origin = ⊥
 
--- A transfer is of a zone that there is; a worker with a pending query gets no other, and only such a worker gets an answer.
+-- A transfer is of an open zone; a worker with a pending query gets no other, and only such a worker gets an answer.
 abbrev pub IsWithin : PlainState → Line → Type 0
 IsWithin state (Zone origin) = IsName origin × MayOpen state origin
 IsWithin state (Transfer zone stream) = IsZone state zone

@@ -8,8 +8,8 @@ ghost use Rattle.script_codec.specs.Outcome.{Gives};
 ghost use Rattle.script_codec.specs.Within.{IsWorker, IsMessage};
 ghost use Rattle.script_codec.specs.Field.{is_dot, value_of, name_of, number_of, zone_of, worker_of, transport_of, octet_of, v4_of, v6_of, address_of, bytes_of, message_of};
 
+use crate::line_fault::{LineFault, UnnumberedError};
 use crate::state::WORKERS;
-use crate::why::{ReadError, Why};
 use dns_name::{Name, Octets, TextError};
 use hex::{FromHex, FromHexError};
 use ip_prefix::{Addr, Transport};
@@ -19,57 +19,57 @@ use std::alloc::Global;
 const MESSAGE_BYTES: usize = 65_535;
 
 /// The name that the text gives.
-pub fn name(alloc: Global, text: &[u8]) -> Result<Name, ReadError>
+pub fn name(alloc: Global, text: &[u8]) -> Result<Name, UnnumberedError>
     ensures exact { Gives result (name_of text.now) }
     ensures name { IfOk result IsName }
 {
     match Name::from_text(alloc, text) {
         Ok(name) => Ok(name),
-        Err(TextError::OutOfMemory) => Err(ReadError::OutOfMemory),
-        Err(TextError::Fault(_)) => Err(ReadError::Refused(Why::Name)),
+        Err(TextError::OutOfMemory) => Err(UnnumberedError::OutOfMemory),
+        Err(TextError::Fault(_)) => Err(UnnumberedError::Refused(LineFault::Name)),
     }
 }
 
 /// The number that 1 to 10 decimal digits write, from 0 to 4,294,967,295; leading zeros are allowed. Anything else is
-/// `Why::Number`, a sign among it.
+/// `LineFault::Number`, a sign among it.
 #[tactic(auto, unfolding(crate::specs::Field::number_of))]
-pub fn number(digits: &[u8]) -> Result<u32, Why>
+pub fn number(digits: &[u8]) -> Result<u32, LineFault>
     ensures { result ≡ number_of digits.now }
 {
     if digits.is_empty() || digits.len() > 10 || !are_digits(digits) {
-        return Err(Why::Number);
+        return Err(LineFault::Number);
     }
-    u32::try_from(value(digits)).map_err(|_| Why::Number)
+    u32::try_from(value(digits)).map_err(|_| LineFault::Number)
 }
 
 /// The number of a zone, of so many that there are. Zone 1 is the first.
 #[tactic(auto, unfolding(crate::specs::Field::zone_of))]
-pub fn zone(digits: &[u8], zones: usize) -> Result<u32, Why>
+pub fn zone(digits: &[u8], zones: usize) -> Result<u32, LineFault>
     ensures exact { result ≡ zone_of zones digits.now }
     ensures within { IfOk result (λ zone. (1 ≤ zone) × (zone ≤ zones)) }
 {
     let zone = number(digits)?;
     if zone == 0 || zone as usize > zones {
-        return Err(Why::NoZone);
+        return Err(LineFault::NoZone);
     }
     Ok(zone)
 }
 
 /// The number of a worker. Worker 0 is the first.
 #[tactic(auto, unfolding(crate::specs::Field::worker_of))]
-pub fn worker(digits: &[u8]) -> Result<u32, Why>
+pub fn worker(digits: &[u8]) -> Result<u32, LineFault>
     ensures exact { result ≡ worker_of digits.now }
     ensures within { IfOk result IsWorker }
 {
     let worker = number(digits)?;
     if worker as usize >= WORKERS {
-        return Err(Why::NoWorker);
+        return Err(LineFault::NoWorker);
     }
     Ok(worker)
 }
 
 /// The transport that `udp` or `tcp` names.
-pub fn transport(text: &[u8]) -> Result<Transport, Why>
+pub fn transport(text: &[u8]) -> Result<Transport, LineFault>
     ensures { result ≡ transport_of text.now }
 {
     if text == b"udp".as_slice() {
@@ -78,12 +78,12 @@ pub fn transport(text: &[u8]) -> Result<Transport, Why>
     if text == b"tcp".as_slice() {
         return Ok(Transport::Tcp);
     }
-    Err(Why::Transport)
+    Err(LineFault::Transport)
 }
 
 /// The address that four decimals or 32 hexadecimal digits write.
 #[tactic(auto, unfolding(crate::specs::Field::address_of))]
-pub fn address(text: &[u8]) -> Result<Addr, Why>
+pub fn address(text: &[u8]) -> Result<Addr, LineFault>
     ensures { result ≡ address_of text.now }
 {
     if text.len() == 32 {
@@ -94,9 +94,9 @@ pub fn address(text: &[u8]) -> Result<Addr, Why>
 }
 
 /// The address of IP version 4 that four decimals write: each has 1 to 3 digits and is at most 255, and they are joined
-/// by dots (RFC 3986, section 3.2.2, with leading zeros allowed). Anything else is `Why::Address`.
+/// by dots (RFC 3986, section 3.2.2, with leading zeros allowed). Anything else is `LineFault::Address`.
 #[tactic(auto, unfolding(crate::specs::Field::v4_of))]
-pub fn address_4(text: &[u8]) -> Result<Addr, Why>
+pub fn address_4(text: &[u8]) -> Result<Addr, LineFault>
     ensures { result ≡ v4_of text.now }
 {
     let (first, rest) = split_dot(text);
@@ -111,12 +111,12 @@ pub fn address_4(text: &[u8]) -> Result<Addr, Why>
 
 // An address of IP version 6: 32 hexadecimal digits.
 #[tactic(auto, unfolding(crate::specs::Field::v6_of))]
-fn address_6(text: &[u8]) -> Result<Addr, Why>
+fn address_6(text: &[u8]) -> Result<Addr, LineFault>
     ensures { result ≡ v6_of text.now }
 {
     match <[u8; 16]>::from_hex(text) {
         Ok(bytes) => Ok(Addr::V6(u128::from_be_bytes(bytes))),
-        Err(_) => Err(Why::Address),
+        Err(_) => Err(LineFault::Address),
     }
 }
 
@@ -141,18 +141,18 @@ fn dot_at(text: &[u8]) -> Option<usize>
 
 // The octet that 1 to 3 decimal digits write.
 #[tactic(auto, unfolding(crate::specs::Field::octet_of))]
-fn octet(digits: &[u8]) -> Result<u32, Why>
+fn octet(digits: &[u8]) -> Result<u32, LineFault>
     ensures value { result ≡ octet_of digits.now }
     ensures fits { IfOk result (λ octet. octet < 256) }
 {
     if digits.is_empty() || digits.len() > 3 || !are_digits(digits) {
-        return Err(Why::Address);
+        return Err(LineFault::Address);
     }
     let value = value(digits);
     if value < 256 {
         Ok(value as u32)
     } else {
-        Err(Why::Address)
+        Err(LineFault::Address)
     }
 }
 
@@ -177,7 +177,7 @@ fn value(digits: &[u8]) -> u64
 
 /// The bytes that `-` or an even number of hexadecimal digits write.
 #[tactic(auto, unfolding(crate::specs::Field::bytes_of))]
-pub fn bytes(alloc: Global, text: &[u8]) -> Result<Octets, ReadError>
+pub fn bytes(alloc: Global, text: &[u8]) -> Result<Octets, UnnumberedError>
     ensures { Gives result (bytes_of text.now) }
 {
     if text == b"-".as_slice() {
@@ -185,20 +185,20 @@ pub fn bytes(alloc: Global, text: &[u8]) -> Result<Octets, ReadError>
     }
     match hex::decode(alloc, text) {
         Ok(bytes) => Ok(Octets::from_vec(bytes)),
-        Err(FromHexError::OutOfMemory) => Err(ReadError::OutOfMemory),
-        Err(_) => Err(ReadError::Refused(Why::Hex)),
+        Err(FromHexError::OutOfMemory) => Err(UnnumberedError::OutOfMemory),
+        Err(_) => Err(UnnumberedError::Refused(LineFault::Hex)),
     }
 }
 
 /// The message that `-` or an even number of hexadecimal digits write, of at most 65,535 bytes.
 #[tactic(auto, unfolding(crate::specs::Field::message_of))]
-pub fn message(alloc: Global, text: &[u8]) -> Result<Octets, ReadError>
+pub fn message(alloc: Global, text: &[u8]) -> Result<Octets, UnnumberedError>
     ensures exact { Gives result (message_of text.now) }
     ensures within { IfOk result IsMessage }
 {
     let message = bytes(alloc, text)?;
     if message.len() > MESSAGE_BYTES {
-        return Err(ReadError::Refused(Why::Long));
+        return Err(UnnumberedError::Refused(LineFault::Long));
     }
     Ok(message)
 }

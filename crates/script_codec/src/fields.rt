@@ -5,7 +5,7 @@ ghost use Rattle.script_codec.specs.Outcome.{Reads};
 ghost use Rattle.script_codec.specs.Fields as fields_form;
 ghost use Rattle.script_codec.specs.Fields.{is_space, fields_of, fields_left};
 
-use crate::why::Why;
+use crate::line_fault::LineFault;
 
 /// What is left of a line behind a space; nothing behind its last field.
 pub type Left<'a> = Option<&'a [u8]>;
@@ -29,34 +29,34 @@ fn space_at(text: &[u8]) -> Option<usize>
 }
 
 // The first field, which may not be empty, and what is left behind it.
-fn first_field<'a>(left: Left<'a>) -> Result<(&'a [u8], Left<'a>), Why>
+fn first_field<'a>(left: Left<'a>) -> Result<(&'a [u8], Left<'a>), LineFault>
     ensures { Reads (λ x. (x.0.now, fields_left x.1)) result (fields_form.first_field (fields_left left.entry)) }
 {
     let Some(text) = left else {
-        return Err(Why::Fields);
+        return Err(LineFault::Fields);
     };
     let (field, others) = split_field(text);
     if field.is_empty() {
-        return Err(Why::Fields);
+        return Err(LineFault::Fields);
     }
     Ok((field, others))
 }
 
 /// The field of a line that has one.
 #[tactic(auto, using(crate::proofs::Cuts::never_ended), unfolding(crate::specs::Fields::one_field))]
-pub fn one_field<'a>(left: Left<'a>) -> Result<&'a [u8], Why>
+pub fn one_field<'a>(left: Left<'a>) -> Result<&'a [u8], LineFault>
     ensures { Reads (λ x. x.now) result (fields_form.one_field (fields_left left.entry)) }
 {
     let (first, others) = first_field(left)?;
     match others {
         None => Ok(first),
-        Some(_) => Err(Why::Fields),
+        Some(_) => Err(LineFault::Fields),
     }
 }
 
 /// The fields of a line that has two.
 #[tactic(auto, unfolding(crate::specs::Fields::two_fields))]
-pub fn two_fields<'a>(left: Left<'a>) -> Result<(&'a [u8], &'a [u8]), Why>
+pub fn two_fields<'a>(left: Left<'a>) -> Result<(&'a [u8], &'a [u8]), LineFault>
     ensures { Reads (λ x. (x.0.now, x.1.now)) result (fields_form.two_fields (fields_left left.entry)) }
 {
     let (first, others) = first_field(left)?;
@@ -66,7 +66,9 @@ pub fn two_fields<'a>(left: Left<'a>) -> Result<(&'a [u8], &'a [u8]), Why>
 
 /// The fields of a line that has four.
 #[tactic(auto, unfolding(crate::specs::Fields::four_fields))]
-pub fn four_fields<'a>(left: Left<'a>) -> Result<(&'a [u8], &'a [u8], &'a [u8], &'a [u8]), Why>
+pub fn four_fields<'a>(
+    left: Left<'a>,
+) -> Result<(&'a [u8], &'a [u8], &'a [u8], &'a [u8]), LineFault>
     ensures { Reads (λ x. (x.0.now, x.1.now, x.2.now, x.3.now)) result (fields_form.four_fields (fields_left left.entry)) }
 {
     let (first, others) = first_field(left)?;

@@ -12,8 +12,8 @@ ghost use Rattle.script_codec.specs.Within.{IsWithin, SaysWithin};
 use crate::field::{address, bytes, message, name, number, transport, worker, zone};
 use crate::fields::{Left, four_fields, one_field, split_field, two_fields};
 use crate::line::Line;
+use crate::line_fault::{BadLine, LineError, LineFault, UnnumberedError};
 use crate::state::ScriptState;
-use crate::why::{BadLine, LineError, ReadError, Why};
 use script_loop::{LINE_BYTES, LINES};
 use std::alloc::Global;
 
@@ -30,8 +30,11 @@ pub fn read_line(
 {
     match read_numbered(alloc, bytes, number, state) {
         Ok(line) => Ok(line),
-        Err(ReadError::OutOfMemory) => Err(LineError::OutOfMemory),
-        Err(ReadError::Refused(why)) => Err(LineError::BadLine(BadLine { line: number, why })),
+        Err(UnnumberedError::OutOfMemory) => Err(LineError::OutOfMemory),
+        Err(UnnumberedError::Refused(why)) => Err(LineError::BadLine(BadLine {
+            line: number,
+            why,
+        })),
     }
 }
 
@@ -41,15 +44,15 @@ fn read_numbered(
     text: &[u8],
     number: u64,
     state: &ScriptState<'_>,
-) -> Result<Option<Line>, ReadError>
+) -> Result<Option<Line>, UnnumberedError>
     ensures exact { Gives result (line_of number text.now (state_of state.now)) }
     ensures within { IfOk result (SaysWithin (state_of state.now)) }
 {
     if number > LINES {
-        return Err(ReadError::Refused(Why::Lines));
+        return Err(UnnumberedError::Refused(LineFault::Lines));
     }
     if text.len() > LINE_BYTES {
-        return Err(ReadError::Refused(Why::TooLong));
+        return Err(UnnumberedError::Refused(LineFault::TooLong));
     }
     read_unnumbered(alloc, text, state)
 }
@@ -60,12 +63,12 @@ pub fn read_unnumbered(
     alloc: Global,
     text: &[u8],
     state: &ScriptState<'_>,
-) -> Result<Option<Line>, ReadError>
+) -> Result<Option<Line>, UnnumberedError>
     ensures exact { Gives result (unnumbered_line text.now (state_of state.now)) }
     ensures within { IfOk result (SaysWithin (state_of state.now)) }
 {
     if !is_text(text) {
-        return Err(ReadError::Refused(Why::Char));
+        return Err(UnnumberedError::Refused(LineFault::Char));
     }
     if is_skipped(text) {
         return Ok(None);
@@ -92,7 +95,7 @@ fn is_skipped(text: &[u8]) -> bool
 
 // A line that begins with its first word.
 #[tactic(auto, unfolding(crate::specs::Line::kind_line))]
-fn read_worded(alloc: Global, text: &[u8], state: &ScriptState<'_>) -> Result<Line, ReadError>
+fn read_worded(alloc: Global, text: &[u8], state: &ScriptState<'_>) -> Result<Line, UnnumberedError>
     ensures exact { Gives result (worded_line (state_of state.now) (fields_of text.now)) }
     ensures within { IfOk result (IsWithin (state_of state.now)) }
 {
@@ -118,12 +121,16 @@ fn read_worded(alloc: Global, text: &[u8], state: &ScriptState<'_>) -> Result<Li
     if word == b"clock".as_slice() {
         return read_clock(fields);
     }
-    Err(ReadError::Refused(Why::Word))
+    Err(UnnumberedError::Refused(LineFault::Word))
 }
 
 // The field of `zone NAME`.
 #[tactic(auto, unfolding(crate::specs::Line::zone_line))]
-fn read_zone(alloc: Global, fields: Left<'_>, state: &ScriptState<'_>) -> Result<Line, ReadError>
+fn read_zone(
+    alloc: Global,
+    fields: Left<'_>,
+    state: &ScriptState<'_>,
+) -> Result<Line, UnnumberedError>
     ensures exact { Gives result (zone_line (state_of state.now) (fields_left fields.entry)) }
     ensures within { IfOk result (IsWithin (state_of state.now)) }
 {
@@ -139,7 +146,7 @@ fn read_transfer(
     alloc: Global,
     fields: Left<'_>,
     state: &ScriptState<'_>,
-) -> Result<Line, ReadError>
+) -> Result<Line, UnnumberedError>
     ensures exact { Gives result (transfer_line (state_of state.now) (fields_left fields.entry)) }
     ensures within { IfOk result (IsWithin (state_of state.now)) }
 {
@@ -151,7 +158,7 @@ fn read_transfer(
 
 // The field of `full Z`.
 #[tactic(auto, unfolding(crate::specs::Line::full_line))]
-fn read_full(fields: Left<'_>, state: &ScriptState<'_>) -> Result<Line, ReadError>
+fn read_full(fields: Left<'_>, state: &ScriptState<'_>) -> Result<Line, UnnumberedError>
     ensures exact { Gives result (full_line (state_of state.now) (fields_left fields.entry)) }
     ensures within { IfOk result (IsWithin (state_of state.now)) }
 {
@@ -162,7 +169,11 @@ fn read_full(fields: Left<'_>, state: &ScriptState<'_>) -> Result<Line, ReadErro
 
 // The fields of `query W udp|tcp ADDR HEX`.
 #[tactic(auto, unfolding(crate::specs::Line::query_line))]
-fn read_query(alloc: Global, fields: Left<'_>, state: &ScriptState<'_>) -> Result<Line, ReadError>
+fn read_query(
+    alloc: Global,
+    fields: Left<'_>,
+    state: &ScriptState<'_>,
+) -> Result<Line, UnnumberedError>
     ensures exact { Gives result (query_line (state_of state.now) (fields_left fields.entry)) }
     ensures within { IfOk result (IsWithin (state_of state.now)) }
 {
@@ -172,7 +183,7 @@ fn read_query(alloc: Global, fields: Left<'_>, state: &ScriptState<'_>) -> Resul
     let client = address(source)?;
     let message = message(alloc, text)?;
     if state.is_pending(worker) {
-        return Err(ReadError::Refused(Why::Busy));
+        return Err(UnnumberedError::Refused(LineFault::Busy));
     }
     Ok(Line::Query {
         worker,
@@ -184,7 +195,11 @@ fn read_query(alloc: Global, fields: Left<'_>, state: &ScriptState<'_>) -> Resul
 
 // The fields of `give W HEX`.
 #[tactic(auto, unfolding(crate::specs::Line::give_line))]
-fn read_give(alloc: Global, fields: Left<'_>, state: &ScriptState<'_>) -> Result<Line, ReadError>
+fn read_give(
+    alloc: Global,
+    fields: Left<'_>,
+    state: &ScriptState<'_>,
+) -> Result<Line, UnnumberedError>
     ensures exact { Gives result (give_line (state_of state.now) (fields_left fields.entry)) }
     ensures within { IfOk result (IsWithin (state_of state.now)) }
 {
@@ -192,28 +207,28 @@ fn read_give(alloc: Global, fields: Left<'_>, state: &ScriptState<'_>) -> Result
     let worker = worker(digits)?;
     let message = message(alloc, text)?;
     if !state.is_pending(worker) {
-        return Err(ReadError::Refused(Why::Idle));
+        return Err(UnnumberedError::Refused(LineFault::Idle));
     }
     Ok(Line::Give { worker, message })
 }
 
 // The field of `fail W`.
 #[tactic(auto, unfolding(crate::specs::Line::fail_line))]
-fn read_fail(fields: Left<'_>, state: &ScriptState<'_>) -> Result<Line, ReadError>
+fn read_fail(fields: Left<'_>, state: &ScriptState<'_>) -> Result<Line, UnnumberedError>
     ensures exact { Gives result (fail_line (state_of state.now) (fields_left fields.entry)) }
     ensures within { IfOk result (IsWithin (state_of state.now)) }
 {
     let digits = one_field(fields)?;
     let worker = worker(digits)?;
     if !state.is_pending(worker) {
-        return Err(ReadError::Refused(Why::Idle));
+        return Err(UnnumberedError::Refused(LineFault::Idle));
     }
     Ok(Line::Fail { worker })
 }
 
 // The field of `clock SECONDS`.
 #[tactic(auto, unfolding(crate::specs::Line::clock_line))]
-fn read_clock(fields: Left<'_>) -> Result<Line, ReadError>
+fn read_clock(fields: Left<'_>) -> Result<Line, UnnumberedError>
     ensures exact { Gives result (clock_line (fields_left fields.entry)) }
     ensures within { (state : PlainState) → IfOk result (IsWithin state) }
 {

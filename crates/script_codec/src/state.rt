@@ -1,11 +1,11 @@
-//! What a line is read by.
+//! The state that a line is read in.
 
 ghost use Rattle.std.specs.Prelude.{◌≡◌, false, slice_index_or, IfOk};
 ghost use Rattle.script_codec.specs.State.{opening, state_of, zone_count as zones_in, is_pending as is_pending_in, opens as opens_in};
 ghost use Rattle.script_codec.specs.Within.{MayOpen};
 
+use crate::line_fault::LineFault;
 use crate::names::Names;
-use crate::why::Why;
 use dns_name::Name;
 use zone_rows::ZONE_LIMIT;
 
@@ -20,7 +20,7 @@ pub enum ScriptState<'a> {
         /// The origins of the zones that were opened, the first of them zone 1.
         origins: &'a Names,
     },
-    /// Other lines stood.
+    /// There were other lines.
     Running {
         /// How many zones there are.
         zones: usize,
@@ -52,28 +52,28 @@ impl ScriptState<'_> {
 
     // Whether a zone of this origin may be opened.
     #[tactic(auto, unfolding(crate::specs::State::opens))]
-    pub(crate) fn opens(&self, origin: &Name) -> Result<(), Why>
+    pub(crate) fn opens(&self, origin: &Name) -> Result<(), LineFault>
         ensures exact { result ≡ opens_in (state_of self.now) origin.now }
         ensures within { IfOk result (λ _. MayOpen (state_of self.now) origin.now) }
     {
         match self {
             ScriptState::Opening { origins } => admits(origins, origin),
-            ScriptState::Running { .. } => Err(Why::Late),
+            ScriptState::Running { .. } => Err(LineFault::Late),
         }
     }
 }
 
 // Whether a zone of this origin may be opened beside these.
 #[tactic(auto, unfolding(crate::specs::State::opens))]
-fn admits(origins: &Names, origin: &Name) -> Result<(), Why>
+fn admits(origins: &Names, origin: &Name) -> Result<(), LineFault>
     ensures exact { result ≡ opens_in (opening origins.now) origin.now }
     ensures within { IfOk result (λ _. MayOpen (opening origins.now) origin.now) }
 {
     if origins.len() >= ZONE_LIMIT {
-        return Err(Why::Many);
+        return Err(LineFault::Many);
     }
     if origins.contains(origin) {
-        return Err(Why::Repeated);
+        return Err(LineFault::Repeated);
     }
     Ok(())
 }

@@ -7,8 +7,8 @@ use Rattle.edge_io.specs.Edge.{prepended, appended, IsAtEnd}
 use Rattle.script_loop.proofs.Moving.{prepended-prepended, prepended-nil, appended-appended, appended-nil}
 use Rattle.script_loop.specs.declared.replay.Stop.{Stop}
 use Rattle.script_loop.specs.declared.replay.Stop.TheVariants.{BadLine, ReadFault, WriteFault, OutOfMemory}
-use Rattle.script_loop.specs.declared.reader.ReadError.{ReadError}
-use Rattle.script_loop.specs.declared.reader.ReadError.TheVariants.{ReadFault as Fault, OutOfMemory as Memory}
+use Rattle.script_loop.specs.declared.reader.SourceError.{SourceError}
+use Rattle.script_loop.specs.declared.reader.SourceError.TheVariants.{ReadFault as Fault, OutOfMemory as Memory}
 use Rattle.script_loop.specs.Reader.{Reads}
 use Rattle.script_loop.specs.Lines.{NoFeed, lines_of, whole_lines}
 use Rattle.script_loop.specs.Fold.{Run, run_of, line_outcome, why_unread, transcript, verdict}
@@ -220,13 +220,13 @@ module _ {M W : Type 0} {too_many too_long : W} {step : M → List ℕ → Resul
       ∙ run_of-refused too_many too_long step here found.line found.lines (why_unread too_many too_long here.0) (line_outcome-long too_many too_long step here found.line (omega (arith, found.longer, long))))
 
   -- the source failed, or memory ran out, while a line was read
-  pub stopped_reading : (last : M) (error : ReadError) (stop : Stop W) (line buffer_next : List ℕ) (left : Option (List ℕ)) → NoFeed line → StopsAt error stop → Reads (Err error) (prepended buffer left_now) line buffer_next left
+  pub stopped_reading : (last : M) (error : SourceError) (stop : Stop W) (line buffer_next : List ℕ) (left : Option (List ℕ)) → NoFeed line → StopsAt error stop → Reads (Err error) (prepended buffer left_now) line buffer_next left
       → Ends too_many too_long step (Err stop) first last left_before left out_before out_now
   stopped_reading last Fault stop line buffer_next left no_feed is came =
       subst (λ (s : Stop W). Ends too_many too_long step (Err s) first last left_before left out_before out_now) (sym is) (ends_fault last line left out_now no_feed came refl)
   stopped_reading last Memory stop line buffer_next left no_feed is came = subst (λ (s : Stop W). Ends too_many too_long step (Err s) first last left_before left out_before out_now) (sym is) tt
 
-  pub stopped_prefix : (error : ReadError) (line buffer_next : List ℕ) (left : Option (List ℕ)) → Reads (Err error) (prepended buffer left_now) line buffer_next left → Moves left_before left out_before out_now (BeginsTranscript too_many too_long step first)
+  pub stopped_prefix : (error : SourceError) (line buffer_next : List ℕ) (left : Option (List ℕ)) → Reads (Err error) (prepended buffer left_now) line buffer_next left → Moves left_before left out_before out_now (BeginsTranscript too_many too_long step first)
   stopped_prefix Fault line buffer_next left came = begins_same line left out_now came refl
   stopped_prefix Memory line buffer_next left came = begins_same (line ++ buffer_next) left out_now came refl
 
@@ -264,7 +264,7 @@ module _ {M W : Type 0} {too_many too_long : W} {step : M → List ℕ → Resul
       subst (λ (n : ℕ). ReadsNoFurther n left_before left) (sym (bad_is here.0 other bad why is)) (read_no_further line chunk left no_feed fits came)
 
   -- no line is refused where none could be read
-  pub stopped_no_further : (error : ReadError) (stop : Stop W) (bad : ℕ) (why : W) (left : Option (List ℕ)) → StopsAt error stop → stop_of stop ≡ stop_of (BadLine bad why) → ReadsNoFurther bad left_before left
+  pub stopped_no_further : (error : SourceError) (stop : Stop W) (bad : ℕ) (why : W) (left : Option (List ℕ)) → StopsAt error stop → stop_of stop ≡ stop_of (BadLine bad why) → ReadsNoFurther bad left_before left
   stopped_no_further Fault stop bad why left is answers = absurd cc
   stopped_no_further Memory stop bad why left is answers = absurd cc
 

@@ -3,8 +3,8 @@ use Rattle.std.specs.Prelude.{◌≡◌, ℕ, ◌+◌, ◌<◌, ◌≤◌, ◌�
 use Rattle.edge_io.specs.Edge.{prepended, appended}
 use Rattle.script_loop.specs.declared.machine.AnswerError.{AnswerError}
 use Rattle.script_loop.specs.declared.machine.AnswerError.TheVariants.{Refused, OutOfMemory as NoMemory}
-use Rattle.script_loop.specs.declared.reader.ReadError.{ReadError}
-use Rattle.script_loop.specs.declared.reader.ReadError.TheVariants.{ReadFault as Fault, OutOfMemory as Memory}
+use Rattle.script_loop.specs.declared.reader.SourceError.{SourceError}
+use Rattle.script_loop.specs.declared.reader.SourceError.TheVariants.{ReadFault as Fault, OutOfMemory as Memory}
 use Rattle.script_loop.specs.declared.limits.TheConstants.{CHUNK}
 use Rattle.script_loop.specs.declared.replay.Stop.{Stop}
 use Rattle.script_loop.specs.declared.replay.Stop.TheVariants.{BadLine, ReadFault, WriteFault, OutOfMemory}
@@ -21,7 +21,7 @@ Steps gives (Err NoMemory) new reply = ⊤
 abbrev pub IsPrefix : List ℕ → List ℕ → Type 0
 IsPrefix first all = (rest : List ℕ) × (all ≡ first ++ rest)
 
--- These bytes were read, those were written, and they have P.
+-- Where both are known: these bytes were read and those written, and P holds of them.
 pub record Moves (left_before left_after out_before out_after : Option (List ℕ)) (P : List ℕ → List ℕ → Type 0) : Type 0 where
   pub read : List ℕ
   pub written : List ℕ
@@ -46,11 +46,11 @@ Blames OutOfMemory source sink = ⊤
 Blames (BadLine line why) source sink = ⊤
 
 -- what stops a script where no line can be read
-abbrev pub StopsAt : {W : Type 0} → ReadError → Stop W → Type 0
+abbrev pub StopsAt : {W : Type 0} → SourceError → Stop W → Type 0
 StopsAt Fault stop = stop ≡ ReadFault
 StopsAt Memory stop = stop ≡ OutOfMemory
 
--- the error is the sink's only where this holds
+-- the error blames the sink only where this holds
 abbrev pub BlamesSink : {W : Type 0} → Stop W → Type 0 → Type 0
 BlamesSink WriteFault blame = blame
 BlamesSink OutOfMemory blame = ⊤

@@ -9,5 +9,5 @@ pub mod replay;
 
 pub use limits::{CHUNK, LINE_BYTES, LINES};
 pub use machine::{AnswerError, Machine};
-pub use reader::{LineReader, Next, ReadError};
+pub use reader::{LineReader, Next, SourceError};
 pub use replay::Stop;

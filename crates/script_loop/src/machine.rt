@@ -34,23 +34,23 @@ impl<W, T: Drop> From<AllocFailed<T>> for AnswerError<W> {
 /// What answers the lines of a script.
 pub trait Machine {
     /// Why a line is refused.
-    type Why: Drop;
+    type Cause: Drop;
 
     /// The machine after a line and what the line outputs, or why it is refused.
-    ghost step: { Self → List ℕ → Result (Self × List ℕ) Self.Why };
+    ghost step: { Self → List ℕ → Result (Self × List ℕ) Self.Cause };
 
     /// Why a line past the last that a script may have is refused.
-    ghost too_many: { Self.Why };
+    ghost too_many: { Self.Cause };
 
     /// Why a line that is longer than a line may be is refused.
-    ghost too_long: { Self.Why };
+    ghost too_long: { Self.Cause };
 
     /// Why a line past line 4,294,967,295 is refused.
-    fn too_many() -> Self::Why
+    fn too_many() -> Self::Cause
         ensures { result ≡ too_many };
 
     /// Why a line of more than 200,000 bytes is refused.
-    fn too_long() -> Self::Why
+    fn too_long() -> Self::Cause
         ensures { result ≡ too_long };
 
     /// Answers a line, which comes without its line feed. After an error the machine isn't used
@@ -60,7 +60,7 @@ pub trait Machine {
         alloc: Global,
         line: &[u8],
         reply: &mut Vec<u8>,
-    ) -> Result<(), AnswerError<Self::Why>>
+    ) -> Result<(), AnswerError<Self::Cause>>
         requires { reply.old.items ≡ [] }
         ensures { Steps (step self.old line.now) result self.new reply.new.items };
 }

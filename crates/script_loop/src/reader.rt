@@ -3,7 +3,7 @@
 ghost use Rattle.std.specs.Prelude.{◌≡◌, ◌+◌, ◌-◌, ◌≤◌, ◌<◌, ℕ, List, [], ◌∷◌, ◌++◌, length, take, drop, Ok, Err, OnErr, IfOk, IfErr, MatchOption, MatchBool, true, IsTrue, ◌↔◌};
 ghost use Rattle.edge_io.specs.Edge.{prepended, IsAtEnd, Rose};
 ghost use Rattle.script_loop.specs.declared.limits.TheConstants.{CHUNK};
-ghost use Rattle.script_loop.specs.declared.reader.ReadError.TheVariants.{ReadFault, OutOfMemory};
+ghost use Rattle.script_loop.specs.declared.reader.SourceError.TheVariants.{ReadFault, OutOfMemory};
 ghost use Rattle.script_loop.specs.Lines.{NoFeed};
 ghost use Rattle.script_loop.specs.Reader.{TakesLine, TakesAll, Reads, BlamesSource};
 
@@ -25,26 +25,26 @@ pub enum Next {
 
 /// Why no line was read.
 #[derive(Clone, Copy, Debug, PartialEq, Eq)]
-pub enum ReadError {
+pub enum SourceError {
     /// A read has failed.
     ReadFault,
     /// There is no memory for the line.
     OutOfMemory,
 }
 
-impl From<Failed> for ReadError {
+impl From<Failed> for SourceError {
     ghost from_gives = { λ _ e. e ≡ ReadFault };
 
     fn from(_: Failed) -> Self {
-        ReadError::ReadFault
+        SourceError::ReadFault
     }
 }
 
-impl From<AllocError> for ReadError {
+impl From<AllocError> for SourceError {
     ghost from_gives = { λ _ e. e ≡ OutOfMemory };
 
     fn from(_: AllocError) -> Self {
-        ReadError::OutOfMemory
+        SourceError::OutOfMemory
     }
 }
 
@@ -134,7 +134,11 @@ impl LineReader {
 
     /// Reads the next line. Once more than 200,000 of its bytes were read it is `Cut`, and `line`
     /// has those, at most 208,192. After an error `line` has the first bytes of the line.
-    pub fn next<S: Source>(&mut self, source: &mut S, line: &mut Vec<u8>) -> Result<Next, ReadError>
+    pub fn next<S: Source>(
+        &mut self,
+        source: &mut S,
+        line: &mut Vec<u8>,
+    ) -> Result<Next, SourceError>
         ensures reads { Reads result (prepended self.old (S.left source.old)) line.new.items
             self.new (S.left source.new) }
         ensures fault { IfErr result (λ stop. BlamesSource stop

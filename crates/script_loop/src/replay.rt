@@ -7,7 +7,7 @@ ghost use Rattle.script_loop.specs.Replay.{Moves, Answers, BeginsTranscript, End
 
 use crate::limits::{LINE_BYTES, LINES};
 use crate::machine::{AnswerError, Machine};
-use crate::reader::{LineReader, Next, ReadError};
+use crate::reader::{LineReader, Next, SourceError};
 use edge_io::{Sink, SinkError, Source, write_all};
 use std::alloc::Global;
 
@@ -24,13 +24,13 @@ pub enum Stop<W> {
     OutOfMemory,
 }
 
-impl<W> From<ReadError> for Stop<W> {
+impl<W> From<SourceError> for Stop<W> {
     ghost from_gives = { λ error stop. StopsAt error stop };
 
-    fn from(error: ReadError) -> Self {
+    fn from(error: SourceError) -> Self {
         match error {
-            ReadError::ReadFault => Stop::ReadFault,
-            ReadError::OutOfMemory => Stop::OutOfMemory,
+            SourceError::ReadFault => Stop::ReadFault,
+            SourceError::OutOfMemory => Stop::OutOfMemory,
         }
     }
 }
@@ -48,13 +48,13 @@ pub fn replay<M: Machine, S: Source, K: Sink>(
     machine: &mut M,
     script: &mut S,
     out: &mut K,
-) -> Result<(), Stop<M::Why>>
+) -> Result<(), Stop<M::Cause>>
     // What it reads and writes, by how it ends.
     ensures ends { Ends M.too_many M.too_long M.step result machine.old machine.new
         (S.left script.old) (S.left script.new) (K.held out.old) (K.held out.new) }
 
     // Where a line is refused, no more was read than the chunk in which it ends.
-    ensures no_further { (line : ℕ) (why : M.Why) → result ≡ Err (Stop.BadLine line why) →
+    ensures no_further { (line : ℕ) (why : M.Cause) → result ≡ Err (Stop.BadLine line why) →
         ReadsNoFurther line (S.left script.old) (S.left script.new) }
 
     // However it ends, what was written begins the transcript of what was read.
@@ -91,7 +91,7 @@ fn answer<M: Machine, K: Sink>(
     line: &[u8],
     reply: &mut Vec<u8>,
     out: &mut K,
-) -> Result<(), Stop<M::Why>>
+) -> Result<(), Stop<M::Cause>>
     ensures answers { Answers M.too_many M.too_long M.step result number machine.old line.now
         machine.new (K.held out.old) (K.held out.new) }
     ensures fault { IfErr result (λ stop. BlamesSink stop
@@ -115,7 +115,7 @@ fn answer<M: Machine, K: Sink>(
 }
 
 // Refuses a line whatever it says, for its number or else for its length.
-fn refused_unread<M: Machine>(number: u64) -> Stop<M::Why>
+fn refused_unread<M: Machine>(number: u64) -> Stop<M::Cause>
     ensures { result ≡ Stop.BadLine number (why_unread M.too_many M.too_long number) }
 {
     let why = if number > LINES {

@@ -1,4 +1,4 @@
--- What the code tells apart, in the words of the definitions.
+-- What the code distinguishes, as values of the definitions.
 use Rattle.std.specs.Prelude.{ℕ, Bool, false, List, [], ◌∷◌}
 use Rattle.trigger_codec.specs.declared.marker.Marker.{Marker as Told}
 use Rattle.trigger_codec.specs.declared.marker.Marker.TheVariants.{ClientIp, ResponseIp, NsIp, NsDname, Unknown, Plain}

@@ -10,11 +10,11 @@ use ip_prefix::Prefix;
 pub enum Trigger {
     /// The address of the client is in the prefix (section 4.1).
     ClientIp(Prefix),
-    /// The name that is asked for is of the pattern (section 4.2).
+    /// The pattern matches the name that is asked for (section 4.2).
     Qname(Pattern),
     /// An address of the answer is in the prefix (section 4.3).
     ResponseIp(Prefix),
-    /// The name of a name server of the answer is of the pattern (section 4.4).
+    /// The pattern matches the name of a name server of the answer (section 4.4).
     NsDname(Pattern),
     /// The address of a name server of the answer is in the prefix (section 4.5).
     NsIp(Prefix),

@@ -6,7 +6,7 @@ use Rattle.dns_message.specs.declared.question.Question.{Question}
 use Rattle.dns_message.specs.Reading.{message_of}
 use Rattle.upstream_link.specs.declared.fact.Fact.{Fact}
 use Rattle.upstream_link.specs.declared.fact.Fact.TheVariants.{Answer, Broken}
-use Rattle.upstream_link.specs.declared.fact.Why.TheVariants.{Failed, Unusable, Rcode}
+use Rattle.upstream_link.specs.declared.fact.AnswerFault.TheVariants.{Failed, Unusable, Rcode}
 use Rattle.upstream_link.specs.Fact.{answer_in, answers_to, fact_by, fact_from, fact_in, is_answer_rcode, is_failed}
 use Rattle.upstream_link.specs.Life.{with_age}
 

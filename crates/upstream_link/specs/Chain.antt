@@ -69,5 +69,5 @@ chain question (Answer answer) =
     else chain_from CHAIN_LIMIT answer.answers (question.name ∷ []) question.name
 
 -- The aliases of these names that an answer shows.
-abbrev pub followed : List PlainRecord → List (List (List ℕ)) → List PlainRecord
-followed records names = flat_map (λ name. option_to_list (alias_of records name)) names
+abbrev pub chain_aliases : List PlainRecord → List (List (List ℕ)) → List PlainRecord
+chain_aliases records names = flat_map (λ name. option_to_list (alias_of records name)) names

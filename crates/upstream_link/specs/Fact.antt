@@ -10,7 +10,7 @@ use Rattle.dns_message.specs.Reading.{message_of}
 use Rattle.upstream_link.specs.Kept.{PlainAnswer}
 use Rattle.upstream_link.specs.declared.fact.Fact.{Fact}
 use Rattle.upstream_link.specs.declared.fact.Fact.TheVariants.{Answer, Broken}
-use Rattle.upstream_link.specs.declared.fact.Why.TheVariants.{Failed, Unusable, Rcode}
+use Rattle.upstream_link.specs.declared.fact.AnswerFault.TheVariants.{Failed, Unusable, Rcode}
 
 -- questions are alike; their names compare without case (RFC 1035, section 2.3.3)
 abbrev pub same_question : Question → Question → Bool
@@ -37,7 +37,7 @@ answer_in m = record { rcode = m.header.rcode; answers = filter (λ r. r.class =
 abbrev pub is_answer_rcode : ℕ → Bool
 is_answer_rcode rcode = rcode == 0 || rcode == 3
 
--- nothing came, not even what is no response
+-- no bytes came at all
 abbrev pub is_failed : Fact → Bool
 is_failed (Broken Failed) = true
 is_failed (Broken (Unusable octets)) = false

@@ -1,4 +1,4 @@
--- What is asked of the server.
+-- What is asked of the upstream.
 use Rattle.std.specs.Prelude.{ℕ, true, List, [], Some, None}
 use Rattle.dns_name.specs.Labels.{lowered}
 use Rattle.dns_message.specs.declared.message.Message.{Message}

@@ -17,12 +17,12 @@ abbrev pub plain_learned : Question → ℕ → List ℕ → ℕ → PlainLearne
 plain_learned question id bytes moment = record { question = question; id = id; bytes = bytes; moment = moment }
 
 -- what the bytes say
-abbrev pub told_by : PlainLearned → Fact
-told_by entry = fact_from entry.bytes entry.id entry.question
+abbrev pub entry_fact : PlainLearned → Fact
+entry_fact entry = fact_from entry.bytes entry.id entry.question
 
 -- for how many seconds that may be kept
 abbrev pub life : PlainLearned → ℕ
-life entry = life_of (told_by entry)
+life entry = life_of (entry_fact entry)
 
 -- It has come by now, and its life isn't over.
 abbrev pub live : ℕ → PlainLearned → Bool
@@ -30,9 +30,9 @@ live now entry = nat_le entry.moment now && nat_lt (now - entry.moment) (life en
 
 -- what it says now, at its age
 abbrev pub fact_at : ℕ → PlainLearned → Fact
-fact_at now entry = with_age (now - entry.moment) (told_by entry)
+fact_at now entry = with_age (now - entry.moment) (entry_fact entry)
 
--- it may be told now: it has come in this second, or is live
+-- it may be used now: it has come in this second, or is live
 abbrev pub Tells : ℕ → PlainLearned → Type 0
 Tells now entry = (entry.moment ≡ now) ⊎ (live now entry ≡ true)
 
@@ -40,7 +40,7 @@ Tells now entry = (entry.moment ≡ now) ⊎ (live now entry ≡ true)
 pub record IsGiven (gave : List ℕ → List ℕ → ℕ → Type 0) (entry : PlainLearned) (fact : Fact) : Type 0 where
   pub in_range : entry.id < 2 ^ 16
   pub given : gave (question_bytes entry.id entry.question) entry.bytes entry.moment
-  pub said : fact ≡ told_by entry
+  pub said : fact ≡ entry_fact entry
 
 -- A link of the kind gave some bytes for the question: these say the fact, at its age, and its life isn't over, unless they
 -- have come in this second.

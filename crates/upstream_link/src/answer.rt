@@ -32,7 +32,7 @@ struct Kept {
     alias: bool,
 }
 
-/// An answer of the server, and how many seconds have passed since it came: the rcode is 0 or 3, the records are of class IN,
+/// An answer of the upstream, and how many seconds have passed since it came: the rcode is 0 or 3, the records are of class IN,
 /// and the SOA is a SOA record. The records may be shared with other answers, of any age.
 #[derive(Debug, Drop)]
 pub struct Answer {

@@ -1,4 +1,4 @@
-//! Questions to the server.
+//! Questions to the upstream.
 
 ghost use Rattle.std.specs.Prelude.{◌≡◌, IfOk};
 ghost use Rattle.dns_message.specs.Spelling.{spelling};
@@ -9,7 +9,7 @@ use dns_name::Octets;
 use dns_record::class;
 use std::alloc::{AllocError, Global};
 
-/// What is asked of the server about a query: its own question.
+/// What is asked of the upstream about a query: its own question.
 pub fn main_question(query: &Query) -> Result<Question, AllocError>
     ensures { IfOk result (λ question. question ≡ question_about query.now) }
 {

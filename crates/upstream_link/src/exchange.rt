@@ -1,4 +1,4 @@
-//! A question to the server over a link.
+//! A question to the upstream over a link.
 
 ghost use Rattle.std.specs.Prelude.{◌≡◌, ◌≤◌, Ok, IfOk};
 ghost use Rattle.edge_io.specs.Edge.{Rose};
@@ -10,9 +10,9 @@ use dns_message::Question;
 use edge_io::{Link, LinkError};
 use std::alloc::{AllocError, Global};
 
-/// What came of a question.
+/// What asking a question gives.
 #[derive(Drop)]
-pub enum Asked<L: Link> {
+pub enum AskOutcome<L: Link> {
     Learned(Learned<L>),
     /// The link failed: its count of faults has risen in this call.
     Failed,
@@ -25,15 +25,15 @@ pub fn ask<L: Link>(
     id: u16,
     question: &Question,
     now: u32,
-) -> Result<Asked<L>, AllocError>
+) -> Result<AskOutcome<L>, AllocError>
     ensures learned { IfOk result (λ asked. IfLearned asked (AsksAt id question.now now)) }
-    ensures failed { result ≡ Ok Asked.Failed → Rose (L.faults link.old) (L.faults link.new) }
+    ensures failed { result ≡ Ok AskOutcome.Failed → Rose (L.faults link.old) (L.faults link.new) }
     ensures count { L.faults link.old ≤ L.faults link.new }
 {
     let sent = question_bytes(alloc, id, question)?;
     match link.exchange(alloc, sent.as_slice(), now) {
-        Ok(bytes) => Ok(Asked::Learned(Learned::given(alloc, id, question, &bytes, now)?)),
-        Err(LinkError::Failed) => Ok(Asked::Failed),
+        Ok(bytes) => Ok(AskOutcome::Learned(Learned::given(alloc, id, question, &bytes, now)?)),
+        Err(LinkError::Failed) => Ok(AskOutcome::Failed),
         Err(LinkError::OutOfMemory) => Err(AllocError),
     }
 }

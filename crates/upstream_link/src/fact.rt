@@ -1,11 +1,11 @@
-//! What is learned from the server.
+//! What is learned from the upstream.
 
 ghost use Rattle.std.specs.Prelude.{◌≡◌, option_copied, IfOk};
 ghost use Rattle.upstream_link.specs.Fact as form;
 ghost use Rattle.upstream_link.specs.Fact.{fact_from, fact_in};
 ghost use Rattle.upstream_link.specs.Life.{life_of, with_age};
 ghost use Rattle.upstream_link.specs.declared.fact.Fact.TheVariants as facts;
-ghost use Rattle.upstream_link.specs.declared.fact.Why.TheVariants as reasons;
+ghost use Rattle.upstream_link.specs.declared.fact.AnswerFault.TheVariants as reasons;
 
 use crate::answer::Answer;
 use dns_message::{Message, MessageError, Question, read_message};
@@ -17,7 +17,7 @@ use std::alloc::{AllocError, Global};
 pub enum Fact {
     Answer(Answer),
     /// There is no answer.
-    Broken(Why),
+    Broken(AnswerFault),
 }
 
 impl Fact {
@@ -45,25 +45,28 @@ impl Fact {
 
 /// Why there is no answer.
 #[derive(Debug, Drop)]
-pub enum Why {
-    /// Nothing came.
+pub enum AnswerFault {
+    /// No bytes came.
     Failed,
-    /// What came is no response to the question: it can't be read, its ID is another, QR is 0, the opcode
-    /// isn't 0, it is truncated, or its question is another.
+    /// The bytes that came are no response to the question: they can't be read, the ID is another, QR is 0, the opcode
+    /// isn't 0, TC is 1, or the question is another.
     Unusable(Octets),
     /// The response has this rcode, which is neither 0 nor 3.
     Rcode(u8),
 }
 
-impl Why {
+impl AnswerFault {
     // The same reason.
     fn copied(&self, alloc: Global) -> Result<Self, AllocError>
         ensures { IfOk result (λ why. why ≡ self.now) }
     {
         match self {
-            Why::Failed => Ok(Why::Failed),
-            Why::Unusable(bytes) => Ok(Why::Unusable(Octets::from_slice(alloc, bytes.as_slice())?)),
-            Why::Rcode(rcode) => Ok(Why::Rcode(*rcode)),
+            AnswerFault::Failed => Ok(AnswerFault::Failed),
+            AnswerFault::Unusable(bytes) => Ok(AnswerFault::Unusable(Octets::from_slice(
+                alloc,
+                bytes.as_slice(),
+            )?)),
+            AnswerFault::Rcode(rcode) => Ok(AnswerFault::Rcode(*rcode)),
         }
     }
 }
@@ -105,7 +108,7 @@ fn fact_of_message(alloc: Global, message: Message) -> Result<Fact, AllocError>
     if rcode == 0 || rcode == 3 {
         Ok(Fact::Answer(Answer::of(alloc, message)?))
     } else {
-        Ok(Fact::Broken(Why::Rcode(rcode)))
+        Ok(Fact::Broken(AnswerFault::Rcode(rcode)))
     }
 }
 
@@ -133,9 +136,9 @@ pub fn fact_of(
     }
 }
 
-// What came is no response to the question.
+// The bytes that came are no response to the question.
 fn unusable(alloc: Global, bytes: &[u8]) -> Result<Fact, AllocError>
     ensures { IfOk result (λ fact. fact ≡ facts.Broken (reasons.Unusable bytes.now)) }
 {
-    Ok(Fact::Broken(Why::Unusable(Octets::from_slice(alloc, bytes)?)))
+    Ok(Fact::Broken(AnswerFault::Unusable(Octets::from_slice(alloc, bytes)?)))
 }

@@ -1,4 +1,4 @@
-//! What is known of several questions.
+//! The facts that are known, each for its question.
 
 ghost use Rattle.std.specs.Prelude.{◌≡◌, ◌↔◌, ◌<◌, ◌≤◌, ℕ, List, [], ◌∷◌, ◌++◌, length, take, option_copied, None, Some, false, IsSome, IfSome, MatchOption, OnOk, IfErr};
 ghost use Rattle.std.specs.List.{list_any};

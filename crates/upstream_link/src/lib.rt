@@ -1,4 +1,4 @@
-//! What is asked of the upstream, and what is learned from it.
+//! Questions to the upstream, and the facts that are learned from its answers.
 #![tactic(auto)]
 
 mod addresses;
@@ -19,8 +19,8 @@ mod server_lists;
 pub use aliases::{CHAIN_LIMIT, alias_of, asks_alias, chain};
 pub use answer::Answer;
 pub use asking::{main_question, question_bytes};
-pub use exchange::{Asked, ask};
-pub use fact::{Fact, Why, fact_of};
+pub use exchange::{AskOutcome, ask};
+pub use fact::{AnswerFault, Fact, fact_of};
 pub use facts::{FACT_LIMIT, Facts};
 pub use learned::Learned;
 pub use life::LIFE_LIMIT;

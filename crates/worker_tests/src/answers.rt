@@ -29,7 +29,7 @@ pub const FRESH: &[u8] =
 const AGED: &[u8] =
     b"\x12\x35\x81\x80\0\x01\0\x01\0\0\0\0\x01x\x07example\0\0\x01\0\x01\x01x\x07example\0\0\x01\0\x01\0\0\0\x01\0\x04\xc0\0\x02\x09";
 
-// The bytes that the worker says to the query at a second.
+// The bytes of the worker's reply to the query at a given second.
 fn said<N: StoreName>(
     alloc: Global,
     worker: &mut ListWorker<N, NoGate>,

@@ -74,8 +74,8 @@ fn look<N: StoreName>(alloc: Global, reader: &mut PolicyReader<N>) -> (u64, bool
     }
 }
 
-// Learns what it is told, and takes a version behind each list: how often that stood for fewer publications than the list had, or
-// than the version before; how many the last one stood for, and whether it had the rule.
+// Learns what it is told, and takes a version after each list: counts how often it is of fewer publications than the list has, or
+// than the version before; and says of how many the last one is, and whether it has the rule.
 fn follow<N: StoreName, R: Wait>(
     rt: &R,
     alloc: Global,

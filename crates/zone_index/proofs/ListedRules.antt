@@ -20,7 +20,7 @@ use Rattle.action_codec.specs.Action.{action_by}
 use Rattle.action_codec.specs.declared.action.Action.{Action}
 use Rattle.zone_index.specs.Kinds.{PlainRules}
 use Rattle.zone_index.specs.Laws.{AreNamed, IsInOrder, rule_at}
-use Rattle.zone_index.specs.Listed.{is_of, is_same, listed, row_rule, rows_of, rule_if, with_triggers, zone_rules}
+use Rattle.zone_index.specs.Listed.{is_of, is_same, rules_by_kind, row_rule, rows_of, rule_if, with_triggers, zone_rules}
 use Rattle.zone_index.specs.Rules.{live_trigger, rules_of}
 use Rattle.zone_index.proofs.Entries.{at_itself}
 use Rattle.zone_index.proofs.Gathered.{rule_of_rows, rules_in_order}
@@ -132,7 +132,7 @@ abbrev pub from_queries : PlainRules → List (Trigger × Action)
 from_queries rules = queries rules ++ from_answers rules
 
 -- what the rules do at a trigger is in their list
-has_rule : (rules : PlainRules) (t : Trigger) (action : Action) → AreNamed rules → rule_at rules t ≡ Some action → HasRule t action (listed rules)
+has_rule : (rules : PlainRules) (t : Trigger) (action : Action) → AreNamed rules → rule_at rules t ≡ Some action → HasRule t action (rules_by_kind rules)
 has_rule rules (ClientIp p) action are h =
     let own = rule_entry prefix_order ClientIp p action rules.client_ip (λ k e. e) (λ f is. tt) h in
     rule_left (ClientIp p) action (clients rules) (from_queries rules) own
@@ -171,7 +171,7 @@ found_entry o kind rules es rule same is s h =
     let found : IsFound rules (keyed kind from.source) = record { at = same from.source.0 ∙ found_at o from.source es s from.is_in; is_trigger = is from.source from.is_in } in
     subst (IsFound rules) from.gives found
 
-is_found : (rules : PlainRules) (rule : Trigger × Action) → AreNamed rules → IsInOrder rules → IsIn rule (listed rules) → IsFound rules rule
+is_found : (rules : PlainRules) (rule : Trigger × Action) → AreNamed rules → IsInOrder rules → IsIn rule (rules_by_kind rules) → IsFound rules rule
 is_found rules rule are s h =
     elim (in_either rule (clients rules) (from_queries rules) h) [
       | inl k ↦ found_entry prefix_order_total ClientIp rules rules.client_ip rule (λ k. refl) (λ f is. tt) s.client_ip k
@@ -242,19 +242,19 @@ rule_named laws origin rows are rule h = trigger_of_rule laws origin rows rule a
 
 -- ---- both ways
 
-rule_listed : NameLaws → (origin : List (List ℕ)) (rows : List PlainRow) → All IsRow rows → (rule : Trigger × Action) → IsRule origin rows rule → IsIn rule (listed (rules_of origin rows))
+rule_listed : NameLaws → (origin : List (List ℕ)) (rows : List PlainRow) → All IsRow rows → (rule : Trigger × Action) → IsRule origin rows rule → IsIn rule (rules_by_kind (rules_of origin rows))
 rule_listed laws origin rows are rule r =
     let found = has_rule (rules_of origin rows) rule.0 rule.1 (rules_named laws origin rows are) (rule_of_rows origin rows rule.0 ∙ r.acts) in
     let trigger : found.rule.0 ≡ rule.0 = sym (equal_trigger laws rule.0 found.rule.0 (trigger_of_rule laws origin rows rule are r) found.is_trigger found.is_at_trigger) in
     let same : found.rule ≡ rule = λ i. (trigger i, found.has i) in
-    subst (λ (other : Trigger × Action). IsIn other (listed (rules_of origin rows))) same found.is_in
+    subst (λ (other : Trigger × Action). IsIn other (rules_by_kind (rules_of origin rows))) same found.is_in
 
 -- rows that do something are some
 some_row : (t : Trigger) (action : Action) (rows : List PlainRow) → action_by t rows ≡ Some action → (row : PlainRow) × Contains rows row
 some_row t action [] h = let none : None ≡ Some action = h in cc none
 some_row t action (row ∷ rows) h = (row, (0, omega arith, refl))
 
-listed_rule : NameLaws → (origin : List (List ℕ)) (rows : List PlainRow) → All IsRow rows → (rule : Trigger × Action) → IsIn rule (listed (rules_of origin rows)) → IsRule origin rows rule
+listed_rule : NameLaws → (origin : List (List ℕ)) (rows : List PlainRow) → All IsRow rows → (rule : Trigger × Action) → IsIn rule (rules_by_kind (rules_of origin rows)) → IsRule origin rows rule
 listed_rule laws origin rows are rule h =
     let found = is_found (rules_of origin rows) rule (rules_named laws origin rows are) (rules_in_order origin rows) h in
     let acts : action_by rule.0 (rows_of origin rows rule.0) ≡ Some rule.1 = sym (rule_of_rows origin rows rule.0) ∙ found.at in
@@ -269,8 +269,8 @@ listed_rule laws origin rows are rule h =
       acts = acts;
     }
 
-pub rules_listed : NameLaws → (origin : List (List ℕ)) (rows : List PlainRow) → All IsRow rows → (rule : Trigger × Action) → Contains (zone_rules origin rows) rule ↔ Contains (listed (rules_of origin rows)) rule
+pub rules_listed : NameLaws → (origin : List (List ℕ)) (rows : List PlainRow) → All IsRow rows → (rule : Trigger × Action) → Contains (zone_rules origin rows) rule ↔ Contains (rules_by_kind (rules_of origin rows)) rule
 rules_listed laws origin rows are rule = (
-  λ h. contained_in rule (listed (rules_of origin rows)) (rule_listed laws origin rows are rule (is_rule origin rows rule (in_contained rule (zone_rules origin rows) h))),
-  λ h. contained_in rule (zone_rules origin rows) (in_rules origin rows rule (listed_rule laws origin rows are rule (in_contained rule (listed (rules_of origin rows)) h))),
+  λ h. contained_in rule (rules_by_kind (rules_of origin rows)) (rule_listed laws origin rows are rule (is_rule origin rows rule (in_contained rule (zone_rules origin rows) h))),
+  λ h. contained_in rule (zone_rules origin rows) (in_rules origin rows rule (listed_rule laws origin rows are rule (in_contained rule (rules_by_kind (rules_of origin rows)) h))),
 )

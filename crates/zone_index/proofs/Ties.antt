@@ -22,7 +22,7 @@ use Rattle.trigger_codec.specs.declared.trigger.Trigger.TheVariants.{ClientIp, Q
 use Rattle.dns_record.specs.Row.{PlainRow}
 use Rattle.action_codec.specs.Action.{is_live_type}
 use Rattle.zone_index.specs.Listed.{is_same, is_of}
-use Rattle.zone_index.specs.Rules.{named, live_trigger}
+use Rattle.zone_index.specs.Rules.{some_trigger, live_trigger}
 use Rattle.zone_index.proofs.Entries.{tied_if, at_itself}
 use Rattle.zone_index.proofs.SameAction.{pattern_order_total, tied_patterns}
 
@@ -110,7 +110,7 @@ named_trigger : NameLaws → (owner origin : List (List ℕ)) → IsName owner �
 unfolding trigger
 named_trigger laws owner origin h = named_within (ends_with owner origin) (labels_trigger (labels_before owner origin)) _ (named_labels laws (labels_before owner origin) (IsName-take owner (length owner - length origin) h))
 
-named_some : (outcome : Result Trigger Inert) → GivesTrigger outcome → IsTriggerIf (named outcome)
+named_some : (outcome : Result Trigger Inert) → GivesTrigger outcome → IsTriggerIf (some_trigger outcome)
 named_some (Ok t) h = h
 named_some (Err inert) h = tt
 
@@ -119,7 +119,7 @@ named_if true live h = h
 named_if false live h = tt
 
 pub named_live : NameLaws → (origin : List (List ℕ)) (row : PlainRow) → IsName row.owner → IsTriggerIf (live_trigger origin row)
-named_live laws origin row h = named_if (is_live_type row.rtype) (named (trigger row.owner origin)) (named_some (trigger row.owner origin) (named_trigger laws row.owner origin h))
+named_live laws origin row h = named_if (is_live_type row.rtype) (some_trigger (trigger row.owner origin)) (named_some (trigger row.owner origin) (named_trigger laws row.owner origin h))
 
 pub equal_live : NameLaws → (t : Trigger) (live : Option Trigger) → IsTrigger t → IsTriggerIf live → is_of t live ≡ true → live ≡ Some t
 equal_live laws t None is_t is_live h = absurd (true≢false (sym h))

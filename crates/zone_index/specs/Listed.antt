@@ -20,7 +20,7 @@ is_same (NsDname p) (NsDname q) = is_at (pattern_order p) q
 is_same (NsIp p) (NsIp q) = is_at (prefix_order p) q
 is_same t u = false
 
--- a row that is live with this trigger, if it is, is one of the trigger `t`
+-- whether a row with this trigger is one of the trigger `t`; `None` stands for a row that isn't live
 abbrev pub is_of : Trigger → Option Trigger → Bool
 is_of t None = false
 is_of t (Some u) = is_same t u
@@ -49,8 +49,8 @@ abbrev pub with_triggers : {K : Type 0} → (K → Trigger) → List (K × Actio
 with_triggers kind entries = map (λ e. (kind e.0, e.1)) entries
 
 -- the rules of an index as one list, kind by kind
-abbrev pub listed : PlainRules → List (Trigger × Action)
-listed rules =
+abbrev pub rules_by_kind : PlainRules → List (Trigger × Action)
+rules_by_kind rules =
     with_triggers ClientIp rules.client_ip
     ++ (with_triggers Qname rules.qname
     ++ (with_triggers ResponseIp rules.response_ip

@@ -15,13 +15,13 @@ use Rattle.action_codec.specs.Action.{is_live_type, action_for}
 use Rattle.action_codec.specs.declared.action.Action.{Action}
 use Rattle.zone_index.specs.Kinds.{PlainGroups, PlainRules}
 
-abbrev pub named : Result Trigger Inert → Option Trigger
-named (Ok t) = Some t
-named (Err inert) = None
+abbrev pub some_trigger : Result Trigger Inert → Option Trigger
+some_trigger (Ok t) = Some t
+some_trigger (Err inert) = None
 
 -- the trigger of a row that is live: its type makes rules, and its owner names a trigger
 abbrev pub live_trigger : List (List ℕ) → PlainRow → Option Trigger
-live_trigger origin row = if is_live_type row.rtype then named (trigger row.owner origin) else None
+live_trigger origin row = if is_live_type row.rtype then some_trigger (trigger row.owner origin) else None
 
 abbrev pub rows_in : Option (List PlainRow) → List PlainRow
 rows_in None = []

@@ -27,7 +27,7 @@ pub(crate) fn first_prefix(
     ensures prefix { result ≡ option_map (λ e. e.0) (first_of owner.now records.now rules.now) }
     ensures sorted { IsStrictlySortedBy prefix_order (keys_of rules.now) }
 {
-    // what its clause says is wanted here: that the rules stand in order
+    // called for its clause: the rules stand in order
     let _count = rules.len();
     let mut first = None;
     for rr in records {

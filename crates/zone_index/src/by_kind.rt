@@ -1,4 +1,4 @@
-//! One thing for each kind of trigger.
+//! One value for each kind of trigger.
 
 /// What there is for each kind of trigger, in order of precedence: a `P` for each kind whose triggers are
 /// prefixes, an `N` for each whose triggers are patterns of names.

@@ -9,7 +9,7 @@ ghost use Rattle.trigger_codec.specs.Bases.{IsTrigger};
 ghost use Rattle.trigger_codec.specs.declared.trigger.Trigger.{Trigger};
 ghost use Rattle.zone_index.specs.Kinds.{PlainRules};
 ghost use Rattle.zone_index.specs.Laws.{AreNamed, IsInOrder, rule_at};
-ghost use Rattle.zone_index.specs.Listed.{is_of, is_same, listed, rows_of, zone_rules};
+ghost use Rattle.zone_index.specs.Listed.{is_of, is_same, rules_by_kind, rows_of, zone_rules};
 ghost use Rattle.zone_index.specs.Rules.{live_trigger, rules_of};
 ghost use Rattle.dns_record.specs.Row.{IsRow, PlainRow};
 
@@ -61,7 +61,7 @@ pub fn the_order_of_a_zone_does_not_matter()
 pub fn an_index_has_the_rules_of_its_zone()
     ensures listed { (origin : List (List ℕ)) (rows : List PlainRow) → All IsRow rows →
         (rule : Trigger × Action) →
-        Contains (zone_rules origin rows) rule ↔ Contains (listed (rules_of origin rows)) rule }
+        Contains (zone_rules origin rows) rule ↔ Contains (rules_by_kind (rules_of origin rows)) rule }
     ensures by_trigger { (origin : List (List ℕ)) (rows : List PlainRow) → All IsRow rows →
         (t : Trigger) (a b : Action) → Contains (zone_rules origin rows) (t, a) →
         Contains (zone_rules origin rows) (t, b) → a ≡ b }

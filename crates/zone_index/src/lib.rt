@@ -10,7 +10,7 @@ pub mod laws;
 mod rules;
 mod zone;
 
-// A crate can name rules in a contract only if the types of their fields are exported.
+// Contracts of other crates can name the rules only if the types of their fields are exported, too.
 #[doc(hidden)]
 pub use by_kind::ByKind;
 pub use rules::Rules;

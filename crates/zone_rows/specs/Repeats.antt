@@ -1,4 +1,4 @@
--- Rows without those that come again.
+-- Rows without repeats.
 use Rattle.std.specs.Prelude.{◌≡◌, ℕ, Bool, if◌then◌else◌, List, [], ◌∷◌, ◌++◌, fold}
 use Rattle.std.specs.List.{list_any}
 use Rattle.std.specs.Str.{bytes_eq}
@@ -13,7 +13,7 @@ has_row rows row = list_any (λ other. bytes_eq (identity row) (identity other))
 abbrev pub with_row : List PlainRow → PlainRow → List PlainRow
 with_row rows row = if has_row rows row then rows else rows ++ row ∷ []
 
--- repeats taken out, the first of them kept
+-- rows without repeats: the first of each identity is kept
 unfoldable pub without_repeats : List PlainRow → List PlainRow
 without_repeats rows = fold with_row [] rows
 

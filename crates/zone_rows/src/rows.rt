@@ -56,7 +56,7 @@ impl Rows {
         ensures ok { OnOk result (self.new ≡ self.old ++ row ∷ []) }
         ensures err { OnErr result (self.new ≡ self.old) }
     {
-        // what its clause says is wanted here: that a row is one
+        // called for its clause: a row is one
         let _owner = row.owner();
         self.rows.push(row)?;
         Ok(())

@@ -1,5 +1,5 @@
 use Rattle.std.proofs.Common.{ap, sym, refl, ◌∷◌, ◌∙◌}
-use Rattle.axfr_apply.specs.Reading.{begins}
+use Rattle.axfr_apply.specs.Reading.{soa_block}
 use Rattle.axfr_apply.specs.Stepping.{step_of}
 use Rattle.axfr_apply.proofs.OpenSteps.{closed_behind, open_behind, step_and_soa}
 use Rattle.axfr_apply.proofs.SoaEnds.{no_fault}
@@ -24,10 +24,10 @@ returns c =
     let none = no_fault _ _ (rw c.to_serial-new.ensures at c.in_ok-check_behind_step.ensures) refl in
     elim c.if-new-newest.branch [
       | then-new-newest w ↦
-          (none, rw (w.form-is, c.in_ok-steps.ensures.steps) (ap (λ bs. begins c.args.soa ∷ bs) (step_and_soa c.args.step.before.steps step c.args.next)))
+          (none, rw (w.form-is, c.in_ok-steps.ensures.steps) (ap (λ bs. soa_block c.args.soa ∷ bs) (step_and_soa c.args.step.before.steps step c.args.next)))
       | else-new-newest w ↦ (
         none,
         rw (w.form-is, w.new-step.ensures, c.in_ok-steps.ensures.steps)
-            (ap (λ bs. begins c.args.soa ∷ bs) (step_and_soa c.args.step.before.steps step c.args.next)),
+            (ap (λ bs. soa_block c.args.soa ∷ bs) (step_and_soa c.args.step.before.steps step c.args.next)),
       )
     ]

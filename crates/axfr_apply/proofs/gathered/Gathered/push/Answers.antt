@@ -1,5 +1,5 @@
 use Rattle.std.proofs.Common.{refl, sym}
-use Rattle.axfr_apply.specs.Reading.{begins}
+use Rattle.axfr_apply.specs.Reading.{soa_block}
 use Rattle.axfr_apply.proofs.OpenSteps.{open_with_added, open_with_deleted}
 use Rattle.axfr_apply.proofs.StepBlocks.{row_behind_one, row_behind_two}
 use Rattle.axfr_apply.proofs.gathered.Gathered.push.Goals as goal
@@ -24,9 +24,9 @@ returns-clause-ok c = elim c.match-self.branch [
   | in-Deleting+in_ok-push-in-Deleting w ↦
       let step = w.in-Deleting.step in
       rw (w.self-inside-is, w.in_ok-push-in-Deleting.ensures.ok, ← c.self.view_is, w.in-Deleting.is)
-      (sym (row_behind_one (begins w.in-Deleting.soa) step.steps (record { soa = step.from; rows = step.deleted }) c.args.row))
+      (sym (row_behind_one (soa_block w.in-Deleting.soa) step.steps (record { soa = step.from; rows = step.deleted }) c.args.row))
   | in-Adding+in_ok-push-in-Adding w ↦
       let step = w.in-Adding.step in
       rw (w.self-inside-is, w.in_ok-push-in-Adding.ensures.ok, ← c.self.view_is, w.in-Adding.is)
-      (sym (row_behind_two (begins w.in-Adding.soa) step.before.steps _ (record { soa = step.to; rows = step.added }) c.args.row))
+      (sym (row_behind_two (soa_block w.in-Adding.soa) step.before.steps _ (record { soa = step.to; rows = step.added }) c.args.row))
 ]

@@ -1,9 +1,9 @@
 -- Why a line is refused, as text.
 use Rattle.std.specs.Prelude.{ℕ, List, codes}
-use Rattle.script_codec.specs.declared.why.Why.{Why}
-use Rattle.script_codec.specs.declared.why.Why.TheVariants as why
+use Rattle.script_codec.specs.declared.line_fault.LineFault.{LineFault}
+use Rattle.script_codec.specs.declared.line_fault.LineFault.TheVariants as why
 
-abbrev pub why_text : Why → List ℕ
+abbrev pub why_text : LineFault → List ℕ
 why_text why.Lines = codes "Lines"
 why_text why.TooLong = codes "TooLong"
 why_text why.Char = codes "Char"

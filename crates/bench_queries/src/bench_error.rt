@@ -3,18 +3,18 @@
 use dns_name::TextError;
 use edge_io::{FrameError, SinkError};
 use rpz_core::CoreError;
-use script_codec::ReadError;
+use script_codec::UnnumberedError;
 use std::alloc::{AllocError, AllocFailed};
 
 /// Why not all was answered.
 #[derive(Debug, Drop)]
-pub enum Refusal {
+pub enum BenchError {
     OutOfMemory,
     Origin(TextError),
     /// The input ended before the transfers did.
     Ended,
     Frame(FrameError),
-    Line(ReadError),
+    Line(UnnumberedError),
     Core(CoreError),
     Write(SinkError),
     /// A message is too long to be written behind its length.
@@ -25,44 +25,44 @@ pub enum Refusal {
     OtherLine,
 }
 
-impl From<AllocError> for Refusal {
+impl From<AllocError> for BenchError {
     fn from(_error: AllocError) -> Self {
-        Refusal::OutOfMemory
+        BenchError::OutOfMemory
     }
 }
 
-impl<T: Drop> From<AllocFailed<T>> for Refusal {
+impl<T: Drop> From<AllocFailed<T>> for BenchError {
     fn from(_error: AllocFailed<T>) -> Self {
-        Refusal::OutOfMemory
+        BenchError::OutOfMemory
     }
 }
 
-impl From<TextError> for Refusal {
+impl From<TextError> for BenchError {
     fn from(error: TextError) -> Self {
-        Refusal::Origin(error)
+        BenchError::Origin(error)
     }
 }
 
-impl From<FrameError> for Refusal {
+impl From<FrameError> for BenchError {
     fn from(error: FrameError) -> Self {
-        Refusal::Frame(error)
+        BenchError::Frame(error)
     }
 }
 
-impl From<ReadError> for Refusal {
-    fn from(error: ReadError) -> Self {
-        Refusal::Line(error)
+impl From<UnnumberedError> for BenchError {
+    fn from(error: UnnumberedError) -> Self {
+        BenchError::Line(error)
     }
 }
 
-impl From<CoreError> for Refusal {
+impl From<CoreError> for BenchError {
     fn from(error: CoreError) -> Self {
-        Refusal::Core(error)
+        BenchError::Core(error)
     }
 }
 
-impl From<SinkError> for Refusal {
+impl From<SinkError> for BenchError {
     fn from(error: SinkError) -> Self {
-        Refusal::Write(error)
+        BenchError::Write(error)
     }
 }

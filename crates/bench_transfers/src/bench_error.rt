@@ -6,7 +6,7 @@ use zone_rows::ApplyError;
 
 /// Why there is no zone.
 #[derive(Debug, Drop)]
-pub enum Refusal {
+pub enum BenchError {
     Origin(NameError),
     Transfer(TransferError),
     Apply(ApplyError),
@@ -16,20 +16,20 @@ pub enum Refusal {
     Empty,
 }
 
-impl From<NameError> for Refusal {
+impl From<NameError> for BenchError {
     fn from(error: NameError) -> Self {
-        Refusal::Origin(error)
+        BenchError::Origin(error)
     }
 }
 
-impl From<TransferError> for Refusal {
+impl From<TransferError> for BenchError {
     fn from(error: TransferError) -> Self {
-        Refusal::Transfer(error)
+        BenchError::Transfer(error)
     }
 }
 
-impl From<ApplyError> for Refusal {
+impl From<ApplyError> for BenchError {
     fn from(error: ApplyError) -> Self {
-        Refusal::Apply(error)
+        BenchError::Apply(error)
     }
 }

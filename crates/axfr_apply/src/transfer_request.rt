@@ -1,11 +1,11 @@
-//! What was asked for.
+//! The request for a transfer.
 
 use dns_name::Name;
 
 /// The messages and answer records of a transfer, counted together, are fewer than this.
 pub const MOST: u32 = 33_554_432;
 
-/// What is wanted of a zone.
+/// Which transfer is wanted: all of a zone, or what is newer.
 #[derive(Clone, Copy, Debug, PartialEq, Eq)]
 pub enum Wanted {
     /// All of it (AXFR, RFC 5936): `have` is the serial of what we have, if anything.
@@ -14,9 +14,9 @@ pub enum Wanted {
     Newer { have: u32 },
 }
 
-/// What was asked for: the zone of an origin, or what is newer of it.
+/// The request for a transfer: all of the zone of an origin, or what is newer.
 #[derive(Debug, Drop)]
-pub struct Asked {
+pub struct TransferRequest {
     /// The ID of the request, which each message of the answer has.
     pub id: u16,
     /// The name of the zone.

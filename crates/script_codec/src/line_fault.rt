@@ -1,8 +1,8 @@
 //! Why a line of a script is refused.
 
 ghost use Rattle.std.specs.Prelude.{◌≡◌, Some};
-ghost use Rattle.script_codec.specs.Why.{why_text};
-ghost use Rattle.script_codec.specs.declared.why.ReadError.TheVariants.{OutOfMemory, Refused};
+ghost use Rattle.script_codec.specs.LineFault.{why_text};
+ghost use Rattle.script_codec.specs.declared.line_fault.UnnumberedError.TheVariants.{OutOfMemory, Refused};
 
 use std::alloc::AllocError;
 use std::fmt;
@@ -10,7 +10,7 @@ use std::fmt;
 /// Why a line of a script is refused, in the order in which the reasons are looked for: first what
 /// concerns the whole line, then each field from the left, then the state.
 #[derive(Clone, Copy, Debug, PartialEq, Eq)]
-pub enum Why {
+pub enum LineFault {
     /// The number of the line is over 4,294,967,295.
     Lines,
     /// The line has over 200,000 bytes.
@@ -49,29 +49,29 @@ pub enum Why {
     Idle,
 }
 
-impl fmt::Display for Why {
+impl fmt::Display for LineFault {
     ghost output = { λ why. Some (why_text why) };
 
     fn fmt<W: fmt::Write>(&self, f: &mut fmt::Formatter<W>) -> fmt::Result {
         let name = match self {
-            Why::Lines => "Lines",
-            Why::TooLong => "TooLong",
-            Why::Char => "Char",
-            Why::Word => "Word",
-            Why::Fields => "Fields",
-            Why::Name => "Name",
-            Why::Late => "Late",
-            Why::Many => "Many",
-            Why::Repeated => "Repeated",
-            Why::Number => "Number",
-            Why::NoZone => "NoZone",
-            Why::NoWorker => "NoWorker",
-            Why::Transport => "Transport",
-            Why::Address => "Address",
-            Why::Hex => "Hex",
-            Why::Long => "Long",
-            Why::Busy => "Busy",
-            Why::Idle => "Idle",
+            LineFault::Lines => "Lines",
+            LineFault::TooLong => "TooLong",
+            LineFault::Char => "Char",
+            LineFault::Word => "Word",
+            LineFault::Fields => "Fields",
+            LineFault::Name => "Name",
+            LineFault::Late => "Late",
+            LineFault::Many => "Many",
+            LineFault::Repeated => "Repeated",
+            LineFault::Number => "Number",
+            LineFault::NoZone => "NoZone",
+            LineFault::NoWorker => "NoWorker",
+            LineFault::Transport => "Transport",
+            LineFault::Address => "Address",
+            LineFault::Hex => "Hex",
+            LineFault::Long => "Long",
+            LineFault::Busy => "Busy",
+            LineFault::Idle => "Idle",
         };
         f.write_str(name)
     }
@@ -83,7 +83,7 @@ pub struct BadLine {
     /// Its number. Line 1 is the first.
     pub line: u64,
     /// The first reason that applies.
-    pub why: Why,
+    pub why: LineFault,
 }
 
 /// Why a line could not be read: it is refused, or there was no memory.
@@ -95,23 +95,23 @@ pub enum LineError {
 
 /// The same, without the number of the line.
 #[derive(Clone, Copy, Debug, PartialEq, Eq)]
-pub enum ReadError {
+pub enum UnnumberedError {
     OutOfMemory,
-    Refused(Why),
+    Refused(LineFault),
 }
 
-impl From<AllocError> for ReadError {
+impl From<AllocError> for UnnumberedError {
     ghost from_gives = { λ _ e. e ≡ OutOfMemory };
 
-    fn from(_e: AllocError) -> ReadError {
-        ReadError::OutOfMemory
+    fn from(_e: AllocError) -> UnnumberedError {
+        UnnumberedError::OutOfMemory
     }
 }
 
-impl From<Why> for ReadError {
+impl From<LineFault> for UnnumberedError {
     ghost from_gives = { λ why e. e ≡ Refused why };
 
-    fn from(why: Why) -> ReadError {
-        ReadError::Refused(why)
+    fn from(why: LineFault) -> UnnumberedError {
+        UnnumberedError::Refused(why)
     }
 }

@@ -1,12 +1,12 @@
 //! Transfers in the input.
 
-use crate::refusal::Refusal;
+use crate::bench_error::BenchError;
 use dns_name::Octets;
 use edge_io::{Source, read_frame};
 use std::alloc::Global;
 
 /// The next transfer: its messages, each behind its length, up to an empty one, which is left out.
-pub fn read_stream<S: Source>(alloc: Global, source: &mut S) -> Result<Octets, Refusal> {
+pub fn read_stream<S: Source>(alloc: Global, source: &mut S) -> Result<Octets, BenchError> {
     let mut stream = Octets::new(alloc);
     for _turn in 0..u64::MAX {
         let Some(message) = read_frame(alloc, source)? else {
@@ -18,5 +18,5 @@ pub fn read_stream<S: Source>(alloc: Global, source: &mut S) -> Result<Octets, R
         stream.append(&(message.len() as u16).to_be_bytes())?;
         stream.append(message.as_slice())?;
     }
-    Err(Refusal::Ended)
+    Err(BenchError::Ended)
 }

@@ -8,7 +8,7 @@ use zone_rows::ApplyError;
 
 /// Why not all was answered.
 #[derive(Debug, Drop)]
-pub enum Refusal {
+pub enum BenchError {
     OutOfMemory,
     /// The words are no three numbers, or there are more than 16 workers, or none.
     Words,
@@ -22,38 +22,38 @@ pub enum Refusal {
     System,
 }
 
-impl From<AllocError> for Refusal {
+impl From<AllocError> for BenchError {
     fn from(_error: AllocError) -> Self {
-        Refusal::OutOfMemory
+        BenchError::OutOfMemory
     }
 }
 
-impl<T: Drop> From<AllocFailed<T>> for Refusal {
+impl<T: Drop> From<AllocFailed<T>> for BenchError {
     fn from(_error: AllocFailed<T>) -> Self {
-        Refusal::OutOfMemory
+        BenchError::OutOfMemory
     }
 }
 
-impl From<TextError> for Refusal {
+impl From<TextError> for BenchError {
     fn from(error: TextError) -> Self {
-        Refusal::Origin(error)
+        BenchError::Origin(error)
     }
 }
 
-impl From<FrameError> for Refusal {
+impl From<FrameError> for BenchError {
     fn from(error: FrameError) -> Self {
-        Refusal::Frame(error)
+        BenchError::Frame(error)
     }
 }
 
-impl From<TransferError> for Refusal {
+impl From<TransferError> for BenchError {
     fn from(error: TransferError) -> Self {
-        Refusal::Transfer(error)
+        BenchError::Transfer(error)
     }
 }
 
-impl From<ApplyError> for Refusal {
+impl From<ApplyError> for BenchError {
     fn from(error: ApplyError) -> Self {
-        Refusal::Apply(error)
+        BenchError::Apply(error)
     }
 }

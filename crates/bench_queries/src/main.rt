@@ -1,4 +1,4 @@
-//! `query_bench`: a core of zones that it reads from streams, which may be longer than a line of a script, and the lines
+//! `bench_queries`: a core of zones that it reads from streams, which may be longer than a line of a script, and the lines
 //! `query` and `give` of a script, done as a replay does them.
 //!
 //! Its words are the origins of the zones. Standard input has the transfer of each, its messages behind their lengths in
@@ -10,11 +10,11 @@
 //! the reply, or what is asked of the upstream. It is empty where a query gets no reply. Many are written at once.
 #![tactic(auto)]
 
+mod bench_error;
 mod input;
-mod refusal;
 
+use crate::bench_error::BenchError;
 use crate::input::read_stream;
-use crate::refusal::Refusal;
 use dns_name::{Name, Octets};
 use edge_io::{FRAME_MAX, ReaderSource, Sink, Source, WriterSink, read_frame, write_all};
 use rpz_core::{Core, Event, Output};
@@ -31,7 +31,7 @@ const PIECE: usize = 262_144;
 const ROOM: usize = 327_680;
 
 // The origins that the words name.
-fn origins(alloc: Global, words: &[String]) -> Result<Vec<Name>, Refusal> {
+fn origins(alloc: Global, words: &[String]) -> Result<Vec<Name>, BenchError> {
     let mut origins = Vec::new(alloc);
     for word in words {
         origins.push(Name::from_text(alloc, word.as_bytes())?)?;
@@ -45,11 +45,11 @@ fn load<S: Source>(
     core: &mut Core,
     zone: u32,
     source: &mut S,
-) -> Result<usize, Refusal> {
+) -> Result<usize, BenchError> {
     let stream = read_stream(alloc, source)?;
     match core.step(Event::Transfer { zone, stream })? {
         Output::Taken { rows, .. } => Ok(rows),
-        _ => Err(Refusal::NotTaken),
+        _ => Err(BenchError::NotTaken),
     }
 }
 
@@ -58,10 +58,10 @@ fn start<S: Source>(
     alloc: Global,
     words: &[String],
     source: &mut S,
-) -> Result<(Core, usize), Refusal> {
+) -> Result<(Core, usize), BenchError> {
     let origins = origins(alloc, words)?;
     if origins.len() > 32 {
-        return Err(Refusal::NotTaken);
+        return Err(BenchError::NotTaken);
     }
     let mut core = Core::start(alloc, &origins)?;
     let mut total = 0usize;
@@ -72,7 +72,7 @@ fn start<S: Source>(
 }
 
 // The event of a line `query` or `give`.
-fn event(alloc: Global, core: &Core, line: &[u8]) -> Result<Event, Refusal> {
+fn event(alloc: Global, core: &Core, line: &[u8]) -> Result<Event, BenchError> {
     let state = ScriptState::Running {
         zones: core.zone_count(),
         pending: core.pending(),
@@ -92,24 +92,24 @@ fn event(alloc: Global, core: &Core, line: &[u8]) -> Result<Event, Refusal> {
             message,
         }),
         Some(Line::Give { worker, message }) => Ok(Event::Give { worker, message }),
-        _ => Err(Refusal::OtherLine),
+        _ => Err(BenchError::OtherLine),
     }
 }
 
 // The message of an output; it is empty where a query gets no reply.
-fn message_of(alloc: Global, output: Output) -> Result<Octets, Refusal> {
+fn message_of(alloc: Global, output: Output) -> Result<Octets, BenchError> {
     match output {
         Output::Ask { message, .. } => Ok(message),
         Output::Reply { message, .. } => Ok(message),
         Output::Silent { .. } => Ok(Octets::new(alloc)),
-        _ => Err(Refusal::OtherLine),
+        _ => Err(BenchError::OtherLine),
     }
 }
 
 // Puts a message at the end, behind its length.
-fn push_frame(frames: &mut Octets, message: &[u8]) -> Result<(), Refusal> {
+fn push_frame(frames: &mut Octets, message: &[u8]) -> Result<(), BenchError> {
     if message.len() > FRAME_MAX {
-        return Err(Refusal::Long);
+        return Err(BenchError::Long);
     }
     frames.append(&(message.len() as u16).to_be_bytes())?;
     frames.append(message)?;
@@ -123,7 +123,7 @@ fn answer<K: Sink>(
     line: &[u8],
     frames: &mut Octets,
     out: &mut K,
-) -> Result<(), Refusal> {
+) -> Result<(), BenchError> {
     let event = event(alloc, core, line)?;
     let message = message_of(alloc, core.step(event)?)?;
     push_frame(frames, message.as_slice())?;
@@ -141,7 +141,7 @@ fn answer_part<S: Source, K: Sink>(
     core: &mut Core,
     source: &mut S,
     out: &mut K,
-) -> Result<bool, Refusal> {
+) -> Result<bool, BenchError> {
     let mut frames = Octets::with_capacity(alloc, ROOM)?;
     let mut more = false;
     for _turn in 0..u64::MAX {
@@ -159,7 +159,7 @@ fn answer_part<S: Source, K: Sink>(
 }
 
 // Says why not all was answered.
-fn refused(rt: &HostRuntime, refusal: &Refusal) -> io::Result<ExitCode> {
+fn refused(rt: &HostRuntime, refusal: &BenchError) -> io::Result<ExitCode> {
     eprintln!(rt; "{refusal:?}")?;
     Ok(ExitCode::from(1))
 }

@@ -1,11 +1,11 @@
-//! `transfer_bench`: reads transfers of the zone rpz.example from standard input, as the answers to requests of the ID 0: the
+//! `bench_transfers`: reads transfers of the zone rpz.example from standard input, as the answers to requests of the ID 0: the
 //! whole zone, and then, until the input ends, what is newer than the zone is by then. It puts each into the zone, and prints the
 //! serial of the zone and the number of its rows.
 #![tactic(auto)]
 
-mod refusal;
+mod bench_error;
 
-use crate::refusal::Refusal;
+use crate::bench_error::BenchError;
 use axfr_apply::{Taken, TransferError, TransferFault, Wanted};
 use dns_name::Name;
 use edge_io::{ReaderSource, Source};
@@ -31,17 +31,17 @@ fn next_transfer<S: Source>(
     alloc: Global,
     source: &mut S,
     zone: &PlainZone,
-) -> Result<Option<Transfer>, Refusal> {
+) -> Result<Option<Transfer>, BenchError> {
     match read_transfer(alloc, source, 0, &zone.origin, wanted(zone)) {
         Ok(Taken::New(transfer)) => Ok(Some(transfer)),
-        Ok(Taken::Current { .. }) => Err(Refusal::Current),
+        Ok(Taken::Current { .. }) => Err(BenchError::Current),
         Err(TransferError::Fault(TransferFault::EndedEarly)) => Ok(None),
-        Err(error) => Err(Refusal::Transfer(error)),
+        Err(error) => Err(BenchError::Transfer(error)),
     }
 }
 
 // The zone after the transfers that the source gives.
-fn load<S: Source>(alloc: Global, source: &mut S) -> Result<PlainZone, Refusal> {
+fn load<S: Source>(alloc: Global, source: &mut S) -> Result<PlainZone, BenchError> {
     let (origin, _) = Name::read(alloc, b"\x03rpz\x07example\0", 0)?;
     let mut zone = PlainZone {
         origin,
@@ -57,8 +57,8 @@ fn load<S: Source>(alloc: Global, source: &mut S) -> Result<PlainZone, Refusal> 
 }
 
 // The serial of the zone and the number of its rows.
-fn load_counts<S: Source>(alloc: Global, source: &mut S) -> Result<(u32, usize), Refusal> {
-    let content = load(alloc, source)?.content.ok_or(Refusal::Empty)?;
+fn load_counts<S: Source>(alloc: Global, source: &mut S) -> Result<(u32, usize), BenchError> {
+    let content = load(alloc, source)?.content.ok_or(BenchError::Empty)?;
     Ok((content.soa.serial, content.rows.len()))
 }
 
