@@ -2,7 +2,7 @@
 """ci_times.py [--every SECONDS] PID: the processor time of a running `rt ci`, by crate and by kind of work.
 
 Start it beside `rt ci`, whose process has the number PID; it looks at that run's processes until the run has ended, and
-then prints a table in the form of docs/PROOFS.md: for each crate the minutes of processor time of its proofs, of its tests
+then prints a table in the form of docs/MEASUREMENTS.md: for each crate the minutes of processor time of its proofs, of its tests
 and of its must-fail edits, and the sums. What a process used between the last look and its end is missed, so the numbers
 are a little low.
 """

@@ -4,8 +4,9 @@ passes.
 
     python3 tools/demo.py
 
-The program is crates/rpz/out/rpz; where there is none yet, `rt run` proves and builds it first. The zone comes from a primary, and the other answers from an upstream, both of which are
-tools/small_server.py on ports of their own. Queries are asked with dig, or with tools/ask.py where there is none.
+The program is crates/rpz/out/rpz; where there is none yet, `rt run` proves and builds it first. The zone comes from a primary, and the
+other answers from an upstream, both of which are tools/small_server.py on ports of their own. Queries are asked with dig, or with
+tools/ask.py where there is none.
 """
 import pathlib
 import shutil
