@@ -1,0 +1,11 @@
+pub mod Drawn
+pub mod Ruled
+pub mod Asked
+pub mod Aliases
+pub mod Responses
+pub mod Sessions
+pub mod Transfers
+pub mod Marks
+pub mod Tallies
+pub mod Parts
+pub mod Bounds

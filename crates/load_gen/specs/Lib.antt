@@ -1,0 +1,10 @@
+pub mod Draws
+pub mod Written
+pub mod Rules
+pub mod Queries
+pub mod Loads
+pub mod Made
+pub mod Upstream
+pub mod Summed
+pub mod Tallied
+pub mod Turns

@@ -1,0 +1,50 @@
+ghost use Rattle.std.specs.Prelude.{◌≤◌};
+
+use crate::{Load, MOST_WORKERS, answer_all, make, write_summary};
+use dns_name::Name;
+use dns_record::rtype;
+use std::alloc::{AllocError, Global};
+use std::test::Fail;
+use std::thread::Threads;
+
+// The owner of the one rule of the seed 0.
+static OWNER: &str = "24.0.17.8.10.rpz-client-ip.rpz.example";
+
+// What `tools/load_model.py` writes for the seed 7, 2,000 rules and 500 queries.
+static SEVEN: &str = "rows 1998 nxdomain 2 nodata 5 other 493 mark 6651375583270105612\n";
+
+// The line of a load, answered by so many workers.
+fn line<R: Threads + Sync>(
+    rt: &R,
+    alloc: Global,
+    load: &Load,
+    workers: u32,
+) -> Result<Vec<u8>, AllocError>
+    requires some { 1 ≤ workers }
+    requires few { workers ≤ MOST_WORKERS }
+{
+    let summary = answer_all(rt, alloc, load, workers)?;
+    Ok(write_summary(alloc, &summary)?.into_vec())
+}
+
+#[test]
+fn the_rule_of_the_seed_0_lets_a_client_pass(rt: HostRuntime) -> Result<(), Fail> {
+    let load = make(rt.alloc(), 0, 1, 0)?;
+    let rule = load.rows().first().ok_or("no rule")?;
+    let owner = Name::from_text(rt.alloc(), OWNER.as_bytes()).map_err(|_| "no owner")?;
+    let target = Name::from_text(rt.alloc(), b"rpz-passthru.").map_err(|_| "no target")?;
+    assert!(rt; rule.owner().is_same(&owner));
+    assert_eq!(rt; rule.rtype(), rtype::CNAME);
+    assert_eq!(rt; rule.rdata(), target.octets());
+    Ok(())
+}
+
+#[test]
+fn the_line_is_the_same_for_every_number_of_workers(rt: HostRuntime) -> Result<(), Fail> {
+    let load = make(rt.alloc(), 7, 2000, 500)?;
+    for workers in 1..17 {
+        let line = line(&rt, rt.alloc(), &load, workers)?;
+        assert_eq!(rt; line.as_slice(), SEVEN.as_bytes());
+    }
+    Ok(())
+}
