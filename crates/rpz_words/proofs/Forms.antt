@@ -8,7 +8,7 @@ use Rattle.edge_io.specs.declared.endpoint.Endpoint.{Endpoint}
 use Rattle.script_codec.specs.Field.{is_number, number_of, v4_of}
 use Rattle.rpz_words.specs.declared.values.TheConstants.{PORT_DIGITS, PORT_LIMIT}
 use Rattle.rpz_words.specs.Outcome.{none_if}
-use Rattle.rpz_words.specs.Values.{number_to, port_of, endpoint_of, origin_of, zone_setting_of, is_colon, is_at_sign}
+use Rattle.rpz_words.specs.Values.{count_to, number_to, port_of, endpoint_of, origin_of, zone_setting_of, is_colon, is_at_sign}
 use Rattle.rpz_words.proofs.Binding.{bind_none, bind_some, not_held, some_is}
 
 -- numbers
@@ -24,6 +24,14 @@ number_within most digits number e =
     let b = bind_some (none_if (eqb a.0 0 || ltb most a.0)) _ number a.2 in
     let tests = or_parts (eqb a.0 0) (ltb most a.0) (not_held _ b.0 b.1) in
     subst (λ n. (1 ≤ n) × (n ≤ most)) (some_is a.0 number b.2) (not_zero a.0 tests.0, ltb-false most a.0 tests.1)
+
+-- a count is at most its limit
+pub count_within : (most : ℕ) (digits : List ℕ) (number : ℕ) → count_to most digits ≡ Some number → number ≤ most
+unfolding count_to
+count_within most digits number e =
+    let a = bind_some (result_ok (number_of digits)) _ number e in
+    let b = bind_some (none_if (ltb most a.0)) _ number a.2 in
+    subst (λ n. n ≤ most) (some_is a.0 number b.2) (ltb-false most a.0 (not_held _ b.0 b.1))
 
 not_number : (most bound sign : ℕ) (digits : List ℕ) → is_ascii_digit sign ≡ false → is_number most bound (sign ∷ digits) ≡ false
 not_number most bound sign digits h = and_left _ _ (and_right _ _ (and_left _ _ h))

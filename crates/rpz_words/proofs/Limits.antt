@@ -12,18 +12,21 @@ use Rattle.dns_name.specs.Alike.{same_name}
 use Rattle.dns_name.specs.Labels.{lowered}
 use Rattle.zone_rows.specs.declared.zone.TheConstants.{ZONE_LIMIT}
 use Rattle.rpz_words.specs.declared.command.Command.{Command}
-use Rattle.rpz_words.specs.declared.command.Command.TheVariants.{Replay, Serve}
+use Rattle.rpz_words.specs.declared.command.Command.TheVariants.{Load, Replay, Serve}
+use Rattle.load_gen.specs.declared.load.TheConstants.{MOST_QUERIES, MOST_RULES}
+use Rattle.load_gen.specs.declared.running.TheConstants.{MOST_WORKERS}
+use Rattle.rpz_words.specs.declared.settings.LoadSettings.{LoadSettings}
 use Rattle.rpz_words.specs.declared.settings.Settings.{Settings}
 use Rattle.rpz_words.specs.declared.settings.TheConstants.{TURN_LIMIT, WORKER_LIMIT}
 use Rattle.rpz_words.specs.declared.words_error.WordsError.{WordsError}
 use Rattle.rpz_words.specs.declared.zones.ZoneSetting.{ZoneSetting}
 use Rattle.rpz_words.specs.Outcome.{Gives, none_if}
-use Rattle.rpz_words.specs.Values.{endpoint_of, turns_of, workers_of, zone_setting_of, zone_settings_of, zones_of}
-use Rattle.rpz_words.specs.Limits.{IsServable, IsWithinLimits}
-use Rattle.rpz_words.specs.Words.{command_of, named_command, settings_of, value_at, zones_at}
+use Rattle.rpz_words.specs.Values.{endpoint_of, load_workers_of, queries_of, rules_of, seed_of, turns_of, workers_of, zone_setting_of, zone_settings_of, zones_of}
+use Rattle.rpz_words.specs.Limits.{IsLoadable, IsServable, IsWithinLimits}
+use Rattle.rpz_words.specs.Words.{command_of, load_settings_of, named_command, settings_of, value_at, zones_at}
 use Rattle.rpz_words.specs.Zones.{HasDistinctOrigins, has_origin, has_repeated}
 use Rattle.rpz_words.proofs.Binding.{bind_some, not_held, some_is}
-use Rattle.rpz_words.proofs.Forms.{number_within}
+use Rattle.rpz_words.proofs.Forms.{count_within, number_within}
 
 -- names of zones
 
@@ -100,6 +103,23 @@ settings_within rows settings e =
       distinct = zones.distinct_zones;
     })
 
+load_within : (rows : List Row) (settings : LoadSettings) → load_settings_of rows ≡ Some settings → IsLoadable settings
+unfolding load_settings_of
+load_within rows settings e =
+    let a = bind_some (value_at seed_of (codes "SEED") rows) _ settings e in
+    let b = bind_some (value_at rules_of (codes "RULES") rows) _ settings a.2 in
+    let c = bind_some (value_at queries_of (codes "QUERIES") rows) _ settings b.2 in
+    let d = bind_some (value_at load_workers_of (codes "WORKERS") rows) _ settings c.2 in
+    let rules = bind_some (first_of (codes "RULES") rows) rules_of b.0 b.1 in
+    let queries = bind_some (first_of (codes "QUERIES") rows) queries_of c.0 c.1 in
+    let workers = bind_some (first_of (codes "WORKERS") rows) load_workers_of d.0 d.1 in
+    subst IsLoadable (some_is _ settings d.2) (record {
+      few_rules = count_within MOST_RULES rules.0 b.0 rules.2;
+      few_queries = count_within MOST_QUERIES queries.0 c.0 queries.2;
+      some_workers = (number_within MOST_WORKERS workers.0 d.0 workers.2).0;
+      few_workers = (number_within MOST_WORKERS workers.0 d.0 workers.2).1;
+    })
+
 -- commands
 
 named_within : (name : Text) (rows : List Row) (command : Command) → named_command name rows ≡ Some command → IsWithinLimits command
@@ -108,7 +128,9 @@ named_within name rows command =
     (λ t e. subst IsWithinLimits (some_is Replay command e) tt)
     (λ t. cond_both (bytes_eq name (codes "serve")) _ _ (λ (o : Option Command). o ≡ Some command → IsWithinLimits command)
     (λ u e. let a = bind_some (settings_of rows) _ command e in subst IsWithinLimits (some_is (Serve a.0) command a.2) (settings_within rows a.0 a.1))
-    (λ u e. absurd cc))
+    (λ u. cond_both (bytes_eq name (codes "load")) _ _ (λ (o : Option Command). o ≡ Some command → IsWithinLimits command)
+    (λ v e. let a = bind_some (load_settings_of rows) _ command e in subst IsWithinLimits (some_is (Load a.0) command a.2) (load_within rows a.0 a.1))
+    (λ v e. absurd cc)))
 
 pub command_within : (found : Option (Text × List Row)) (command : Command) → command_of found ≡ Some command → IsWithinLimits command
 command_within None command e = absurd cc

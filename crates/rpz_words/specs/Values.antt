@@ -6,7 +6,9 @@ use Rattle.dns_name.specs.Text.{text_name}
 use Rattle.edge_io.specs.declared.endpoint.Endpoint.{Endpoint}
 use Rattle.script_codec.specs.Field.{number_of, v4_of}
 use Rattle.zone_rows.specs.declared.zone.TheConstants.{ZONE_LIMIT}
-use Rattle.rpz_words.specs.declared.settings.TheConstants.{TURN_LIMIT, WORKER_LIMIT}
+use Rattle.load_gen.specs.declared.load.TheConstants.{MOST_QUERIES, MOST_RULES}
+use Rattle.load_gen.specs.declared.running.TheConstants.{MOST_WORKERS}
+use Rattle.rpz_words.specs.declared.settings.TheConstants.{SEED_LIMIT, TURN_LIMIT, WORKER_LIMIT}
 use Rattle.rpz_words.specs.declared.values.TheConstants.{PORT_DIGITS, PORT_LIMIT}
 use Rattle.rpz_words.specs.declared.zones.ZoneSetting.{ZoneSetting}
 use Rattle.rpz_words.specs.Outcome.{◌>>=◌, none_if}
@@ -18,6 +20,28 @@ number_to most digits = do
   number ← result_ok (number_of digits)
   _ ← none_if (number == 0 || nat_lt most number)
   Some number
+
+-- a number of at most `most`: 1 to 10 decimal digits, without a sign
+unfoldable pub count_to : ℕ → List ℕ → Option ℕ
+count_to most digits = do
+  number ← result_ok (number_of digits)
+  _ ← none_if (nat_lt most number)
+  Some number
+
+-- the seed of a load run: 0 to 4,294,967,295
+abbrev pub seed_of : List ℕ → Option ℕ
+seed_of digits = count_to SEED_LIMIT digits
+
+-- how many rules and queries are made: 0 to 1,000,000
+abbrev pub rules_of : List ℕ → Option ℕ
+rules_of digits = count_to MOST_RULES digits
+
+abbrev pub queries_of : List ℕ → Option ℕ
+queries_of digits = count_to MOST_QUERIES digits
+
+-- how many workers answer in a load run: 1 to 16
+abbrev pub load_workers_of : List ℕ → Option ℕ
+load_workers_of digits = number_to MOST_WORKERS digits
 
 -- how many arrivals are taken: 1 to 4,294,967,295
 abbrev pub turns_of : List ℕ → Option ℕ

@@ -6,11 +6,12 @@ use Rattle.clap.specs.Lexer.{usize_max}
 use Rattle.clap.specs.Words.{App, Row, Rule, Text, all_of, first_of, new_app, new_rule, with_rule, with_subcommand}
 use Rattle.clap.specs.declared.builder.action.ArgAction.TheVariants.{Append, Set}
 use Rattle.rpz_words.specs.declared.command.Command.{Command}
-use Rattle.rpz_words.specs.declared.command.Command.TheVariants.{Replay, Serve}
+use Rattle.rpz_words.specs.declared.command.Command.TheVariants.{Load, Replay, Serve}
+use Rattle.rpz_words.specs.declared.settings.LoadSettings.{LoadSettings}
 use Rattle.rpz_words.specs.declared.settings.Settings.{Settings}
 use Rattle.rpz_words.specs.declared.zones.ZoneSetting.{ZoneSetting}
 use Rattle.rpz_words.specs.Outcome.{◌>>=◌}
-use Rattle.rpz_words.specs.Values.{endpoint_of, turns_of, workers_of, zones_of}
+use Rattle.rpz_words.specs.Values.{endpoint_of, load_workers_of, queries_of, rules_of, seed_of, turns_of, workers_of, zones_of}
 
 -- the words behind the program's name
 abbrev pub argv : List (String Global) → List Text
@@ -34,9 +35,15 @@ serve_app = with_rule (with_rule (with_rule (with_rule (with_rule (new_app (code
     (one_value (codes "LISTEN"))) (one_value (codes "UPSTREAM"))) (one_value (codes "TURNS")))
     (one_value (codes "WORKERS"))) (some_values (codes "ZONE@PRIMARY"))
 
--- the command set: `rpz replay` and `rpz serve`
+-- `load SEED RULES QUERIES WORKERS`
+abbrev pub load_app : App
+load_app = with_rule (with_rule (with_rule (with_rule (new_app (codes "load"))
+    (one_value (codes "SEED"))) (one_value (codes "RULES"))) (one_value (codes "QUERIES"))) (one_value (codes "WORKERS"))
+
+-- the command set: `rpz replay`, `rpz serve` and `rpz load`
 abbrev pub rpz_app : App
-rpz_app = with_subcommand (with_subcommand (new_app (codes "rpz")) (new_app (codes "replay")).top) serve_app.top
+rpz_app = with_subcommand (with_subcommand (with_subcommand (new_app (codes "rpz"))
+    (new_app (codes "replay")).top) serve_app.top) load_app.top
 
 -- what the value of an argument says, if it is there and has the form
 abbrev pub value_at : {A : Type 0} → (Text → Option A) → Text → List Row → Option A
@@ -56,12 +63,22 @@ settings_of rows = do
   zones ← zones_at (codes "ZONE@PRIMARY") rows
   Some (record { listen = listen; upstream = upstream; turns = turns; workers = workers; zones = zones })
 
+-- what the values of `load` say, if each has its form
+unfoldable pub load_settings_of : List Row → Option LoadSettings
+load_settings_of rows = do
+  seed ← value_at seed_of (codes "SEED") rows
+  rules ← value_at rules_of (codes "RULES") rows
+  queries ← value_at queries_of (codes "QUERIES") rows
+  workers ← value_at load_workers_of (codes "WORKERS") rows
+  Some (record { seed = seed; rules = rules; queries = queries; workers = workers })
+
 -- what a subcommand of this name and these values asks for
 abbrev pub named_command : Text → List Row → Option Command
 named_command name rows =
     if bytes_eq name (codes "replay") then Some Replay
     else (if bytes_eq name (codes "serve") then (settings_of rows >>= λ settings. Some (Serve settings))
-    else None)
+    else (if bytes_eq name (codes "load") then (load_settings_of rows >>= λ settings. Some (Load settings))
+    else None))
 
 -- what the matches of the words ask for, by the subcommand and its values
 abbrev pub command_of : Option (Text × List Row) → Option Command

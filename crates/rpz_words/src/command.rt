@@ -1,6 +1,6 @@
 //! What the words of a command line ask for.
 
-use crate::settings::Settings;
+use crate::settings::{LoadSettings, Settings};
 
 /// What the words of a command line ask for.
 #[derive(Debug, Drop)]
@@ -10,4 +10,6 @@ pub enum Command {
     /// `serve LISTEN UPSTREAM TURNS WORKERS ZONE@PRIMARY...`: a server answers. LISTEN, UPSTREAM and each PRIMARY are
     /// `A.B.C.D:PORT`, an address of IP version 4 and a port from 1 to 65,535.
     Serve(Settings),
+    /// `load SEED RULES QUERIES WORKERS`: a zone and queries are made from the seed, and answered.
+    Load(LoadSettings),
 }

@@ -3,7 +3,7 @@
 ghost use Rattle.std.specs.Prelude.{◌≡◌, false, IfOk};
 ghost use Rattle.clap.specs.Words.{app_of, rule_of};
 ghost use Rattle.clap.specs.declared.builder.command.Command.TheViews.{out-Command as fields_of};
-ghost use Rattle.rpz_words.specs.Words.{one_value, rpz_app, serve_app, some_values};
+ghost use Rattle.rpz_words.specs.Words.{load_app, one_value, rpz_app, serve_app, some_values};
 
 use clap::{Arg, ArgAction, Command};
 use std::alloc::{AllocError, Global};
@@ -45,13 +45,31 @@ fn serve_command<'a>(alloc: Global) -> Result<Command<'a>, AllocError>
     Ok(with_zones)
 }
 
-/// `rpz replay` and `rpz serve`.
+// `load SEED RULES QUERIES WORKERS`
+fn load_command<'a>(alloc: Global) -> Result<Command<'a>, AllocError>
+    ensures app { IfOk result (λ c. app_of c ≡ load_app) }
+    ensures local { IfOk result (λ c. (fields_of c).has_globals ≡ false) }
+{
+    let seed = value_arg(alloc, "SEED");
+    let rules = value_arg(alloc, "RULES");
+    let queries = value_arg(alloc, "QUERIES");
+    let workers = value_arg(alloc, "WORKERS");
+    let with_seed = Command::new(alloc, "load").arg(seed)?;
+    let with_rules = with_seed.arg(rules)?;
+    let with_queries = with_rules.arg(queries)?;
+    let with_workers = with_queries.arg(workers)?;
+    Ok(with_workers)
+}
+
+/// `rpz replay`, `rpz serve` and `rpz load`.
 pub(crate) fn rpz_command<'a>(alloc: Global) -> Result<Command<'a>, AllocError>
     ensures { IfOk result (λ c. app_of c ≡ rpz_app) }
 {
     let serve = serve_command(alloc)?;
+    let load = load_command(alloc)?;
     let replay = Command::new(alloc, "replay");
     let with_replay = Command::new(alloc, "rpz").subcommand(replay)?;
     let with_serve = with_replay.subcommand(serve)?;
-    Ok(with_serve)
+    let with_load = with_serve.subcommand(load)?;
+    Ok(with_load)
 }

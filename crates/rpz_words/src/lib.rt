@@ -12,7 +12,7 @@ mod zones;
 
 pub use command::Command;
 pub use reading::read_words;
-pub use settings::{Settings, WORKER_LIMIT};
+pub use settings::{LoadSettings, Settings, WORKER_LIMIT};
 pub use words_error::WordsError;
 pub use zones::{ZoneSetting, Zones};
 

@@ -8,17 +8,18 @@ ghost use Rattle.rpz_words.specs.Values.{endpoint_of};
 ghost use Rattle.rpz_words.specs.Values as values_form;
 ghost use Rattle.rpz_words.specs.Limits.{IsWithinLimits};
 ghost use Rattle.rpz_words.specs.Words as words_form;
-ghost use Rattle.rpz_words.specs.Words.{argv, command_of, rpz_app, settings_of, value_at};
+ghost use Rattle.rpz_words.specs.Words.{argv, command_of, load_settings_of, rpz_app, settings_of, value_at};
 
 use crate::command::Command;
 use crate::command_set::rpz_command;
-use crate::settings::{Settings, TURN_LIMIT, WORKER_LIMIT};
-use crate::values::{number_to, read_endpoint, read_zones};
+use crate::settings::{LoadSettings, SEED_LIMIT, Settings, TURN_LIMIT, WORKER_LIMIT};
+use crate::values::{count_to, number_to, read_endpoint, read_zones};
 use crate::words_error::WordsError;
 use crate::zones::Zones;
 use clap::ArgMatches;
 use clap::error::ErrorKind;
 use edge_io::Endpoint;
+use load_gen::{MOST_QUERIES, MOST_RULES, MOST_WORKERS};
 use std::alloc::{AllocError, Global};
 
 /// What the words of a command line ask for, without the program's name. `Usage` comes where they are none of the
@@ -81,6 +82,9 @@ fn read_command(alloc: Global, matches: &ArgMatches) -> Result<Command, WordsErr
     if name == "serve" {
         return Ok(Command::Serve(read_settings(alloc, values)?));
     }
+    if name == "load" {
+        return Ok(Command::Load(read_load(values)?));
+    }
     Err(WordsError::Usage)
 }
 
@@ -103,6 +107,23 @@ fn read_settings(alloc: Global, matches: &ArgMatches) -> Result<Settings, WordsE
     })
 }
 
+// What the values of `load` say.
+#[tactic(auto, unfolding(crate::specs::Words::load_settings_of))]
+fn read_load(matches: &ArgMatches) -> Result<LoadSettings, WordsError>
+    ensures { Gives result (load_settings_of (rows_of (found_of matches.now))) }
+{
+    let seed = count_at(matches, "SEED", SEED_LIMIT).ok_or(WordsError::Usage)?;
+    let rules = count_at(matches, "RULES", MOST_RULES).ok_or(WordsError::Usage)?;
+    let queries = count_at(matches, "QUERIES", MOST_QUERIES).ok_or(WordsError::Usage)?;
+    let workers = number_at(matches, "WORKERS", MOST_WORKERS).ok_or(WordsError::Usage)?;
+    Ok(LoadSettings {
+        seed,
+        rules,
+        queries,
+        workers,
+    })
+}
+
 // The endpoint that an argument has as its value.
 fn endpoint_at(matches: &ArgMatches, id: &str) -> Option<Endpoint>
     ensures { result ≡ value_at endpoint_of id.now (rows_of (found_of matches.now)) }
@@ -115,6 +136,13 @@ fn number_at(matches: &ArgMatches, id: &str, most: u32) -> Option<u32>
     ensures { result ≡ value_at (values_form.number_to most) id.now (rows_of (found_of matches.now)) }
 {
     number_to(text_at(matches, id)?.as_bytes(), most)
+}
+
+// The number of at most the limit that an argument has as its value.
+fn count_at(matches: &ArgMatches, id: &str, most: u32) -> Option<u32>
+    ensures { result ≡ value_at (values_form.count_to most) id.now (rows_of (found_of matches.now)) }
+{
+    count_to(text_at(matches, id)?.as_bytes(), most)
 }
 
 // The value of an argument.

@@ -1,4 +1,4 @@
-//! What a server is to do.
+//! What a server is to do, and a load run.
 
 use crate::zones::Zones;
 use edge_io::Endpoint;
@@ -6,6 +6,9 @@ use script_codec::WORKERS;
 
 /// The most workers of a server.
 pub const WORKER_LIMIT: usize = WORKERS;
+
+/// The greatest seed of a load run.
+pub(crate) const SEED_LIMIT: u32 = u32::MAX;
 
 /// The most arrivals that a server takes.
 pub(crate) const TURN_LIMIT: u32 = u32::MAX;
@@ -23,4 +26,17 @@ pub struct Settings {
     pub workers: usize,
     /// The policy zones in order, 1 to 32, of distinct names: rules of earlier ones go before those of later ones.
     pub zones: Zones,
+}
+
+/// What a load run is to do.
+#[derive(Clone, Copy, Debug)]
+pub struct LoadSettings {
+    /// What the rules and the queries are made from.
+    pub seed: u32,
+    /// How many rules are made: at most [`MOST_RULES`](load_gen::MOST_RULES).
+    pub rules: u32,
+    /// How many queries are made and answered: at most [`MOST_QUERIES`](load_gen::MOST_QUERIES).
+    pub queries: u32,
+    /// How many workers answer: 1 to 16.
+    pub workers: u32,
 }

@@ -16,11 +16,20 @@ static TAKEN: [&str; 4] = [
 ];
 
 // Lines that ask for nothing.
-static REFUSED: [&str; 35] = [
+static REFUSED: [&str; 44] = [
     "",
     "replay x",
     "frob",
-    "load 1 0 0 2",
+    "load 1 0 0",
+    "load 1 0 0 2 3",
+    "load 4294967296 0 0 2",
+    "load 1 1000001 0 2",
+    "load 1 0 1000001 2",
+    "load 1 0 0 0",
+    "load 1 0 0 17",
+    "load +1 0 0 2",
+    "load 00000000001 0 0 2",
+    "load x 0 0 2",
     "--help",
     "help",
     "help serve",
@@ -72,7 +81,7 @@ fn asked(alloc: Global, line: &str) -> Result<Command, WordsError> {
 
 fn served(alloc: Global, line: &str) -> Result<Option<Settings>, WordsError> {
     match asked(alloc, line)? {
-        Command::Replay => Ok(None),
+        Command::Replay | Command::Load(_) => Ok(None),
         Command::Serve(settings) => Ok(Some(settings)),
     }
 }
@@ -97,6 +106,19 @@ fn laws_do_nothing() {
 #[test]
 fn replay_is_asked_for(rt: HostRuntime) {
     assert!(rt; matches!(asked(rt.alloc(), "replay"), Ok(Command::Replay)));
+}
+
+#[test]
+fn a_load_run_gets_its_settings(rt: HostRuntime) {
+    match asked(rt.alloc(), "load 4294967295 1000000 0001000000 16") {
+        Ok(Command::Load(settings)) => {
+            assert_eq!(rt; settings.seed, 4_294_967_295);
+            assert_eq!(rt; settings.rules, 1_000_000);
+            assert_eq!(rt; settings.queries, 1_000_000);
+            assert_eq!(rt; settings.workers, 16);
+        }
+        _ => assert!(rt; false, "no load run"),
+    }
 }
 
 #[test]

@@ -32,6 +32,18 @@ pub(crate) fn number_to(digits: &[u8], most: u32) -> Option<u32>
     Some(number)
 }
 
+/// The number of at most the limit that 1 to 10 decimal digits write.
+#[tactic(auto, unfolding(crate::specs::Values::count_to))]
+pub(crate) fn count_to(digits: &[u8], most: u32) -> Option<u32>
+    ensures { result ≡ values_form.count_to most digits.now }
+{
+    let number = read_number(digits).ok()?;
+    if number > most {
+        return None;
+    }
+    Some(number)
+}
+
 // The port that 1 to 5 decimal digits write.
 #[tactic(auto, unfolding(crate::specs::Values::port_of))]
 fn read_port(digits: &[u8]) -> Option<u16>

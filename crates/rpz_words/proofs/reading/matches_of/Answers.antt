@@ -1,5 +1,5 @@
-use Rattle.std.proofs.Common.{◌∙◌}
-use Rattle.rpz_words.proofs.Taken.{takes_same}
+use Rattle.std.proofs.Common.{◌∙◌, map}
+use Rattle.rpz_words.proofs.Taken.{no_fault, takes_same}
 use Rattle.rpz_words.proofs.reading.matches_of.Goals as goal
 
 pub returns : goal.returns
@@ -8,3 +8,7 @@ returns c = record {
   taken = tt;
   usage = λ e h. c.in_default.not-OutOfMemory (c.kind.ensures ∙ c.in-Err.ensures.passes (takes_same _ _ _ c.in_ok-command.ensures h));
 }
+
+pub returns-in-Ok-clause-taken : goal.returns-in-Ok-clause-taken
+returns-in-Ok-clause-taken c =
+    no_fault _ (map (λ word. word.now) c.args.words.now) c.in_ok-command.ensures c.in-Ok.ensures.kinds
