@@ -7,3 +7,4 @@ pub mod Numbers
 pub mod Kept
 pub mod Fetched
 pub mod Statuses
+pub mod Loads

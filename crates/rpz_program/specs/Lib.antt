@@ -7,3 +7,4 @@ pub mod Polls
 pub mod Serving
 pub mod Sums
 pub mod Wires
+pub mod Loading

@@ -4,6 +4,8 @@ use Rattle.script_codec.specs.LineFault.{why_text}
 use Rattle.script_codec.specs.declared.line_fault.LineFault.{LineFault}
 use Rattle.script_loop.specs.declared.replay.Stop.{Stop}
 use Rattle.script_loop.specs.declared.replay.Stop.TheVariants as stop
+use Rattle.rpz_program.specs.declared.load_error.LoadError.{LoadError}
+use Rattle.rpz_program.specs.declared.load_error.LoadError.TheVariants as load_error
 use Rattle.rpz_program.specs.declared.serve_error.ServeError.{ServeError}
 use Rattle.rpz_program.specs.declared.serve_error.ServeError.TheVariants as error
 use Rattle.rpz_program.specs.declared.status.Status.{Status}
@@ -53,3 +55,9 @@ status_of_error error.OutOfMemory = OutOfMemory
 abbrev pub status_of_server : Result (Unit {0}) ServeError → Status
 status_of_server (Ok u) = Done
 status_of_server (Err why) = status_of_error why
+
+-- how a load run ends
+abbrev pub status_of_load : Result (Unit {0}) LoadError → Status
+status_of_load (Ok u) = Done
+status_of_load (Err load_error.WriteFault) = WriteFault
+status_of_load (Err load_error.OutOfMemory) = OutOfMemory

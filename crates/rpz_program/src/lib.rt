@@ -4,6 +4,8 @@
 
 mod answering;
 pub mod laws;
+mod load_error;
+mod loading;
 mod origins;
 mod poll_lines;
 mod polling;
@@ -22,6 +24,7 @@ mod turns;
 mod zone_source;
 mod zones;
 
+pub use load_error::LoadError;
 pub use replaying::replayed;
 pub use serve_error::ServeError;
 pub use server::serve;

@@ -1,16 +1,19 @@
 //! A whole run.
 
 ghost use Rattle.std.specs.Prelude.{◌≡◌, ◌≢◌, ◌+◌, ◌-◌, ◌≤◌, ◌^◌, ℕ, Some, None, Err, IfSome, IsSome};
-ghost use Rattle.edge_io.specs.Edge.{Rose, appended};
+ghost use Rattle.edge_io.specs.Edge.{Rose, WritesPrefix, appended};
 ghost use Rattle.edge_io.specs.Told.{one_more};
 ghost use Rattle.script_loop.specs.Replay.{Moves, ReadsNoFurther};
+ghost use Rattle.rpz_program.specs.Loading.{EndsLoad, load_line};
 ghost use Rattle.rpz_program.specs.Polls.{connection_views, feed_state, sources_from};
 ghost use Rattle.rpz_program.specs.Run.{AnswersWholeLines, AreTaken, BeginsTranscript, IsFirstBadLine, IsVerdict, IsWholeScript, StopsBy, command_in};
 ghost use Rattle.rpz_program.specs.Script.{verdict};
 ghost use Rattle.rpz_program.specs.Serving.{ServesWhole, linked_with, opening, origins_in, primaries_in};
-ghost use Rattle.rpz_words.specs.declared.command.Command.TheVariants.{Replay, Serve};
+ghost use Rattle.rpz_words.specs.declared.command.Command.TheVariants.{Load, Replay, Serve};
+ghost use Rattle.rpz_words.specs.declared.settings.LoadSettings.{LoadSettings};
 ghost use Rattle.rpz_words.specs.declared.settings.Settings.{Settings};
 
+use crate::loading::load;
 use crate::replaying::replay_script;
 use crate::server::serve;
 use crate::status::Status;
@@ -25,7 +28,8 @@ use std::thread::Threads;
 ///
 /// `replay` reads a script from the source and writes its transcript to the sink: line by line, what the policy after the transfers
 /// accepted so far answers. `serve` answers clients over the wires, with workers that the spawner runs, and writes the lines of its
-/// polls and of its end to the sink.
+/// polls and of its end to the sink. `load` makes a zone and queries from a seed, answers them in threads, and writes one line to the
+/// sink, which is the same for every number of threads.
 pub fn run<
     R: Threads + Wait + Copy + Drop + Send + Sync + 'static,
     S: Source,
@@ -106,12 +110,28 @@ pub fn run<
     ensures complete_server { (settings : Settings) → command_in words.now ≡ Some (Serve settings) → AreTaken words.now →
         (Rose (K.faults out.old) (K.faults out.new) → ⊥) → (Rose (W.faults wires.old) (W.faults wires.new) → ⊥) →
         (Rose (P.faults spawner.old) (P.faults spawner.new) → ⊥) → result ≢ Status.OutOfMemory → result ≡ Status.Done }
+
+    // The line of a load run was written, which knows nothing of the number of workers.
+    ensures loaded { result ≡ Status.Done → (settings : LoadSettings) → command_in words.now ≡ Some (Load settings) →
+        K.held out.new ≡ appended (K.held out.old) (load_line settings) }
+
+    // However a load run ends, what was written begins that line; nothing is read, opened or started.
+    ensures begins_line { (settings : LoadSettings) → command_in words.now ≡ Some (Load settings) →
+        WritesPrefix (load_line settings) (K.held out.old) (K.held out.new) }
+    ensures load_alone { (settings : LoadSettings) → command_in words.now ≡ Some (Load settings) →
+        (script.new ≡ script.old) × (wires.new ≡ wires.old) × (spawner.new ≡ spawner.old) }
+    ensures ends_load { (settings : LoadSettings) → command_in words.now ≡ Some (Load settings) → EndsLoad result }
+
+    // With no fault and with memory, a load run is done.
+    ensures complete_load { (settings : LoadSettings) → command_in words.now ≡ Some (Load settings) → AreTaken words.now →
+        (Rose (K.faults out.old) (K.faults out.new) → ⊥) → result ≢ Status.OutOfMemory → result ≡ Status.Done }
 {
     match read_words(alloc, words) {
         Ok(Command::Replay) => Status::of_replay(replay_script(alloc, script, out)),
         Ok(Command::Serve(settings)) => Status::of_server(serve(
             rt, alloc, &settings, wires, spawner, clock, ids, out,
         )),
+        Ok(Command::Load(settings)) => Status::of_load(load(rt, alloc, settings, out)),
         Err(WordsError::Usage) => Status::Usage,
         Err(WordsError::OutOfMemory) => Status::OutOfMemory,
     }

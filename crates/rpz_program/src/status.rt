@@ -1,8 +1,9 @@
 //! What a run ends with.
 
 ghost use Rattle.std.specs.Prelude.{◌≡◌, IfOk, option_map, string_bytes};
-ghost use Rattle.rpz_program.specs.Status.{code_of, status_of_replay, status_of_server, status_of_stop, text_of};
+ghost use Rattle.rpz_program.specs.Status.{code_of, status_of_load, status_of_replay, status_of_server, status_of_stop, text_of};
 
+use crate::load_error::LoadError;
 use crate::serve_error::ServeError;
 use script_codec::LineFault;
 use script_loop::replay::Stop;
@@ -11,7 +12,7 @@ use std::alloc::{AllocError, Global};
 /// What a run ends with.
 #[derive(Clone, Copy, Debug, PartialEq, Eq)]
 pub enum Status {
-    /// The script was read to its end, or the server took all its turns.
+    /// The script was read to its end, the server took all its turns, or the load was answered.
     Done,
     /// The words of the command line are none that the program takes.
     Usage,
@@ -62,6 +63,17 @@ impl Status {
             Err(ServeError::SocketFault) => Status::SocketFault,
             Err(ServeError::StartFault) => Status::StartFault,
             Err(ServeError::OutOfMemory) => Status::OutOfMemory,
+        }
+    }
+
+    /// How a load run ends.
+    pub(crate) fn of_load(ended: Result<(), LoadError>) -> Status
+        ensures { result ≡ status_of_load ended }
+    {
+        match ended {
+            Ok(()) => Status::Done,
+            Err(LoadError::WriteFault) => Status::WriteFault,
+            Err(LoadError::OutOfMemory) => Status::OutOfMemory,
         }
     }
 

@@ -1,5 +1,6 @@
 use Rattle.std.proofs.Common.{refl, sym, ◌∙◌}
 use Rattle.rpz_program.specs.declared.serve_error.ServeError.TheVariants.{OutOfMemory}
+use Rattle.rpz_program.proofs.Loads.{begins, done_unless, ends_load, failed_if, nothing, same_load, written_if}
 use Rattle.rpz_program.proofs.RunSteps.{untouched}
 use Rattle.rpz_program.proofs.Runs.{stopped_at_start}
 use Rattle.rpz_program.proofs.Statuses.{bad_line_of, same_settings, stopped_by, verdict_is}
@@ -24,3 +25,26 @@ returns-in-Err-OutOfMemory-clause-prefix g c = λ asks. untouched _ _
 
 pub returns-in-Err-OutOfMemory-clause-stopped : goal.returns-in-Err-OutOfMemory-clause-stopped
 returns-in-Err-OutOfMemory-clause-stopped g c = λ early usage settings asks. record { why = OutOfMemory; status_is = refl; stops = stopped_at_start _ _ _ _ _ (λ e. cc) }
+
+pub returns-in-Ok-Load-clause-loaded : goal.returns-in-Ok-Load-clause-loaded
+returns-in-Ok-Load-clause-loaded g c = λ done settings asks.
+    let same = same_load _ c.in-Ok-Load.settings settings (rw c.in-Ok-Load.field-0-is at c.in-Ok-Load.ensures.ok) asks in
+    rw same at (written_if c.load.result _ c.load.ensures.ok (sym c.of_load.ensures ∙ done))
+
+pub returns-in-Ok-Load-clause-begins_line : goal.returns-in-Ok-Load-clause-begins_line
+returns-in-Ok-Load-clause-begins_line g c = λ settings asks.
+    let same = same_load _ c.in-Ok-Load.settings settings (rw c.in-Ok-Load.field-0-is at c.in-Ok-Load.ensures.ok) asks in
+    rw same at (begins c.load.result _ _ _ c.load.ensures.ok c.load.ensures.err)
+
+pub returns-in-Ok-Load-clause-ends_load : goal.returns-in-Ok-Load-clause-ends_load
+returns-in-Ok-Load-clause-ends_load g c = λ settings asks. rw c.of_load.ensures (ends_load c.load.result)
+
+pub returns-in-Ok-Load-clause-complete_load : goal.returns-in-Ok-Load-clause-complete_load
+returns-in-Ok-Load-clause-complete_load g c = λ settings asks taken no_fault memory.
+    rw c.of_load.ensures (done_unless c.load.result _ c.load.ensures.failed no_fault (rw c.of_load.ensures at memory))
+
+pub returns-in-Err-Usage-clause-begins_line : goal.returns-in-Err-Usage-clause-begins_line
+returns-in-Err-Usage-clause-begins_line g c = λ settings asks. nothing _ _
+
+pub returns-in-Err-OutOfMemory-clause-begins_line : goal.returns-in-Err-OutOfMemory-clause-begins_line
+returns-in-Err-OutOfMemory-clause-begins_line g c = λ settings asks. nothing _ _
