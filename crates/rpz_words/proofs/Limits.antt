@@ -13,8 +13,7 @@ use Rattle.dns_name.specs.Labels.{lowered}
 use Rattle.zone_rows.specs.declared.zone.TheConstants.{ZONE_LIMIT}
 use Rattle.rpz_words.specs.declared.command.Command.{Command}
 use Rattle.rpz_words.specs.declared.command.Command.TheVariants.{Load, Replay, Serve}
-use Rattle.load_gen.specs.declared.load.TheConstants.{MOST_QUERIES, MOST_RULES}
-use Rattle.load_gen.specs.declared.running.TheConstants.{MOST_WORKERS}
+use Rattle.rpz_words.specs.declared.settings.TheConstants.{LOAD_WORKER_LIMIT, QUERY_LIMIT, RULE_LIMIT}
 use Rattle.rpz_words.specs.declared.settings.LoadSettings.{LoadSettings}
 use Rattle.rpz_words.specs.declared.settings.Settings.{Settings}
 use Rattle.rpz_words.specs.declared.settings.TheConstants.{TURN_LIMIT, WORKER_LIMIT}
@@ -114,10 +113,10 @@ load_within rows settings e =
     let queries = bind_some (first_of (codes "QUERIES") rows) queries_of c.0 c.1 in
     let workers = bind_some (first_of (codes "WORKERS") rows) load_workers_of d.0 d.1 in
     subst IsLoadable (some_is _ settings d.2) (record {
-      few_rules = count_within MOST_RULES rules.0 b.0 rules.2;
-      few_queries = count_within MOST_QUERIES queries.0 c.0 queries.2;
-      some_workers = (number_within MOST_WORKERS workers.0 d.0 workers.2).0;
-      few_workers = (number_within MOST_WORKERS workers.0 d.0 workers.2).1;
+      few_rules = count_within RULE_LIMIT rules.0 b.0 rules.2;
+      few_queries = count_within QUERY_LIMIT queries.0 c.0 queries.2;
+      some_workers = (number_within LOAD_WORKER_LIMIT workers.0 d.0 workers.2).0;
+      few_workers = (number_within LOAD_WORKER_LIMIT workers.0 d.0 workers.2).1;
     })
 
 -- commands

@@ -3,11 +3,9 @@ use Rattle.std.specs.Prelude.{◌≤◌, length}
 use Rattle.zone_rows.specs.declared.zone.TheConstants.{ZONE_LIMIT}
 use Rattle.rpz_words.specs.declared.command.Command.{Command}
 use Rattle.rpz_words.specs.declared.command.Command.TheVariants.{Load, Replay, Serve}
-use Rattle.load_gen.specs.declared.load.TheConstants.{MOST_QUERIES, MOST_RULES}
-use Rattle.load_gen.specs.declared.running.TheConstants.{MOST_WORKERS}
 use Rattle.rpz_words.specs.declared.settings.LoadSettings.{LoadSettings}
 use Rattle.rpz_words.specs.declared.settings.Settings.{Settings}
-use Rattle.rpz_words.specs.declared.settings.TheConstants.{WORKER_LIMIT}
+use Rattle.rpz_words.specs.declared.settings.TheConstants.{LOAD_WORKER_LIMIT, QUERY_LIMIT, RULE_LIMIT, WORKER_LIMIT}
 use Rattle.rpz_words.specs.Zones.{HasDistinctOrigins}
 
 -- what a server is to do is within its limits
@@ -21,10 +19,10 @@ pub record IsServable (settings : Settings) : Type 0 where
 
 -- what a load run is to do is within its limits
 pub record IsLoadable (settings : LoadSettings) : Type 0 where
-  pub few_rules : settings.rules ≤ MOST_RULES
-  pub few_queries : settings.queries ≤ MOST_QUERIES
+  pub few_rules : settings.rules ≤ RULE_LIMIT
+  pub few_queries : settings.queries ≤ QUERY_LIMIT
   pub some_workers : 1 ≤ settings.workers
-  pub few_workers : settings.workers ≤ MOST_WORKERS
+  pub few_workers : settings.workers ≤ LOAD_WORKER_LIMIT
 
 -- the same of all that words may ask for
 abbrev pub IsWithinLimits : Command → Type 0

@@ -6,9 +6,7 @@ use Rattle.dns_name.specs.Text.{text_name}
 use Rattle.edge_io.specs.declared.endpoint.Endpoint.{Endpoint}
 use Rattle.script_codec.specs.Field.{number_of, v4_of}
 use Rattle.zone_rows.specs.declared.zone.TheConstants.{ZONE_LIMIT}
-use Rattle.load_gen.specs.declared.load.TheConstants.{MOST_QUERIES, MOST_RULES}
-use Rattle.load_gen.specs.declared.running.TheConstants.{MOST_WORKERS}
-use Rattle.rpz_words.specs.declared.settings.TheConstants.{SEED_LIMIT, TURN_LIMIT, WORKER_LIMIT}
+use Rattle.rpz_words.specs.declared.settings.TheConstants.{LOAD_WORKER_LIMIT, QUERY_LIMIT, RULE_LIMIT, SEED_LIMIT, TURN_LIMIT, WORKER_LIMIT}
 use Rattle.rpz_words.specs.declared.values.TheConstants.{PORT_DIGITS, PORT_LIMIT}
 use Rattle.rpz_words.specs.declared.zones.ZoneSetting.{ZoneSetting}
 use Rattle.rpz_words.specs.Outcome.{◌>>=◌, none_if}
@@ -34,14 +32,14 @@ seed_of digits = count_to SEED_LIMIT digits
 
 -- how many rules and queries are made: 0 to 1,000,000
 abbrev pub rules_of : List ℕ → Option ℕ
-rules_of digits = count_to MOST_RULES digits
+rules_of digits = count_to RULE_LIMIT digits
 
 abbrev pub queries_of : List ℕ → Option ℕ
-queries_of digits = count_to MOST_QUERIES digits
+queries_of digits = count_to QUERY_LIMIT digits
 
 -- how many workers answer in a load run: 1 to 16
 abbrev pub load_workers_of : List ℕ → Option ℕ
-load_workers_of digits = number_to MOST_WORKERS digits
+load_workers_of digits = number_to LOAD_WORKER_LIMIT digits
 
 -- how many arrivals are taken: 1 to 4,294,967,295
 abbrev pub turns_of : List ℕ → Option ℕ

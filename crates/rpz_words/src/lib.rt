@@ -12,7 +12,9 @@ mod zones;
 
 pub use command::Command;
 pub use reading::read_words;
-pub use settings::{LoadSettings, Settings, WORKER_LIMIT};
+pub use settings::{
+    LOAD_WORKER_LIMIT, LoadSettings, QUERY_LIMIT, RULE_LIMIT, Settings, WORKER_LIMIT,
+};
 pub use words_error::WordsError;
 pub use zones::{ZoneSetting, Zones};
 

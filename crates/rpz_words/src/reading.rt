@@ -12,14 +12,16 @@ ghost use Rattle.rpz_words.specs.Words.{argv, command_of, load_settings_of, rpz_
 
 use crate::command::Command;
 use crate::command_set::rpz_command;
-use crate::settings::{LoadSettings, SEED_LIMIT, Settings, TURN_LIMIT, WORKER_LIMIT};
+use crate::settings::{
+    LOAD_WORKER_LIMIT, LoadSettings, QUERY_LIMIT, RULE_LIMIT, SEED_LIMIT, Settings, TURN_LIMIT,
+    WORKER_LIMIT,
+};
 use crate::values::{count_to, number_to, read_endpoint, read_zones};
 use crate::words_error::WordsError;
 use crate::zones::Zones;
 use clap::ArgMatches;
 use clap::error::ErrorKind;
 use edge_io::Endpoint;
-use load_gen::{MOST_QUERIES, MOST_RULES, MOST_WORKERS};
 use std::alloc::{AllocError, Global};
 
 /// What the words of a command line ask for, without the program's name. `Usage` comes where they are none of the
@@ -113,9 +115,9 @@ fn read_load(matches: &ArgMatches) -> Result<LoadSettings, WordsError>
     ensures { Gives result (load_settings_of (rows_of (found_of matches.now))) }
 {
     let seed = count_at(matches, "SEED", SEED_LIMIT).ok_or(WordsError::Usage)?;
-    let rules = count_at(matches, "RULES", MOST_RULES).ok_or(WordsError::Usage)?;
-    let queries = count_at(matches, "QUERIES", MOST_QUERIES).ok_or(WordsError::Usage)?;
-    let workers = number_at(matches, "WORKERS", MOST_WORKERS).ok_or(WordsError::Usage)?;
+    let rules = count_at(matches, "RULES", RULE_LIMIT).ok_or(WordsError::Usage)?;
+    let queries = count_at(matches, "QUERIES", QUERY_LIMIT).ok_or(WordsError::Usage)?;
+    let workers = number_at(matches, "WORKERS", LOAD_WORKER_LIMIT).ok_or(WordsError::Usage)?;
     Ok(LoadSettings {
         seed,
         rules,

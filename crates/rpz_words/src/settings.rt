@@ -7,6 +7,15 @@ use script_codec::WORKERS;
 /// The most workers of a server.
 pub const WORKER_LIMIT: usize = WORKERS;
 
+/// The most rules of a load run.
+pub const RULE_LIMIT: u32 = 1_000_000;
+
+/// The most queries of a load run.
+pub const QUERY_LIMIT: u32 = 1_000_000;
+
+/// The most workers of a load run.
+pub const LOAD_WORKER_LIMIT: u32 = 16;
+
 /// The greatest seed of a load run.
 pub(crate) const SEED_LIMIT: u32 = u32::MAX;
 
@@ -33,9 +42,9 @@ pub struct Settings {
 pub struct LoadSettings {
     /// What the rules and the queries are made from.
     pub seed: u32,
-    /// How many rules are made: at most [`MOST_RULES`](load_gen::MOST_RULES).
+    /// How many rules are made: at most [`RULE_LIMIT`].
     pub rules: u32,
-    /// How many queries are made and answered: at most [`MOST_QUERIES`](load_gen::MOST_QUERIES).
+    /// How many queries are made and answered: at most [`QUERY_LIMIT`].
     pub queries: u32,
     /// How many workers answer: 1 to 16.
     pub workers: u32,
