@@ -117,6 +117,8 @@ class Reader:
     # -- what is expected: each gives a line of the transcript
 
     def output(self, worker, text, block):
+        if text.startswith("writes "):
+            return text.removeprefix("writes ") + "\n"
         words = text.replace(",", " ").split()
         if words[0] in ("taken", "current"):
             if words[1] != "serial":
@@ -284,6 +286,8 @@ class Shower:
 
     def output(self, words, compressed):
         kind = words[0]
+        if kind == "rows":
+            return " ".join(["writes", *words]), []
         if kind == "taken":
             return f"taken serial {words[2]}, {words[3]} row{'' if words[3] == '1' else 's'}", []
         if kind == "current":
