@@ -1,7 +1,7 @@
 #!/usr/bin/env python3
 """How fast `rpz serve` answers over UDP, beside other servers on the same machine, with the same policy zone.
 
-    python3 bench/serve.py RPZ [--seconds N] [--rules N,N] [--servers NAME,NAME] [--workers N,N]
+    python3 bench/serve.py RPZ [--seconds N] [--rounds N] [--rules N,N] [--servers NAME,NAME] [--workers N,N]
 
 RPZ is the built program. Wanted: nsd, the primary of the policy zone and the upstream, dnsperf, and cc. Of unbound, pdns_recursor and
 named those that are installed are measured beside; `echo` is bench/udp_echo.c, one thread that sends each datagram back, which bounds
@@ -9,11 +9,13 @@ what one thread can receive and send.
 
 Half of the rules are hK.gJ.example CNAME . and half *.wK.gJ.example CNAME . Queries are for names of the first kind (hits), for 4,000
 names that no rule is about and that are in each server's cache (cached passes), or for both by turns (mix). dnsperf has two cores and
-the server the others. Each row is one run at the greatest rate that dnsperf reaches, and one at half of it, of which come the lost
-queries and the latency of which 99 of 100 queries stay below. CPU is that of all threads of the server, user and system.
+the server the others. The servers take turns, round by round, each at the greatest rate that dnsperf reaches, and of each row the
+greatest rate and the least CPU of all rounds count; CPU is that of all threads of the server, user and system. In the last round
+comes a run at half of the rate, of which come the lost queries and the latency of which 99 of 100 queries stay below.
 
-`rpz` polls its zone after each 64th arrival. What that costs is measured with a second, empty zone beside the first: the difference
-in CPU for a query is the share of one zone's polls, which is printed, and the last column is the CPU without it.
+`rpz` polls its zone after each 64th arrival. What that costs is measured at a fixed rate, without and with eight more zones, which are
+empty: an eighth of the difference in CPU for a query is the share of one zone's polls, which is printed, and the last column is the
+CPU without it.
 """
 
 import argparse
@@ -30,12 +32,15 @@ import time
 
 ROOT = pathlib.Path(__file__).resolve().parent
 sys.path.insert(0, str(ROOT.parent / "tools"))
-SECONDS = 10
+SECONDS = 5
+ROUNDS = 3
 RULES = (1_000, 1_000_000)
 WORKERS = (1, 4)
 GROUP = 100  # names of one gJ.example
 PASSES = 4_000  # of the 4,096 that a cache of rpz keeps
 NAMES = 100_000  # lines of a file of queries
+POLL_RATE = 20_000  # queries a second at which the cost of polls is measured
+MORE_ZONES = [f"more{number}.example" for number in range(8)]
 KINDS = ("hits", "cached passes", "mix")
 SERVERS = ("echo", "rpz", "unbound", "pdns_recursor", "named")
 PRIMARY, PORT = 5301, 5310
@@ -52,7 +57,7 @@ def write_zones(folder, count):
         out.write("$ORIGIN rpz.example.\n" + head)
         for number in range(count // 2):
             out.write(f"{host('h', number)} CNAME .\n*.{host('w', number)} CNAME .\n")
-    (folder / "two.zone").write_text("$ORIGIN two.example.\n" + head)
+    (folder / "more.zone").write_text(head)
     with open(folder / "example.zone", "w", encoding="ascii") as out:
         out.write("$ORIGIN example.\n" + head)
         for number in range(PASSES):
@@ -88,7 +93,7 @@ remote-control:
   name: {name}
   zonefile: {file}
   provide-xfr: 127.0.0.1 NOKEY
-""" for name, file in (("rpz.example", "rpz.zone"), ("two.example", "two.zone"), ("example", "example.zone"))))
+""" for name, file in (("rpz.example", "rpz.zone"), ("example", "example.zone"), *((zone, "more.zone") for zone in MORE_ZONES))))
     (folder / "unbound.conf").write_text(f"""server:
   interface: 127.0.0.1@{PORT}
   num-threads: {workers}
@@ -213,27 +218,31 @@ def p99(text):
 
 
 def measure(pid, path, cores, seconds):
-    """Queries a second, CPU seconds for a million of them, and at half that rate the lost ones and the 99th percentile."""
-    dnsperf(path, cores, 2)
+    """Queries a second, and CPU seconds for a million of them."""
+    dnsperf(path, cores, 1)
     before = cpu_seconds(pid)
     text = dnsperf(path, cores, seconds)
     used = cpu_seconds(pid) - before
-    done = number(text, "Queries completed")
-    rate = number(text, "Queries per second")
+    return number(text, "Queries per second"), 1e6 * used / number(text, "Queries completed")
+
+
+def at_half_rate(path, cores, seconds, rate):
+    """Lost queries, those sent, and the latency of which 99 of 100 stay below."""
     half = dnsperf(path, cores, seconds, rate=int(rate / 2), verbose=True)
-    return rate, 1e6 * used / done, number(half, "Queries lost"), number(half, "Queries sent"), p99(half)
+    return number(half, "Queries lost"), number(half, "Queries sent"), p99(half)
 
 
-def row(server, kind, rules, workers, figures, share=None):
-    rate, cpu, lost, sent, latency = figures
-    without = "" if share is None else f"{cpu - share:8.2f}"
-    print(f"{rules:>9,} {kind:<14} {server:<14} {workers:>7} {rate / 1000:8.1f} {cpu:8.2f} {latency:8.0f} {lost:6.0f} of {sent:9.0f} {without}", flush=True)
+def show(rules, workers, figures, share):
+    for (server, kind), (rate, cpu, (lost, sent, latency)) in figures.items():
+        without = f"{cpu - share:8.2f}" if server == "rpz" else ""
+        print(f"{rules:>9,} {kind:<14} {server:<14} {workers:>7} {rate / 1000:8.1f} {cpu:8.2f} {latency:8.0f} {lost:6.0f} of {sent:9.0f} {without}", flush=True)
 
 
 def main():
     parser = argparse.ArgumentParser()
     parser.add_argument("rpz")
     parser.add_argument("--seconds", type=int, default=SECONDS)
+    parser.add_argument("--rounds", type=int, default=ROUNDS)
     parser.add_argument("--rules", default=",".join(map(str, RULES)))
     parser.add_argument("--workers", default=",".join(map(str, WORKERS)))
     parser.add_argument("--servers", default=",".join(SERVERS))
@@ -252,32 +261,43 @@ def main():
             paths = {kind: write_queries(folder, kind, rules) for kind in KINDS}
             for workers in map(int, options.workers.split(",")):
                 write_configurations(folder, workers)
-                for server in servers:
-                    with Running(["nsd", "-d", "-c", str(folder / "nsd.conf")], mine):
-                        time.sleep(1 + rules / 200_000)
-                        compare(server, folder, program, rules, workers, paths, (servers_cores, mine), options.seconds)
+                compare(servers, folder, program, rules, workers, paths, (servers_cores, mine), options)
 
 
-def compare(server, folder, program, rules, workers, paths, cores, seconds):
-    zones = ["rpz.example"]
-    share = None
-    if server == "rpz":
-        share = poll_share(folder, program, workers, paths["hits"], cores, seconds)
-        print(f"{'':>9} polls of a zone cost rpz {share:.2f} CPU seconds for a million queries")
-    with Running(words_of(server, folder, program, workers, zones), cores[0]) as pid:
+def compare(servers, folder, program, rules, workers, paths, cores, options):
+    figures, share = {}, 0.0
+    with Running(["nsd", "-d", "-c", str(folder / "nsd.conf")], cores[1]):
+        time.sleep(1 + rules / 200_000)
+        if "rpz" in servers:
+            share = poll_share(folder, program, workers, paths["hits"], cores, options.seconds)
+            print(f"{'':>9} polls of a zone cost rpz {share:.2f} CPU seconds for a million queries", flush=True)
+        for turn in range(options.rounds):
+            for server in servers:
+                take_turn(server, folder, program, workers, paths, cores, options.seconds, figures, turn == options.rounds - 1)
+    show(rules, workers, figures, share)
+
+
+def take_turn(server, folder, program, workers, paths, cores, seconds, figures, is_last):
+    with Running(words_of(server, folder, program, workers, ["rpz.example"]), cores[0]) as pid:
         wait_until_loaded(server)
         for kind, path in paths.items():
-            if server != "echo" or kind == "hits":
-                row(server, kind, rules, workers, measure(pid, path, cores[1], seconds), share)
+            if server == "echo" and kind != "hits":
+                continue
+            rate, cpu = measure(pid, path, cores[1], seconds)
+            best, least, _ = figures.get((server, kind), (rate, cpu, None))
+            rate, cpu = max(rate, best), min(cpu, least)
+            figures[server, kind] = rate, cpu, at_half_rate(path, cores[1], seconds, rate) if is_last else None
 
 
 def poll_share(folder, program, workers, path, cores, seconds):
     costs = []
-    for zones in (["rpz.example"], ["rpz.example", "two.example"]):
+    for zones in (["rpz.example"], ["rpz.example", *MORE_ZONES]):
         with Running(words_of("rpz", folder, program, workers, zones), cores[0]) as pid:
             wait_until_loaded("rpz")
-            costs.append(measure(pid, path, cores[1], seconds)[1])
-    return max(0.0, costs[1] - costs[0])
+            before = cpu_seconds(pid)
+            done = number(dnsperf(path, cores[1], 2 * seconds, rate=POLL_RATE), "Queries completed")
+            costs.append(1e6 * (cpu_seconds(pid) - before) / done)
+    return max(0.0, (costs[1] - costs[0]) / len(MORE_ZONES))
 
 
 if __name__ == "__main__":
