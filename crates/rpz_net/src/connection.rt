@@ -1,6 +1,5 @@
 //! Both sides of a connection.
 
-use crate::kept::OneRead;
 use crate::limits::CLIENT_BUFFER;
 use crate::read_buffer::ReadBuffer;
 use crate::tcp_sink::TcpSink;
@@ -34,8 +33,9 @@ fn set_client_options(stream: &TcpStream) -> io::Result<()> {
 fn share(
     alloc: Global,
     stream: TcpStream,
+    ahead: usize,
 ) -> Result<(Arc<TcpStream>, Arc<TcpStream>, ReadBuffer), AllocError> {
-    let buffer = ReadBuffer::new(alloc, CLIENT_BUFFER)?;
+    let buffer = ReadBuffer::new(alloc, ahead)?;
     let Ok(stream) = Arc::new(alloc, stream) else {
         return Err(AllocError);
     };
@@ -58,41 +58,10 @@ pub(crate) fn sides_of<R: time::Clock + Copy + Drop>(
     if set_options(&stream, limit).is_err() {
         return Err(WireError::Failed);
     }
-    match Arc::new(alloc, stream) {
-        Ok(stream) => sides_over(rt, alloc, stream, ahead, span, limit, None),
-        Err(_) => Err(WireError::OutOfMemory),
-    }
-}
-
-/// A new connection to a primary server, whose calls have this limit. `Failed` comes where the socket takes no option.
-pub(crate) fn shared_stream(
-    alloc: Global,
-    stream: TcpStream,
-    limit: Duration,
-) -> Result<Arc<TcpStream>, WireError> {
-    if set_options(&stream, limit).is_err() {
-        return Err(WireError::Failed);
-    }
-    match Arc::new(alloc, stream) {
-        Ok(stream) => Ok(stream),
-        Err(_) => Err(WireError::OutOfMemory),
-    }
-}
-
-/// Both sides of a connection to a server whose calls have this limit already.
-pub(crate) fn sides_over<R: time::Clock + Copy + Drop>(
-    rt: R,
-    alloc: Global,
-    stream: Arc<TcpStream>,
-    ahead: usize,
-    span: Span,
-    limit: Duration,
-    one_read: Option<OneRead>,
-) -> Result<Sides<R>, WireError> {
-    let (Ok(buffer), Ok(again)) = (ReadBuffer::new(alloc, ahead), Arc::try_clone(&stream)) else {
+    let Ok((stream, again, buffer)) = share(alloc, stream, ahead) else {
         return Err(WireError::OutOfMemory);
     };
-    let source = TcpSource::new(rt, stream, buffer, TimeLimit::new(span, limit), one_read);
+    let source = TcpSource::new(rt, stream, buffer, TimeLimit::new(span, limit));
     let sink = TcpSink::new(rt, again, TimeLimit::new(span, limit), false);
     Ok((source, sink))
 }
@@ -109,16 +78,10 @@ pub(crate) fn client_sides<R: time::Clock + Copy + Drop>(
     if set_client_options(&stream).is_err() {
         return Err(WireError::Failed);
     }
-    let Ok((stream, again, buffer)) = share(alloc, stream) else {
+    let Ok((stream, again, buffer)) = share(alloc, stream, CLIENT_BUFFER) else {
         return Err(WireError::OutOfMemory);
     };
-    let source = TcpSource::new(
-        rt,
-        stream,
-        buffer,
-        TimeLimit::untold(Span::Frame, limit),
-        None,
-    );
+    let source = TcpSource::new(rt, stream, buffer, TimeLimit::untold(Span::Frame, limit));
     let sink = TcpSink::new(rt, again, TimeLimit::untold(Span::Frame, limit), true);
     Ok((source.of_client(client), sink))
 }

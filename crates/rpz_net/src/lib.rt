@@ -9,7 +9,6 @@ mod address;
 mod backoff;
 mod connection;
 mod frame_gauge;
-mod kept;
 pub mod limits;
 mod net_wires;
 mod random_ids;

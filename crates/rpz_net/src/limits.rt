@@ -25,13 +25,6 @@ pub const TRANSFER_SECONDS: u64 = 10;
 /// Seconds within which a primary server must take a connection.
 pub const CONNECT_SECONDS: u64 = 2;
 
-/// Seconds in which a connection to a primary server may be used again. It is less than the time after which servers close a
-/// connection on which nothing is asked (10 seconds and more), so that the two don't meet.
-pub const KEPT_SECONDS: u64 = 2;
-
-/// How many connections to primary servers are kept. There are no more policy zones.
-pub const KEPT_MOST: usize = 32;
-
 /// Seconds for which a primary server that took no connection isn't asked again.
 pub const BACKOFF_SECONDS: u64 = 10;
 
@@ -60,7 +53,7 @@ pub const SHORTAGE_MILLISECONDS: u64 = 10;
 pub const CLIENT_BUFFER: usize = 4_096;
 
 /// The bytes that are read ahead of a connection to a primary server.
-pub const TRANSFER_BUFFER: usize = 16_384;
+pub const TRANSFER_BUFFER: usize = 65_536;
 
 /// The bytes of the longest datagram that is taken whole. The length of UDP has two bytes (RFC 768), so none is longer.
 pub const DATAGRAM_MAX: usize = 65_535;

@@ -5,8 +5,7 @@ ghost use Rattle.edge_io.specs.Edge.{Rose};
 
 use crate::address::address_of;
 use crate::backoff::Backoff;
-use crate::connection::{shared_stream, sides_over};
-use crate::kept::KeptConnections;
+use crate::connection::sides_of;
 use crate::limits::{
     BACKOFF_SECONDS, CONNECT_SECONDS, FRAME_SECONDS, TRANSFER_BUFFER, TRANSFER_SECONDS,
     UPSTREAM_ANSWER_SECONDS, UPSTREAM_CONNECT_SECONDS,
@@ -39,7 +38,6 @@ pub struct NetWires<
     alloc: Global,
     sockets: Option<ServerSockets<R>>,
     backoff: Backoff,
-    kept: KeptConnections,
     fetch_faults: u64,
     faults: u64,
     // Errors of a call that then ran out of memory. The next call that doesn't counts them.
@@ -65,7 +63,6 @@ impl<
             alloc,
             sockets: None,
             backoff: Backoff::new(alloc),
-            kept: KeptConnections::new(alloc),
             fetch_faults: 0,
             faults: 0,
             uncounted: 0,
@@ -113,37 +110,18 @@ fn connect<R: Net<Stream = TcpStream> + time::Clock>(
     connected
 }
 
-// Both sides of a connection to a primary server: of one that is kept, or else of a new one.
+// Both sides of a connection to a primary server.
 fn open<R: Net<Stream = TcpStream> + time::Clock + Copy + Drop>(
     rt: R,
     alloc: Global,
     backoff: &mut Backoff,
-    kept: &mut KeptConnections,
     primary: Endpoint,
 ) -> Result<(TcpSource<R>, TcpSink<R>), WireError> {
     let limit = Duration::from_secs(TRANSFER_SECONDS);
-    let Ok(now) = Instant::now(&rt) else {
-        return Err(WireError::Failed);
-    };
-    let stream = match kept.take(primary, now) {
-        Some(stream) => stream,
-        None => match connect(&rt, backoff, primary) {
-            Ok(stream) => shared_stream(alloc, stream, limit)?,
-            Err(_) => return Err(WireError::Failed),
-        },
-    };
-    let Ok(one_read) = kept.keep(alloc, primary, &stream, now) else {
-        return Err(WireError::OutOfMemory);
-    };
-    sides_over(
-        rt,
-        alloc,
-        stream,
-        TRANSFER_BUFFER,
-        Span::Call,
-        limit,
-        Some(one_read),
-    )
+    match connect(&rt, backoff, primary) {
+        Ok(stream) => sides_of(rt, alloc, stream, TRANSFER_BUFFER, Span::Call, limit),
+        Err(_) => Err(WireError::Failed),
+    }
 }
 
 impl<
@@ -212,13 +190,7 @@ impl<
     }
 
     fn fetch(&mut self, primary: Endpoint) -> Result<(TcpSource<R>, TcpSink<R>), WireError> {
-        match open(
-            self.rt,
-            self.alloc,
-            &mut self.backoff,
-            &mut self.kept,
-            primary,
-        ) {
+        match open(self.rt, self.alloc, &mut self.backoff, primary) {
             Ok(sides) => Ok(sides),
             Err(WireError::OutOfMemory) => Err(WireError::OutOfMemory),
             Err(WireError::Failed) => {

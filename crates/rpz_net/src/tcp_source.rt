@@ -3,14 +3,12 @@
 ghost use Rattle.std.specs.Prelude.{◌≡◌, None};
 
 use crate::frame_gauge::FrameGauge;
-use crate::kept::OneRead;
 use crate::limits::CONNECTION_MESSAGES;
 use crate::read_buffer::ReadBuffer;
 use crate::time_limit::TimeLimit;
 use edge_io::{Endpoint, Failed, Source};
 use std::net::TcpStream;
 use std::sync::Arc;
-use std::sync::atomic::Ordering;
 use std::{io, time};
 
 /// What a connection of a client has for a worker.
@@ -42,10 +40,6 @@ pub struct TcpSource<R: time::Clock + Drop> {
     client: Option<Client>,
     // The socket doesn't wait.
     is_quick: bool,
-    // Of a connection to a primary server: who wants to know whether one message was read, whole, and nothing behind it.
-    one_read: Option<OneRead>,
-    // A message was read to its end.
-    has_read: bool,
     faults: u64,
 }
 
@@ -61,13 +55,7 @@ struct Client {
 
 impl<R: time::Clock + Drop> TcpSource<R> {
     // Reads from a server over a socket whose reads wait as the limit says.
-    pub(crate) fn new(
-        rt: R,
-        stream: Arc<TcpStream>,
-        buffer: ReadBuffer,
-        time: TimeLimit,
-        one_read: Option<OneRead>,
-    ) -> Self
+    pub(crate) fn new(rt: R, stream: Arc<TcpStream>, buffer: ReadBuffer, time: TimeLimit) -> Self
         ensures no_fault { ⟦<TcpSource<R> as Source>⟧.faults result ≡ 0 }
     {
         TcpSource {
@@ -78,8 +66,6 @@ impl<R: time::Clock + Drop> TcpSource<R> {
             time,
             client: None,
             is_quick: false,
-            one_read,
-            has_read: false,
             faults: 0,
         }
     }
@@ -189,20 +175,11 @@ impl<R: time::Clock + Drop> TcpSource<R> {
         Err(io::Error::from(io::ErrorKind::TimedOut))
     }
 
-    // Tells whether one message was read and nothing behind it.
-    fn tell_one_read(&self, is_so: bool) {
-        if let Some(one_read) = &self.one_read {
-            one_read.store(is_so, Ordering::SeqCst);
-        }
-    }
-
     // A frame was read to its end. The socket of a client doesn't wait then.
     fn end_frame(&mut self)
         ensures count { self.new.faults ≡ self.old.faults }
     {
         self.time.end_frame();
-        self.tell_one_read(!self.has_read && self.buffer.is_empty());
-        self.has_read = true;
         if self.client.is_some() && !self.is_quick {
             self.is_quick = self.stream.set_nonblocking(true).is_ok();
         }
@@ -217,11 +194,8 @@ impl<R: time::Clock + Drop> Source for TcpSource<R> {
     ghost steady = { λ _. ⊥ };
 
     fn read(&mut self, into: &mut [u8]) -> Result<usize, Failed> {
-        if self.gauge.is_between_frames() {
-            self.tell_one_read(false);
-            if self.ends_here() {
-                return Ok(0);
-            }
+        if self.gauge.is_between_frames() && self.ends_here() {
+            return Ok(0);
         }
         if self.buffer.is_empty() && self.fill().is_err() {
             self.faults = self.faults.saturating_add(1);

@@ -335,61 +335,6 @@ fn a_length_goes_out_with_its_message(rt: HostRuntime) -> Result<(), Fail> {
     Ok(())
 }
 
-// One answer after another is sent back on one connection, two frames of ten bytes, and one on another connection.
-fn echo_thrice(listener: &TcpListener) -> io::Result<()> {
-    let (mut stream, _) = listener.accept()?;
-    let mut bytes = [0; 10];
-    for _ in 0..2u8 {
-        stream.read_exact(&mut bytes)?;
-        stream.write_all(&bytes)?;
-    }
-    drop(stream);
-    echo_once(listener)
-}
-
-// Whether what is asked of a primary server comes back.
-fn is_echoed<
-    R: Net<Listener = TcpListener, Stream = TcpStream>
-        + time::Clock
-        + Wait
-        + Copy
-        + Drop
-        + Send
-        + 'static,
->(alloc: Global, wires: &mut NetWires<R>) -> bool {
-    let Ok((mut source, mut sink)) = wires.fetch(at(39160)) else {
-        return false;
-    };
-    if write_frame(&mut sink, b"question").is_err() {
-        return false;
-    }
-    match read_frame(alloc, &mut source) {
-        Ok(Some(message)) => message.as_slice() == b"question".as_slice(),
-        _ => false,
-    }
-}
-
-// A connection to a primary server is used again, unless the server has closed it.
-#[test]
-fn a_primary_is_asked_again(rt: HostRuntime) -> Result<(), Fail> {
-    let alloc: Global = rt.alloc();
-    let listener = rt.bind(address_of(at(39160)))?;
-    let mut wires = NetWires::new(rt, alloc);
-    let (served, asked) = thread::join(
-        &rt,
-        || echo_thrice(&listener).is_ok(),
-        || {
-            let first = is_echoed(alloc, &mut wires);
-            let second = is_echoed(alloc, &mut wires);
-            thread::sleep(&rt, Duration::from_millis(100));
-            (first, second, is_echoed(alloc, &mut wires))
-        },
-    );
-    assert!(rt; served);
-    assert_eq!(rt; asked, (true, true, true));
-    Ok(())
-}
-
 // Calls of wires that aren't bound, an upstream and a primary server that aren't there; and that server once it is.
 #[test]
 fn calls_fail_where_nobody_is(rt: HostRuntime) -> Result<(), Fail> {
