@@ -10,8 +10,10 @@ tools/ask.py where there is none.
 """
 import pathlib
 import shutil
+import socket
 import subprocess
 import sys
+import time
 
 ROOT = pathlib.Path(__file__).resolve().parent.parent
 PROGRAM = ROOT / "crates" / "rpz"
@@ -21,7 +23,14 @@ QUERIES = (("blocked.example", False), ("walled.example", False), ("www.example"
 
 def small_server(port, zone):
     words = [sys.executable, ROOT / "tools" / "small_server.py", "127.0.0.1", str(port), ROOT / "tools" / "demo" / zone]
-    return subprocess.Popen(words)
+    process = subprocess.Popen(words)
+    for _ in range(100):
+        try:
+            socket.create_connection(("127.0.0.1", port), 1).close()
+            break
+        except OSError:
+            time.sleep(0.05)
+    return process
 
 
 def serve_words():

@@ -14,7 +14,7 @@ use std::thread::Threads;
 use std::time::Clock;
 use std::{io, thread};
 
-const LINE: &str = "serve 127.0.0.1:39170 127.0.0.1:39171 2 1 rpz.example@127.0.0.1:39172";
+const LINE: &str = "serve 127.0.0.1:29170 127.0.0.1:29171 2 1 rpz.example@127.0.0.1:29172";
 
 // Queries over TCP aren't counted.
 const WRITTEN: &[u8] = b"taken 1 1 1\nserved 2 reply 1 silent 0 memory 0 failed 0\n";
@@ -35,16 +35,16 @@ fn send_zone(primary: &TcpListener) -> io::Result<()> {
 
 // Whether a query over UDP gets this reply.
 fn asks_over_udp<R: Net>(rt: &R, reply: &[u8]) -> io::Result<bool> {
-    let client = UdpSocket::bind(rt, local(39173))?;
-    client.send_to(DENIED, local(39170))?;
+    let client = UdpSocket::bind(rt, local(29173))?;
+    client.send_to(DENIED, local(29170))?;
     let mut bytes = [0; 512];
     let (len, from) = client.recv_from(&mut bytes)?;
-    Ok(from == local(39170) && &bytes[..len] == reply)
+    Ok(from == local(29170) && &bytes[..len] == reply)
 }
 
 // Whether a query over TCP gets this reply, both behind their lengths.
 fn asks_over_tcp<R: Net<Stream = TcpStream>>(rt: &R, reply: &[u8]) -> io::Result<bool> {
-    let mut client = rt.connect(local(39170))?;
+    let mut client = rt.connect(local(29170))?;
     client.write_all(&[0, (DENIED.len() % 256) as u8])?;
     client.write_all(DENIED)?;
     let mut bytes = [0; 512];
@@ -74,7 +74,7 @@ fn serve_and_ask<
         + Sync
         + 'static,
 >(rt: R, alloc: Global) -> Result<(), Fail> {
-    let primary = rt.bind(local(39172))?;
+    let primary = rt.bind(local(29172))?;
     let mut wires = NetWires::new(rt, alloc);
     let (asked, served) = thread::join(
         &rt,

@@ -49,7 +49,7 @@ fn pair<R: Net<Listener = TcpListener, Stream = TcpStream>>(
 #[test]
 fn datagrams_and_connections_come(rt: HostRuntime) -> Result<(), Fail> {
     let mut wires = NetWires::new(rt, rt.alloc());
-    wires.bind(at(39150))?;
+    wires.bind(at(29150))?;
     a_datagram_comes(&rt, &mut wires)?;
     a_connection_comes(&rt, rt.alloc(), &mut wires)
 }
@@ -64,18 +64,18 @@ fn a_datagram_comes<
         + Send
         + 'static,
 >(rt: &R, wires: &mut NetWires<R>) -> Result<(), Fail> {
-    let client = UdpSocket::bind(rt, address_of(at(39151)))?;
-    client.send_to(b"query", address_of(at(39150)))?;
+    let client = UdpSocket::bind(rt, address_of(at(29151)))?;
+    client.send_to(b"query", address_of(at(29150)))?;
     let Arrival::Datagram { peer, bytes } = wires.next()? else {
         return Err("a datagram".into());
     };
-    assert_eq!(rt; peer, at(39151));
+    assert_eq!(rt; peer, at(29151));
     assert_eq!(rt; bytes.as_slice(), b"query".as_slice());
     let mut replies = wires.replies()?;
     replies.send(peer, b"reply")?;
     let mut reply = [0; 8];
     let (len, from) = client.recv_from(&mut reply)?;
-    assert_eq!(rt; (len, from), (5, address_of(at(39150))));
+    assert_eq!(rt; (len, from), (5, address_of(at(29150))));
     Ok(())
 }
 
@@ -89,7 +89,7 @@ fn a_connection_comes<
         + Send
         + 'static,
 >(rt: &R, alloc: Global, wires: &mut NetWires<R>) -> Result<(), Fail> {
-    let mut client = rt.connect(address_of(at(39150)))?;
+    let mut client = rt.connect(address_of(at(29150)))?;
     client.write_all(FRAMES)?;
     let Arrival::Connection {
         mut source,
@@ -123,9 +123,9 @@ fn echo_once(listener: &TcpListener) -> io::Result<()> {
 #[test]
 fn a_question_is_answered(rt: HostRuntime) -> Result<(), Fail> {
     let alloc: Global = rt.alloc();
-    let listener = rt.bind(address_of(at(39152)))?;
+    let listener = rt.bind(address_of(at(29152)))?;
     let limit = Duration::from_secs(2);
-    let mut link = TcpLink::new(rt, at(39152), limit, limit);
+    let mut link = TcpLink::new(rt, at(29152), limit, limit);
     let (served, answer) = thread::join(
         &rt,
         || echo_once(&listener).is_ok(),
@@ -139,9 +139,9 @@ fn a_question_is_answered(rt: HostRuntime) -> Result<(), Fail> {
 // The upstream takes the connection, by its system alone, and says nothing.
 #[test]
 fn a_silent_upstream_costs_the_limit(rt: HostRuntime) -> Result<(), Fail> {
-    let _listener = rt.bind(address_of(at(39153)))?;
+    let _listener = rt.bind(address_of(at(29153)))?;
     let limit = Duration::from_millis(200);
-    let mut link = TcpLink::new(rt, at(39153), limit, limit);
+    let mut link = TcpLink::new(rt, at(29153), limit, limit);
     let start = Instant::now(&rt)?;
     assert!(rt;
         matches!(
@@ -195,7 +195,7 @@ fn wait_for_message<R: time::Clock + Drop>(rt: &R, source: &mut TcpSource<R>) ->
 #[test]
 fn a_message_that_drips_has_its_limit(rt: HostRuntime) -> Result<(), Fail> {
     let alloc: Global = rt.alloc();
-    let (client, server) = pair(&rt, 39154)?;
+    let (client, server) = pair(&rt, 29154)?;
     let limit = Duration::from_millis(300);
     let (mut source, sink) = client_sides(rt, alloc, server, at(0), limit)?;
     let (dripped, read) = thread::join(
@@ -242,9 +242,9 @@ fn next_bytes<
 #[test]
 fn connections_wait_for_their_messages(rt: HostRuntime) -> Result<(), Fail> {
     let alloc: Global = rt.alloc();
-    let mut sockets = ServerSockets::open(&rt, alloc, at(39155), Duration::from_millis(300))?;
-    let peer = UdpSocket::bind(&rt, address_of(at(39159)))?;
-    let mut client = rt.connect(address_of(at(39155)))?;
+    let mut sockets = ServerSockets::open(&rt, alloc, at(29155), Duration::from_millis(300))?;
+    let peer = UdpSocket::bind(&rt, address_of(at(29159)))?;
+    let mut client = rt.connect(address_of(at(29155)))?;
     for (sent, datagram, comes) in [
         (b"".as_slice(), b"first".as_slice(), b"first".as_slice()),
         (b"\0\x02h", b"second", b"second"),
@@ -253,7 +253,7 @@ fn connections_wait_for_their_messages(rt: HostRuntime) -> Result<(), Fail> {
     ] {
         client.write_all(sent)?;
         if !datagram.is_empty() {
-            peer.send_to(datagram, address_of(at(39155)))?;
+            peer.send_to(datagram, address_of(at(29155)))?;
         }
         assert_eq!(rt;
             next_bytes(rt, alloc, &mut sockets)
@@ -270,7 +270,7 @@ fn read_all(mut client: &TcpStream, peer: &UdpSocket) -> io::Result<usize> {
     client.set_read_timeout(Some(Duration::from_secs(2)))?;
     client.read_exact(&mut [0; 8])?;
     let more = client.read(&mut [0; 8])?;
-    peer.send_to(b"last", address_of(at(39155)))?;
+    peer.send_to(b"last", address_of(at(29155)))?;
     Ok(more)
 }
 
@@ -306,7 +306,7 @@ fn is_closed<
 // Frames are written to a client that reads none: once the system keeps no more of them, one fails.
 #[test]
 fn a_client_that_reads_nothing_has_its_limit(rt: HostRuntime) -> Result<(), Fail> {
-    let (_client, server) = pair(&rt, 39156)?;
+    let (_client, server) = pair(&rt, 29156)?;
     let limit = Duration::from_millis(200);
     let (_source, mut sink) = client_sides(rt, rt.alloc(), server, at(0), limit)?;
     let message = vec![in rt.alloc(); 0; 60_000]?;
@@ -321,7 +321,7 @@ fn a_client_that_reads_nothing_has_its_limit(rt: HostRuntime) -> Result<(), Fail
 
 #[test]
 fn a_length_goes_out_with_its_message(rt: HostRuntime) -> Result<(), Fail> {
-    let (mut client, server) = pair(&rt, 39157)?;
+    let (mut client, server) = pair(&rt, 29157)?;
     let limit = Duration::from_secs(1);
     let (_source, mut sink) = client_sides(rt, rt.alloc(), server, at(0), limit)?;
     let mut frame = [0; 4];
@@ -341,17 +341,17 @@ fn calls_fail_where_nobody_is(rt: HostRuntime) -> Result<(), Fail> {
     let mut wires = NetWires::new(rt, rt.alloc());
     assert!(rt; matches!(wires.next(), Err(WireError::Failed)));
     assert!(rt; matches!(wires.replies(), Err(WireError::Failed)));
-    let mut link = wires.link(at(39158))?;
+    let mut link = wires.link(at(29158))?;
     assert!(rt;
         matches!(
             link.exchange(rt.alloc(), b"question", 7),
             Err(LinkError::Failed)
         )
     );
-    assert!(rt; matches!(wires.fetch(at(39158)), Err(WireError::Failed)));
-    let _primary = rt.bind(address_of(at(39158)))?;
-    assert!(rt; matches!(wires.fetch(at(39158)), Err(WireError::Failed)));
-    assert!(rt; NetWires::new(rt, rt.alloc()).fetch(at(39158)).is_ok());
+    assert!(rt; matches!(wires.fetch(at(29158)), Err(WireError::Failed)));
+    let _primary = rt.bind(address_of(at(29158)))?;
+    assert!(rt; matches!(wires.fetch(at(29158)), Err(WireError::Failed)));
+    assert!(rt; NetWires::new(rt, rt.alloc()).fetch(at(29158)).is_ok());
     Ok(())
 }
 
