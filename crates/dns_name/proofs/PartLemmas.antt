@@ -71,7 +71,7 @@ label-lowered : (label : List ℕ) → map to_ascii_lowercase (map to_ascii_lowe
 label-lowered [] = refl
 label-lowered (b ∷ bytes) = rw (lowercase-lowercase b, label-lowered bytes) refl
 
--- small letters stay as they are
+-- lower case stays as it is
 pub lowered-lowered : (name : List (List ℕ)) → lowered (lowered name) ≡ lowered name
 lowered-lowered [] = refl
 lowered-lowered (l ∷ ls) = rw (label-lowered l, lowered-lowered ls) refl

@@ -103,6 +103,6 @@ module _ {V : Type 0} where
         let known = both IsKey (λ p. Misses rank p × IsLeft name (count + 1) p) es index.keys (both (Misses rank) (IsLeft name (count + 1)) es missed left) in
         each (λ p. IsKey p × (Misses rank p × IsLeft name (count + 1) p)) (IsLeft name count) es (λ p k. after_wild laws name lower_case p k.0 count k.1.0 k.1.1) known
 
-  -- a scan sees the name in small letters
+  -- a scan sees the name in lower case
   pub all_missed : (name : List (List ℕ)) (es : List (PlainPattern × V)) → AreLeft name es 0 → None ≡ best name es
   all_missed name es left = none_about name es (each (IsLeft name 0) (IsOff name) es (λ p l. ⊎_elim (λ m. absurd (not-suc-le-zero (l m).1)) (λ f. f) (cases_Bool (matches p name))) left)

@@ -49,7 +49,7 @@ struct Client {
     at: Endpoint,
     // How many messages came.
     messages: u32,
-    // What was coming when the reader last stood between two messages.
+    // What was coming when the reader was last between two messages.
     coming: Coming,
 }
 
