@@ -13,7 +13,8 @@ use Rattle.action_codec.specs.Local.{local_row, rule_rows}
 
 -- not NS, SOA, DNAME, DS, RRSIG, NSEC, DNSKEY, NSEC3 or NSEC3PARAM
 abbrev pub is_live_type : ℕ → Bool
-is_live_type rtype = not (list_any (λ n. rtype == n) (2 ∷ 6 ∷ 39 ∷ 43 ∷ 46 ∷ 47 ∷ 48 ∷ 50 ∷ 51 ∷ []))
+is_live_type rtype =
+    not (list_any (λ n. rtype == n) (2 ∷ 6 ∷ 39 ∷ 43 ∷ 46 ∷ 47 ∷ 48 ∷ 50 ∷ 51 ∷ []))
 
 abbrev pub is_cname : PlainRow → Bool
 is_cname row = row.rtype == 5
@@ -24,7 +25,9 @@ points_to rdata name = bytes_eq rdata (name_octets name)
 
 -- a name of a single label that begins `rpz-`: one length, its label, and the zero of the root
 abbrev pub is_reserved_name : List ℕ → Bool
-is_reserved_name rdata = nat_lt 4 (length rdata) && (slice_index rdata 0 + 2 == length rdata && bytes_eq (take 4 (drop 1 rdata)) (codes "rpz-"))
+is_reserved_name rdata =
+    nat_lt 4 (length rdata)
+    && (slice_index rdata 0 + 2 == length rdata && bytes_eq (take 4 (drop 1 rdata)) (codes "rpz-"))
 
 -- the name that the owner of a pattern writes
 abbrev pub own_name : PlainPattern → List (List ℕ)

@@ -24,7 +24,9 @@ pub record HasOneFor (rows : List PlainRow) (row : PlainRow) : Type 0 where
 
 -- rows of one owner, type and data have one TTL
 abbrev pub HaveOneTtl : List PlainRow → Type 0
-HaveOneTtl rows = (row other : PlainRow) → Contains rows row → Contains rows other → AreAlike row other → row.ttl ≡ other.ttl
+HaveOneTtl rows =
+    (row other : PlainRow) → Contains rows row → Contains rows other → AreAlike row other →
+    row.ttl ≡ other.ttl
 
 -- each row of one list is in the other
 abbrev pub HaveSameRows : List PlainRow → List PlainRow → Type 0

@@ -32,7 +32,9 @@ row_to_keep row (Some other) = first_owned row other
 -- The row at its place. Of two of the same type and data the one whose owner comes first is kept.
 abbrev pub insert_row : PlainRow → List PlainRow → List PlainRow
 insert_row row [] = row ∷ []
-insert_row row (other ∷ rows) = match_ordering (slice_cmp nat_cmp (data_key row) (data_key other)) (row ∷ other ∷ rows) (first_owned row other ∷ rows) (other ∷ insert_row row rows)
+insert_row row (other ∷ rows) =
+    match_ordering (slice_cmp nat_cmp (data_key row) (data_key other)) (row ∷ other ∷ rows)
+    (first_owned row other ∷ rows) (other ∷ insert_row row rows)
 
 -- the rows of a rule in their order
 abbrev pub rule_rows : List PlainRow → List PlainRow

@@ -31,7 +31,8 @@ impl<'a> Model for ByData<'a> {
 
     ghost view = { λ b. map (λ e. e.1.now) b.rows.entries };
 
-    ghost invariant = { λ b. AllByRecursion (λ e. IsKeyed e.0.items e.1.now) b.rows.entries × IsStrictlySortedBy (λ x y. slice_cmp nat_cmp x.items y.items) (keys_of b.rows.entries) };
+    ghost invariant = { λ b. AllByRecursion (λ e. IsKeyed e.0.items e.1.now) b.rows.entries
+        × IsStrictlySortedBy (λ x y. slice_cmp nat_cmp x.items y.items) (keys_of b.rows.entries) };
 }
 
 impl<'a> ByData<'a> {

@@ -26,7 +26,8 @@ pub fn action_of(
     trigger: &Trigger,
     rows: &[&Row],
 ) -> Result<Option<Action>, AllocError>
-    ensures { IfOk result (λ action. action ≡ action_by trigger.now (map (λ row. row.now) rows.now)) }
+    ensures { IfOk result
+        (λ action. action ≡ action_by trigger.now (map (λ row. row.now) rows.now)) }
 {
     action_for(alloc, own_pattern(trigger), rows)
 }

@@ -22,11 +22,14 @@ is_about question entry = bytes_eq (key_of question) (key_of entry.question)
 -- the entries without the one about the question
 abbrev pub without : Question → List PlainLearned → List PlainLearned
 without question [] = []
-without question (entry ∷ entries) = if is_about question entry then entries else entry ∷ without question entries
+without question (entry ∷ entries) =
+    if is_about question entry then entries else entry ∷ without question entries
 
 -- after a look-up: an entry about the question goes first, live or not
 abbrev pub after_look_up : Question → List PlainLearned → List PlainLearned
-after_look_up question entries = option_map_or (λ entry. entry ∷ without question entries) (find (is_about question) entries) entries
+after_look_up question entries =
+    option_map_or (λ entry. entry ∷ without question entries) (find (is_about question) entries)
+    entries
 
 abbrev pub if_live : ℕ → Option PlainLearned → Option PlainLearned
 if_live now None = None
@@ -51,4 +54,5 @@ pub record Serves (question : Question) (now : ℕ) (entry : PlainLearned) : Typ
 
 -- the same entries, in whatever order
 abbrev pub HaveSameEntries : List PlainLearned → List PlainLearned → Type 0
-HaveSameEntries entries others = (entry : PlainLearned) → Contains entries entry ↔ Contains others entry
+HaveSameEntries entries others =
+    (entry : PlainLearned) → Contains entries entry ↔ Contains others entry

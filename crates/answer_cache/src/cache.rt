@@ -59,9 +59,11 @@ impl<L: Link, S: BuildHasher + Drop> AnswerCache<L, S> {
         question: &Question,
         now: u32,
     ) -> Result<Option<Learned<L>>, AllocError>
-        ensures found { IfOk result (λ entry. entry ≡ live_entry question.now now self.old.entries) }
+        ensures found { IfOk result
+            (λ entry. entry ≡ live_entry question.now now self.old.entries) }
         ensures serves { IfOk result (λ entry. IfSome entry (Serves question.now now)) }
-        ensures ok { OnOk result (self.new ≡ recent (after_look_up question.now self.old.entries) self.old.limit) }
+        ensures ok { OnOk result
+            (self.new ≡ recent (after_look_up question.now self.old.entries) self.old.limit) }
         ensures err { OnErr result (self.new ≡ self.old) }
     {
         let key = key_octets(alloc, question)?;
@@ -73,7 +75,8 @@ impl<L: Link, S: BuildHasher + Drop> AnswerCache<L, S> {
     /// Puts what was learned first, in place of an entry about its question, and drops the last one exactly where there would be
     /// too many. What has a life of 0 isn't kept. An `Err` leaves the cache as it was.
     pub fn keep(&mut self, alloc: Global, learned: Learned<L>) -> Result<(), AllocError>
-        ensures ok { OnOk result (self.new ≡ recent (after_keep self.old.limit learned self.old.entries) self.old.limit) }
+        ensures ok { OnOk result (self.new
+            ≡ recent (after_keep self.old.limit learned self.old.entries) self.old.limit) }
         ensures err { OnErr result (self.new ≡ self.old) }
     {
         if learned.life() == 0 {

@@ -10,13 +10,15 @@ ghost use Rattle.answer_cache.specs.Recent.{HaveSameEntries, live_entry, is_abou
 
 /// Two questions have one key exactly where their names are alike, and their types and classes the same.
 pub fn questions_of_one_key_are_alike()
-    ensures { (a b : Question) → IsQuestion a → IsQuestion b → (key_of a ≡ key_of b) ↔ (same_question a b ≡ true) }
+    ensures { (a b : Question) → IsQuestion a → IsQuestion b →
+        (key_of a ≡ key_of b) ↔ (same_question a b ≡ true) }
 {}
 
 /// What a look-up finds is an entry of the cache about the question, and live. A look-up keeps all entries, and the same look-up
 /// then finds the same.
 pub fn a_look_up_moves_an_entry_alone()
-    ensures found { (question : Question) (now : ℕ) (entries : List PlainLearned) (entry : PlainLearned) →
+    ensures found { (question : Question) (now : ℕ) (entries : List PlainLearned)
+        (entry : PlainLearned) →
         live_entry question now entries ≡ Some entry →
         Contains entries entry × (is_about question entry ≡ true) × (live now entry ≡ true) }
     ensures kept { (question : Question) (entries : List PlainLearned) →

@@ -44,7 +44,8 @@ is_empty (x ∷ xs) = false
 abbrev pub is_incremental : List Block → Bool
 is_incremental [] = false
 is_incremental (first ∷ []) = false
-is_incremental (first ∷ second ∷ others) = is_empty first.rows && not (second.soa.serial == first.soa.serial)
+is_incremental (first ∷ second ∷ others) =
+    is_empty first.rows && not (second.soa.serial == first.soa.serial)
 
 -- what the rows behind two SOAs say: a step takes out those behind the first, and puts in those behind the second
 abbrev pub step_between : Block → Block → PlainStep

@@ -25,12 +25,14 @@ unless None x = Ok x
 unless (Some fault) x = Err fault
 
 -- the fault, if there is one, else the result
-abbrev pub fault_or : {X : Type 0} → Option TransferFault → Result X TransferFault → Result X TransferFault
+abbrev pub fault_or : {X : Type 0} → Option TransferFault → Result X TransferFault →
+    Result X TransferFault
 fault_or None x = x
 fault_or (Some fault) x = Err fault
 
 -- the message, if nothing is wrong with its head
-abbrev pub checked_head : TransferRequest → Bool → Result Message MessageFault → Result Message TransferFault
+abbrev pub checked_head : TransferRequest → Bool → Result Message MessageFault →
+    Result Message TransferFault
 checked_head asked is_first (Ok m) = unless (head_fault asked is_first m) m
 checked_head asked is_first (Err fault) = Err BadMessage
 

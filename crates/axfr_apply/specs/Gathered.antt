@@ -34,7 +34,9 @@ with_record bs r = with_held bs (row_of r) (soa_held r)
 
 -- the two blocks of a step
 abbrev pub step_blocks : PlainStep → List Block
-step_blocks step = record { soa = step.old; rows = step.deleted } ∷ record { soa = step.new; rows = step.added } ∷ []
+step_blocks step =
+    record { soa = step.old; rows = step.deleted } ∷ record { soa = step.new; rows = step.added }
+    ∷ []
 
 abbrev pub steps_blocks : List PlainStep → List Block
 steps_blocks steps = flat_map step_blocks steps

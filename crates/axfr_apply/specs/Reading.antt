@@ -38,7 +38,8 @@ asks_type (wants.Newer have) qtype = qtype == 251 || qtype == 252
 
 -- the question for the zone
 abbrev pub asks_for : TransferRequest → Question → Bool
-asks_for asked q = same_name q.name asked.origin && (q.qclass == 1 && asks_type asked.wanted q.qtype)
+asks_for asked q =
+    same_name q.name asked.origin && (q.qclass == 1 && asks_type asked.wanted q.qtype)
 
 -- the first message has the question, later ones have it or none
 abbrev pub question_fits : TransferRequest → Bool → Option Question → Bool
@@ -55,7 +56,8 @@ head_fault asked is_first m =
     else (if not (question_fits asked is_first m.question) then Some WrongQuestion
     else None))))
 
-abbrev pub message_fault : TransferRequest → Bool → Result Message MessageFault → Option TransferFault
+abbrev pub message_fault : TransferRequest → Bool → Result Message MessageFault →
+    Option TransferFault
 message_fault asked is_first (Ok m) = head_fault asked is_first m
 message_fault asked is_first (Err fault) = Some BadMessage
 
@@ -74,9 +76,11 @@ forward_fault ours theirs = if is_newer ours theirs then None else Some (SerialN
 -- newer and the SOA stands alone in its message. Any other serial is to be newer than ours.
 abbrev pub first_soa_end : Wanted → Bool → ℕ → Option End
 first_soa_end (wants.Whole None) alone theirs = None
-first_soa_end (wants.Whole (Some ours)) alone theirs = if theirs == ours then Some (Ok theirs) else option_map Err (forward_fault ours theirs)
+first_soa_end (wants.Whole (Some ours)) alone theirs =
+    if theirs == ours then Some (Ok theirs) else option_map Err (forward_fault ours theirs)
 first_soa_end (wants.Newer ours) alone theirs =
-    if theirs == ours || (alone && not (is_newer ours theirs)) then Some (Ok theirs) else option_map Err (forward_fault ours theirs)
+    if theirs == ours || (alone && not (is_newer ours theirs)) then Some (Ok theirs)
+    else option_map Err (forward_fault ours theirs)
 
 -- the SOA that closes a transfer has the serial of the first
 abbrev pub close_fault : ℕ → ℕ → Option TransferFault
@@ -88,7 +92,8 @@ begin_fault expected found = if found == expected then None else Some (Gap expec
 
 -- a SOA behind a step to the version `new` closes the transfer where that is the newest, and begins the next step otherwise
 abbrev pub behind_step_fault : ℕ → ℕ → ℕ → Option TransferFault
-behind_step_fault newest new found = if new == newest then close_fault newest found else begin_fault new found
+behind_step_fault newest new found =
+    if new == newest then close_fault newest found else begin_fault new found
 
 -- the first step begins at our version, where what is newer was asked for; else there is none, and the SOA closes the transfer
 abbrev pub first_step_fault : Wanted → ℕ → ℕ → Option TransferFault
@@ -101,7 +106,8 @@ abbrev pub step_soa_fault : Wanted → ℕ → List Block → ℕ → Option Tra
 step_soa_fault wanted newest [] found = first_step_fault wanted newest found
 step_soa_fault wanted newest (old ∷ []) found = forward_fault old.soa.serial found
 step_soa_fault wanted newest (old ∷ new ∷ []) found = behind_step_fault newest new.soa.serial found
-step_soa_fault wanted newest (old ∷ new ∷ next ∷ others) found = step_soa_fault wanted newest (next ∷ others) found
+step_soa_fault wanted newest (old ∷ new ∷ next ∷ others) found =
+    step_soa_fault wanted newest (next ∷ others) found
 
 abbrev pub soa_block : Soa → Block
 soa_block soa = record { soa = soa; rows = [] }
@@ -109,7 +115,8 @@ soa_block soa = record { soa = soa; rows = [] }
 -- what is wrong with a SOA behind others: it may be one of an incremental transfer
 abbrev pub later_soa_fault : Wanted → Block → List Block → Soa → Option TransferFault
 later_soa_fault wanted first others soa =
-    if is_incremental (first ∷ (others ++ soa_block soa ∷ [])) then step_soa_fault wanted first.soa.serial others soa.serial
+    if is_incremental (first ∷ (others ++ soa_block soa ∷ []))
+    then step_soa_fault wanted first.soa.serial others soa.serial
     else close_fault first.soa.serial soa.serial
 
 -- how a SOA ends the transfer, behind these blocks
@@ -124,29 +131,37 @@ place_or (Some fault) other = Some (Err fault)
 
 -- how a record ends an open transfer, by the SOA that it holds and what is wrong with its class and owner: the first holds one
 abbrev pub open_end : Wanted → Bool → List Block → Option Soa → Option TransferFault → Option End
-open_end wanted alone bs None fault = if is_empty bs then Some (Err NoLeadingSoa) else place_or fault None
+open_end wanted alone bs None fault =
+    if is_empty bs then Some (Err NoLeadingSoa) else place_or fault None
 open_end wanted alone bs (Some soa) fault = place_or fault (soa_end wanted alone bs soa)
 
 -- how a record ends the transfer, behind these blocks: behind the SOA that closes it there is none
 abbrev pub record_end : Wanted → Bool → List Block → Option Soa → Option TransferFault → Option End
-record_end wanted alone bs soa fault = if is_some (transfer_of bs) then Some (Err TrailingRecord) else open_end wanted alone bs soa fault
+record_end wanted alone bs soa fault =
+    if is_some (transfer_of bs) then Some (Err TrailingRecord)
+    else open_end wanted alone bs soa fault
 
 -- how an answer record ends the transfer, behind these blocks
 abbrev pub answer_end : TransferRequest → Bool → List Block → PlainRecord → Option End
-answer_end asked alone bs r = record_end asked.wanted alone bs (soa_held r) (place_fault asked.origin (is_soa r) r)
+answer_end asked alone bs r =
+    record_end asked.wanted alone bs (soa_held r) (place_fault asked.origin (is_soa r) r)
 
 abbrev pub item_end : TransferRequest → List Item → Item → Option End
-item_end asked before (item.head octets) = option_map Err (message_fault asked (length before == 0) (message_of octets))
+item_end asked before (item.head octets) =
+    option_map Err (message_fault asked (length before == 0) (message_of octets))
 item_end asked before (item.answer alone r) = answer_end asked alone (blocks (records before)) r
 
 -- How an item ends the transfer, behind these items; None where it doesn't. The item of the number `most` is one too many.
 abbrev pub end_by : TransferRequest → List Item → Item → Option End
-end_by asked before it = if nat_le asked.most (length before + 1) then Some (Err (TooManyRecords asked.most)) else item_end asked before it
+end_by asked before it =
+    if nat_le asked.most (length before + 1) then Some (Err (TooManyRecords asked.most))
+    else item_end asked before it
 
 -- how the first of the items that ends the transfer does so, where they stand behind those before
 unfoldable pub first_end : TransferRequest → List Item → List Item → Option End
 first_end asked before [] = None
-first_end asked before (it ∷ others) = option_or (end_by asked before it) (first_end asked (before ++ it ∷ []) others)
+first_end asked before (it ∷ others) =
+    option_or (end_by asked before it) (first_end asked (before ++ it ∷ []) others)
 
 abbrev pub end_outcome : End → Outcome
 end_outcome (Ok theirs) = Ok (Current theirs)
@@ -157,4 +172,6 @@ new_outcome transfer = Ok (New transfer)
 
 -- how these messages end the transfer: by the first item that does, else by the SOA that closes it; None where they don't
 unfoldable pub outcome_of : TransferRequest → List (List ℕ) → Option Outcome
-outcome_of asked messages = option_or (option_map end_outcome (first_end asked [] (items messages))) (option_map new_outcome (transfer_of (blocks (records (items messages)))))
+outcome_of asked messages =
+    option_or (option_map end_outcome (first_end asked [] (items messages)))
+    (option_map new_outcome (transfer_of (blocks (records (items messages)))))

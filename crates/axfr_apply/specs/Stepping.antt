@@ -18,4 +18,10 @@ pub record PlainAdding : Type 0 where
 
 -- the step as far as it has come
 abbrev pub step_of : PlainAdding → PlainStep
-step_of adding = record { old = adding.before.from; deleted = adding.before.deleted; new = adding.to; added = adding.added }
+step_of adding =
+    record {
+      old = adding.before.from;
+      deleted = adding.before.deleted;
+      new = adding.to;
+      added = adding.added;
+    }

@@ -73,7 +73,11 @@ impl Deleting {
     /// Puts a row behind those that are taken out. An `Err` leaves them as they were.
     pub(crate) fn push(&mut self, row: Row) -> Result<(), AllocError>
         ensures ok { OnOk result (self.new
-            ≡ record { steps = self.old.steps; from = self.old.from; deleted = self.old.deleted ++ row ∷ [] }) }
+            ≡ record {
+              steps = self.old.steps;
+              from = self.old.from;
+              deleted = self.old.deleted ++ row ∷ [];
+            }) }
         ensures err { OnErr result (self.new ≡ self.old) }
     {
         self.deleted.push(row)
@@ -103,7 +107,11 @@ impl Adding {
     /// Puts a row behind those that are put in. An `Err` leaves them as they were.
     pub(crate) fn push(&mut self, row: Row) -> Result<(), AllocError>
         ensures ok { OnOk result (self.new
-            ≡ record { before = self.old.before; to = self.old.to; added = self.old.added ++ row ∷ [] }) }
+            ≡ record {
+              before = self.old.before;
+              to = self.old.to;
+              added = self.old.added ++ row ∷ [];
+            }) }
         ensures err { OnErr result (self.new ≡ self.old) }
     {
         self.added.push(row)

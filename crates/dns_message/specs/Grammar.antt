@@ -14,7 +14,8 @@ use Rattle.dns_message.specs.Reading.{header_in, is_opt, edns_of}
 -- the records stand one after another between two places
 abbrev pub RecordsAt : List PlainRecord → List ℕ → ℕ → ℕ → Type 0
 RecordsAt [] bytes place after = after ≡ place
-RecordsAt (r ∷ rs) bytes place after = (middle : ℕ) × RecordAt bytes place r middle × RecordsAt rs bytes middle after
+RecordsAt (r ∷ rs) bytes place after =
+    (middle : ℕ) × RecordAt bytes place r middle × RecordsAt rs bytes middle after
 
 -- the question stands behind the header, and that is the place after it (RFC 1035, section 4.1.2)
 pub record OneQuestionAt (bytes : List ℕ) (q : Question) (after : ℕ) : Type 0 where
@@ -36,7 +37,8 @@ edns_list (Some edns) = edns ∷ []
 
 -- The additional section: so many records stand one after another between two places, and at most one of them
 -- is an OPT record, which tells the extension (RFC 6891, section 6.1.1).
-pub record AdditionalAt (count : ℕ) (bytes : List ℕ) (place : ℕ) (additional : List PlainRecord) (edns : Option Edns) (after : ℕ) : Type 0 where
+pub record AdditionalAt (count : ℕ) (bytes : List ℕ) (place : ℕ) (additional : List PlainRecord)
+    (edns : Option Edns) (after : ℕ) : Type 0 where
   pub all : List PlainRecord
   pub stand : RecordsAt all bytes place after
   pub counted : length all ≡ count
@@ -56,4 +58,5 @@ pub record MessageAt (bytes : List ℕ) (m : Message) : Type 0 where
   pub authority_end : ℕ
   pub authority_count : length m.authority ≡ number_at 2 bytes 8
   pub authority : RecordsAt m.authority bytes answer_end authority_end
-  pub additional : AdditionalAt (number_at 2 bytes 10) bytes authority_end m.additional m.edns (length bytes)
+  pub additional : AdditionalAt (number_at 2 bytes 10) bytes authority_end m.additional m.edns
+      (length bytes)

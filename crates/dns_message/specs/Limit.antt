@@ -26,11 +26,29 @@ reply_limit query = limit_over query.transport query.edns
 
 -- the header of a truncated message: TC is 1 (RFC 1035, section 4.1.1)
 abbrev pub truncated_header : Header → Header
-truncated_header h = record { id = h.id; qr = h.qr; opcode = h.opcode; aa = h.aa; tc = true; rd = h.rd; ra = h.ra; rcode = h.rcode }
+truncated_header h =
+    record {
+      id = h.id;
+      qr = h.qr;
+      opcode = h.opcode;
+      aa = h.aa;
+      tc = true;
+      rd = h.rd;
+      ra = h.ra;
+      rcode = h.rcode;
+    }
 
 -- the truncated form of a message: its header with TC 1, the question, and the OPT record
 abbrev pub truncated_form : Message → Message
-truncated_form m = record { header = truncated_header m.header; question = m.question; answer = []; authority = []; additional = []; edns = m.edns }
+truncated_form m =
+    record {
+      header = truncated_header m.header;
+      question = m.question;
+      answer = [];
+      authority = [];
+      additional = [];
+      edns = m.edns;
+    }
 
 -- the octets of a truncated message of these parts
 abbrev pub truncated_octets : Header → Option Question → Option Edns → List ℕ
@@ -46,4 +64,5 @@ spelling_within limit m = within_limit limit (spelling m) (spelling (truncated_f
 
 -- the octets of a message of this header, question and OPT record, or of its truncated form, within a limit
 abbrev pub octets_within : ℕ → List ℕ → Header → Option Question → Option Edns → List ℕ
-octets_within limit octets h question edns = within_limit limit octets (truncated_octets h question edns)
+octets_within limit octets h question edns =
+    within_limit limit octets (truncated_octets h question edns)

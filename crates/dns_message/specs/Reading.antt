@@ -37,21 +37,31 @@ header_in bytes =
 
 -- the place after so many octets, which the message must have
 abbrev pub end_at : List ℕ → ℕ → ℕ → Result ℕ MessageFault
-end_at bytes place count = if nat_lt (length bytes) (place + count) then Err Short else Ok (place + count)
+end_at bytes place count =
+    if nat_lt (length bytes) (place + count) then Err Short else Ok (place + count)
 
 -- the question at a place, and the place after it
 unfoldable pub question_at : List ℕ → ℕ → Result (Question × ℕ) MessageFault
 question_at bytes place = do
   name ← as_question (name_at bytes place)
   after ← end_at bytes name.1 4
-  Ok (record { name = name.0; qtype = number_at 2 bytes name.1; qclass = number_at 2 bytes (name.1 + 2) }, after)
+  Ok (
+    record {
+      name = name.0;
+      qtype = number_at 2 bytes name.1;
+      qclass = number_at 2 bytes (name.1 + 2);
+    },
+    after,
+  )
 
 abbrev pub some_question : Question × ℕ → Result (Option Question × ℕ) MessageFault
 some_question read = Ok (Some read.0, read.1)
 
 -- no question or one behind the header, and the place after it
 unfoldable pub questions_at : ℕ → List ℕ → Result (Option Question × ℕ) MessageFault
-questions_at count bytes = if count == 0 then Ok (None, 12) else (if count == 1 then question_at bytes 12 >>= some_question else Err Questions)
+questions_at count bytes =
+    if count == 0 then Ok (None, 12)
+    else (if count == 1 then question_at bytes 12 >>= some_question else Err Questions)
 
 -- so many records from a place on, and the place after them
 unfoldable pub records_at : ℕ → List ℕ → ℕ → Result (List PlainRecord × ℕ) MessageFault
@@ -67,7 +77,8 @@ is_opt r = r.rtype == 41 && length r.owner == 0
 
 -- what an OPT record says (RFC 6891, section 6.1.3), but for its flags and its options
 abbrev pub edns_of : PlainRecord → Edns
-edns_of r = record { payload = r.class; version = r.ttl / 65536 % 256; extended = r.ttl / 16777216 % 256 }
+edns_of r =
+    record { payload = r.class; version = r.ttl / 65536 % 256; extended = r.ttl / 16777216 % 256 }
 
 -- what the OPT records of a message say: there is one at most (RFC 6891, section 6.1.1)
 abbrev pub edns_in : List PlainRecord → Result (Option Edns) MessageFault
@@ -76,7 +87,8 @@ edns_in (opt ∷ []) = Ok (Some (edns_of opt))
 edns_in (opt ∷ other ∷ opts) = Err TwoOpts
 
 -- what follows the end of a message, which is no later than the end of its octets
-abbrev pub unless_trailing : {A : Type 0} → List ℕ → ℕ → Result A MessageFault → Result A MessageFault
+abbrev pub unless_trailing : {A : Type 0} → List ℕ → ℕ → Result A MessageFault →
+    Result A MessageFault
 unless_trailing bytes place rest = if nat_lt place (length bytes) then Err Trailing else rest
 
 -- The message after its header. The count of questions is looked at before anything behind the header, and the OPT
@@ -88,7 +100,14 @@ sections_of bytes = do
   authority ← records_at (number_at 2 bytes 8) bytes answer.1
   additional ← records_at (number_at 2 bytes 10) bytes authority.1
   edns ← unless_trailing bytes additional.1 (edns_in (filter is_opt additional.0))
-  Ok (record { header = header_in bytes; question = question.0; answer = answer.0; authority = authority.0; additional = filter (λ r. not (is_opt r)) additional.0; edns = edns })
+  Ok (record {
+    header = header_in bytes;
+    question = question.0;
+    answer = answer.0;
+    authority = authority.0;
+    additional = filter (λ r. not (is_opt r)) additional.0;
+    edns = edns;
+  })
 
 -- The message that the bytes are, or the first fault.
 unfoldable pub message_of : List ℕ → Result Message MessageFault

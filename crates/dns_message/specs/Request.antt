@@ -21,19 +21,48 @@ speaks_in bytes = nat_le 12 (length bytes) && not (header_in bytes).qr
 -- what the OPT record of a reply says, where the request had one (RFC 6891, section 6.1.1)
 abbrev pub reply_edns : ℕ → Option Edns → Option Edns
 reply_edns extended None = None
-reply_edns extended (Some edns) = Some (record { payload = UDP_PAYLOAD; version = EDNS_VERSION; extended = extended })
+reply_edns extended (Some edns) =
+    Some (record { payload = UDP_PAYLOAD; version = EDNS_VERSION; extended = extended })
 
 -- the header of a request with this ID for records, which desires recursion or doesn't
 abbrev pub request_header : ℕ → Bool → Header
-request_header id rd = record { id = id; qr = false; opcode = 0; aa = false; tc = false; rd = rd; ra = false; rcode = 0 }
+request_header id rd =
+    record {
+      id = id;
+      qr = false;
+      opcode = 0;
+      aa = false;
+      tc = false;
+      rd = rd;
+      ra = false;
+      rcode = 0;
+    }
 
 -- the header of a refusal
 abbrev pub refusal_header : ℕ → Header → Header
-refusal_header rcode h = record { id = h.id; qr = true; opcode = h.opcode; aa = false; tc = false; rd = h.rd; ra = true; rcode = rcode }
+refusal_header rcode h =
+    record {
+      id = h.id;
+      qr = true;
+      opcode = h.opcode;
+      aa = false;
+      tc = false;
+      rd = h.rd;
+      ra = true;
+      rcode = rcode;
+    }
 
 -- a refusal with a question or none, and with an OPT record or none
 abbrev pub refusal : ℕ → Header → Option Question → Option Edns → Message
-refusal rcode h question edns = record { header = refusal_header rcode h; question = question; answer = []; authority = []; additional = []; edns = edns }
+refusal rcode h question edns =
+    record {
+      header = refusal_header rcode h;
+      question = question;
+      answer = [];
+      authority = [];
+      additional = [];
+      edns = edns;
+    }
 
 abbrev pub header_alone : ℕ → Header → Message
 header_alone rcode h = refusal rcode h None None
@@ -61,24 +90,36 @@ has_later_version (Some edns) = nat_lt EDNS_VERSION edns.version
 
 -- The question is one of class IN, for no transfer of a zone (the types 251 and 252), and recursion is desired.
 abbrev pub is_served : Header → Question → Bool
-is_served h question = question.qclass == 1 && (not (question.qtype == 251 || question.qtype == 252) && h.rd)
+is_served h question =
+    question.qclass == 1 && (not (question.qtype == 251 || question.qtype == 252) && h.rd)
 
 -- A well formed request. The response code 16 (BADVERS; RFC 6891, section 9) says that the version isn't served: its
 -- lower 4 bits, in the header, are 0.
 abbrev pub query_or_refusal : Header → Question → Option Edns → Addr → Transport → Incoming
 query_or_refusal h question edns client transport =
-    if has_later_version edns then Refuse (with_question NO_ERROR h question (reply_edns BAD_VERSION edns))
-    else (if is_served h question then Asks (record { id = h.id; rd = h.rd; question = question; edns = edns; client = client; transport = transport })
+    if has_later_version edns
+    then Refuse (with_question NO_ERROR h question (reply_edns BAD_VERSION edns))
+    else (if is_served h question
+    then Asks (record {
+      id = h.id;
+      rd = h.rd;
+      question = question;
+      edns = edns;
+      client = client;
+      transport = transport;
+    })
     else Refuse (with_question REFUSED h question (reply_edns 0 edns)))
 
 -- a request of the opcode 0
 abbrev pub request_outcome : Header → Option QueryParts → Addr → Transport → Incoming
 request_outcome h None client transport = Refuse (header_alone FORMAT_ERROR h)
-request_outcome h (Some asked) client transport = query_or_refusal h asked.0 asked.1 client transport
+request_outcome h (Some asked) client transport =
+    query_or_refusal h asked.0 asked.1 client transport
 
 -- What is done with the bytes.
 unfoldable pub incoming_of : List ℕ → Addr → Transport → Incoming
 incoming_of bytes client transport =
     if not (speaks_in bytes) then Silent
-    else (if (header_in bytes).opcode == 0 then request_outcome (header_in bytes) (query_parts_in (message_of bytes)) client transport
+    else (if (header_in bytes).opcode == 0
+    then request_outcome (header_in bytes) (query_parts_in (message_of bytes)) client transport
     else Refuse (header_alone NOT_IMPLEMENTED (header_in bytes)))

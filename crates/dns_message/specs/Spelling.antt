@@ -29,19 +29,26 @@ question_count (Some question) = 1
 
 unfoldable pub question_octets : Option Question → List ℕ
 question_octets None = []
-question_octets (Some question) = name_octets question.name ++ number_octets 2 question.qtype ++ number_octets 2 question.qclass
+question_octets (Some question) =
+    name_octets question.name ++ number_octets 2 question.qtype ++ number_octets 2 question.qclass
 
 -- the four counts
 unfoldable pub count_octets : ℕ → ℕ → ℕ → ℕ → List ℕ
-count_octets questions answers authorities additionals = number_octets 2 questions ++ number_octets 2 answers ++ number_octets 2 authorities ++ number_octets 2 additionals
+count_octets questions answers authorities additionals =
+    number_octets 2 questions ++ number_octets 2 answers ++ number_octets 2 authorities
+    ++ number_octets 2 additionals
 
 -- the header: the ID, the flags and the counts
 unfoldable pub header_octets : ℕ → Header → ℕ → ℕ → ℕ → ℕ → List ℕ
-header_octets z h questions answers authorities additionals = number_octets 2 h.id ++ (first_flags h ∷ second_flags z h ∷ []) ++ count_octets questions answers authorities additionals
+header_octets z h questions answers authorities additionals =
+    number_octets 2 h.id ++ (first_flags h ∷ second_flags z h ∷ [])
+    ++ count_octets questions answers authorities additionals
 
 -- the header and the question of a message with so many records in each section, its bits Z 0
 unfoldable pub start_octets : Header → Option Question → ℕ → ℕ → ℕ → List ℕ
-start_octets h question answers authorities additionals = header_octets 0 h (question_count question) answers authorities additionals ++ question_octets question
+start_octets h question answers authorities additionals =
+    header_octets 0 h (question_count question) answers authorities additionals
+    ++ question_octets question
 
 -- records one after another
 unfoldable pub records_octets : List PlainRecord → List ℕ
@@ -55,13 +62,18 @@ opt_count (Some edns) = 1
 -- the response code, the version and no flags for the TTL, and no options.
 unfoldable pub opt_octets : Option Edns → List ℕ
 opt_octets None = []
-opt_octets (Some edns) = 0 ∷ [] ++ number_octets 2 41 ++ number_octets 2 edns.payload ++ (edns.extended ∷ edns.version ∷ 0 ∷ 0 ∷ []) ++ number_octets 2 0
+opt_octets (Some edns) =
+    0 ∷ [] ++ number_octets 2 41 ++ number_octets 2 edns.payload
+    ++ (edns.extended ∷ edns.version ∷ 0 ∷ 0 ∷ []) ++ number_octets 2 0
 
 -- a message of these parts, with these bits Z; the OPT record stands last
-unfoldable pub parts_octets : ℕ → Header → Option Question → List PlainRecord → List PlainRecord → List PlainRecord → Option Edns → List ℕ
+unfoldable pub parts_octets : ℕ → Header → Option Question → List PlainRecord → List PlainRecord →
+    List PlainRecord → Option Edns → List ℕ
 parts_octets z h question answer authority additional edns =
-    header_octets z h (question_count question) (length answer) (length authority) (length additional + opt_count edns)
-    ++ question_octets question ++ records_octets answer ++ records_octets authority ++ records_octets additional ++ opt_octets edns
+    header_octets z h (question_count question) (length answer) (length authority)
+    (length additional + opt_count edns)
+    ++ question_octets question ++ records_octets answer ++ records_octets authority
+    ++ records_octets additional ++ opt_octets edns
 
 abbrev pub message_octets : ℕ → Message → List ℕ
 message_octets z m = parts_octets z m.header m.question m.answer m.authority m.additional m.edns

@@ -38,13 +38,15 @@ span (place ∷ places) = (place.front + place.back) + span places
 -- the record that stands first in these octets, when so many seconds have passed since it came
 abbrev pub first_aged : ℕ → List ℕ → Place → List ℕ
 first_aged seconds octets place =
-    (take place.front octets ++ number_octets 4 (place.ttl - seconds)) ++ take place.back (drop place.front octets)
+    (take place.front octets ++ number_octets 4 (place.ttl - seconds))
+    ++ take place.back (drop place.front octets)
 
 -- the records in these octets, when so many seconds have passed since they came
 unfoldable pub all_aged : ℕ → List ℕ → List Place → List ℕ
 all_aged seconds octets [] = []
 all_aged seconds octets (place ∷ places) =
-    first_aged seconds octets place ++ all_aged seconds (drop (place.front + place.back) octets) places
+    first_aged seconds octets place
+    ++ all_aged seconds (drop (place.front + place.back) octets) places
 
 -- how many octets stand before the TTL of the first record
 abbrev pub front_of : List Place → ℕ
@@ -55,4 +57,5 @@ front_of (place ∷ places) = place.front
 unfoldable pub rest_aged : ℕ → List ℕ → List Place → List ℕ
 rest_aged seconds octets [] = []
 rest_aged seconds octets (place ∷ places) =
-    number_octets 4 (place.ttl - seconds) ++ (take place.back octets ++ all_aged seconds (drop place.back octets) places)
+    number_octets 4 (place.ttl - seconds)
+    ++ (take place.back octets ++ all_aged seconds (drop place.back octets) places)

@@ -54,7 +54,9 @@ pub fn finish_message(
     requires low { LEAST_LIMIT ≤ limit }
     requires high { limit ≤ GREATEST_LIMIT }
     ensures ok { OnOk result (
-        out.new ≡ octets_within limit (out.old ++ opt_octets (option_copied edns.entry)) header.now (option_copied question.entry) (option_copied edns.entry)
+        out.new
+        ≡ octets_within limit (out.old ++ opt_octets (option_copied edns.entry)) header.now
+        (option_copied question.entry) (option_copied edns.entry)
         ) }
     ensures fits { OnOk result (length out.new ≤ limit) }
 {
@@ -72,7 +74,9 @@ fn truncate_beyond(
 ) -> Result<(), AllocError>
     requires { LEAST_LIMIT ≤ limit }
     ensures ok { OnOk result (
-        out.new ≡ octets_within limit out.old header.now (option_copied question.entry) (option_copied edns.entry)
+        out.new
+        ≡ octets_within limit out.old header.now (option_copied question.entry)
+        (option_copied edns.entry)
         ) }
     ensures fits { OnOk result (length out.new ≤ limit) }
 {
@@ -101,7 +105,9 @@ pub fn write_parts(
     edns: Option<&Edns>,
 ) -> Result<(), AllocError>
     ensures ok { OnOk result (out.new
-        ≡ out.old ++ parts_octets 0 header.now (option_copied question.entry) answer.now authority.now additional.now (option_copied edns.entry)) }
+        ≡ out.old
+        ++ parts_octets 0 header.now (option_copied question.entry) answer.now authority.now
+        additional.now (option_copied edns.entry)) }
     ensures begins { take (length out.old) out.new ≡ out.old }
     ensures question { OnOk result (IfSome (option_copied question.entry) IsQuestion) }
 {
@@ -133,7 +139,8 @@ pub fn write_start(
     additionals: usize,
 ) -> Result<(), AllocError>
     ensures ok { OnOk result (out.new
-        ≡ out.old ++ start_octets header.now (option_copied question.entry) answers authorities additionals) }
+        ≡ out.old
+        ++ start_octets header.now (option_copied question.entry) answers authorities additionals) }
     ensures begins { take (length out.old) out.new ≡ out.old }
 {
     write_header(
@@ -232,7 +239,8 @@ pub fn write_aged_records(
     records: &[Record],
     seconds: u32,
 ) -> Result<(), AllocError>
-    ensures ok { OnOk result (out.new ≡ out.old ++ records_octets (map (aged seconds) records.now)) }
+    ensures ok { OnOk result
+        (out.new ≡ out.old ++ records_octets (map (aged seconds) records.now)) }
     ensures begins { take (length out.old) out.new ≡ out.old }
 {
     for rr in records {

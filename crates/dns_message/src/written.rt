@@ -120,7 +120,8 @@ fn write_rest(
     seconds: u32,
 ) -> Result<(), AllocError>
     requires { start + span places.now ≤ length octets.now + front_of places.now }
-    ensures ok { OnOk result (out.new ≡ out.old ++ rest_aged seconds (drop start octets.now) places.now) }
+    ensures ok { OnOk result
+        (out.new ≡ out.old ++ rest_aged seconds (drop start octets.now) places.now) }
     ensures begins { take (length out.old) out.new ≡ out.old }
 {
     let mut at = start;
@@ -154,7 +155,9 @@ fn write_from_ttl(
 ) -> Result<(), AllocError>
     requires { at + (place.now.back + next) ≤ length octets.now }
     ensures ok { OnOk result (out.new
-        ≡ out.old ++ (number_octets 4 (place.now.ttl - seconds) ++ take (place.now.back + next) (drop at octets.now))) }
+        ≡ out.old
+        ++ (number_octets 4 (place.now.ttl - seconds)
+        ++ take (place.now.back + next) (drop at octets.now))) }
     ensures begins { take (length out.old) out.new ≡ out.old }
 {
     push_u32(out, place.ttl.saturating_sub(seconds))?;

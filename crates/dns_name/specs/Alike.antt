@@ -20,4 +20,6 @@ pub record PlainPattern : Type 0 where
 
 -- the pattern matches this name
 abbrev pub matches : PlainPattern → List (List ℕ) → Bool
-matches pattern name = if pattern.wild then ends_with name pattern.base && not (same_name name pattern.base) else same_name name pattern.base
+matches pattern name =
+    if pattern.wild then ends_with name pattern.base && not (same_name name pattern.base)
+    else same_name name pattern.base

@@ -13,7 +13,9 @@ parent_of (label ∷ others) = Some others
 
 -- the first name's labels and then the other's, unless they are written in more than 255 bytes (RFC 1035, section 2.3.4)
 abbrev pub join_outcome : List (List ℕ) → List (List ℕ) → Result (List (List ℕ)) TooLong
-join_outcome front back = if nat_lt NAME_LIMIT (length (name_octets (front ++ back))) then Err (record {}) else Ok (front ++ back)
+join_outcome front back =
+    if nat_lt NAME_LIMIT (length (name_octets (front ++ back))) then Err (record {})
+    else Ok (front ++ back)
 
 -- What a function returned is this, unless memory ran out.
 abbrev pub JoinFails : JoinError → Result (List (List ℕ)) TooLong → Type 0

@@ -15,7 +15,9 @@ pub data Piece : Type 0 where
 -- a pointer with this first byte, whose last 14 bits lead to a place before `run`, where the current labels began
 abbrev pub pointer_at : ℕ → ℕ → List ℕ → Result Piece NameFault
 pointer_at run high [] = Err Short
-pointer_at run high (low ∷ rest) = let target = 256 * (high - 192) + low in if nat_lt target run then Ok (pointer target) else Err Pointer
+pointer_at run high (low ∷ rest) =
+    let target = 256 * (high - 192) + low in
+    if nat_lt target run then Ok (pointer target) else Err Pointer
 
 -- The piece that the bytes begin with, or the first fault, in a name of which `used` bytes are read, and
 -- whose labels stand one after another from the place `run` on.
@@ -23,7 +25,9 @@ abbrev pub piece_at : ℕ → ℕ → List ℕ → Result Piece NameFault
 piece_at run used [] = Err Short
 piece_at run used (n ∷ rest) =
     if n == 0 then Ok end
-    else (if nat_lt n 64 then (if nat_lt (length rest) n then Err Short else (if nat_lt NAME_LIMIT (used + n + 2) then Err TooLong else Ok (label (take n rest))))
+    else (if nat_lt n 64
+    then (if nat_lt (length rest) n then Err Short
+    else (if nat_lt NAME_LIMIT (used + n + 2) then Err TooLong else Ok (label (take n rest))))
     else (if nat_lt n 192 then Err LabelType else pointer_at run n rest))
 
 -- what follows a result, which ends at the first fault
@@ -49,13 +53,15 @@ with_after after (Err fault) = Err fault
 -- what follows a piece
 abbrev pub follow : (ℕ → ℕ → ℕ → Outcome) → ℕ → ℕ → ℕ → Piece → Outcome
 follow go run used place end = Ok ([], place + 1)
-follow go run used place (label first) = with_labels (first ∷ []) (go run (used + length first + 1) (place + length first + 1))
+follow go run used place (label first) =
+    with_labels (first ∷ []) (go run (used + length first + 1) (place + length first + 1))
 follow go run used place (pointer target) = with_after (place + 2) (go target used target)
 
 -- the name from a place on, in at most so many pieces
 unfoldable pub name_from : ℕ → List ℕ → ℕ → ℕ → ℕ → Outcome
 name_from zero message run used place = Err Short
-name_from (suc pieces) message run used place = piece_at run used (drop place message) >>= follow (name_from pieces message) run used place
+name_from (suc pieces) message run used place =
+    piece_at run used (drop place message) >>= follow (name_from pieces message) run used place
 
 -- The name at a place of a message and the place after it, or the fault. Each pointer leads before the place
 -- of the one before it, and a name has at most 127 labels, so the number of pieces never ends the reading.

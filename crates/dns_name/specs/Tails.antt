@@ -11,7 +11,8 @@ IsNameAt message place name = (after : ℕ) × (name_at message place ≡ Ok (na
 
 -- these are the octets of the name at the place
 abbrev pub IsTailAt : List ℕ → ℕ → List ℕ → Type 0
-IsTailAt message place tail = (name : List (List ℕ)) × IsNameAt message place name × (tail ≡ name_octets name)
+IsTailAt message place tail =
+    (name : List (List ℕ)) × IsNameAt message place name × (tail ≡ name_octets name)
 
 -- the octets have between `from` and `to` those of the name at the place
 pub record IsTail (message octets : List ℕ) (place from to : ℕ) : Type 0 where
@@ -26,7 +27,8 @@ pub record IsTail (message octets : List ℕ) (place from to : ℕ) : Type 0 whe
 -- each span has the octets of the name at its place
 abbrev pub AreTails : List ℕ → List ℕ → List Span → Type 0
 AreTails message octets [] = Unit {0}
-AreTails message octets (span ∷ spans) = IsTail message octets span.place span.from span.to × AreTails message octets spans
+AreTails message octets (span ∷ spans) =
+    IsTail message octets span.place span.from span.to × AreTails message octets spans
 
 -- a name that was read, and the place after it
 abbrev pub name_and_after : Walked → List (List ℕ) × ℕ

@@ -22,7 +22,8 @@ has_text_bytes text = list_all (λ b. is_label_byte b || is_dot b) text
 
 -- the text without the dot at its end, if it has one
 abbrev pub without_last_dot : List ℕ → List ℕ
-without_last_dot text = if ends_with nat_eq text (46 ∷ []) then take (length text - 1) text else text
+without_last_dot text =
+    if ends_with nat_eq text (46 ∷ []) then take (length text - 1) text else text
 
 -- what stands before, between and after the dots
 abbrev pub split_at_dots : List ℕ → List (List ℕ)
@@ -30,7 +31,8 @@ split_at_dots text = slice_split is_dot text
 
 -- each label has 1 to 63 bytes
 abbrev pub has_label_lengths : List (List ℕ) → Bool
-has_label_lengths labels = list_all (λ label. nat_le 1 (length label) && nat_le (length label) LABEL_LIMIT) labels
+has_label_lengths labels =
+    list_all (λ label. nat_le 1 (length label) && nat_le (length label) LABEL_LIMIT) labels
 
 abbrev pub text_labels : List ℕ → List (List ℕ)
 text_labels text = split_at_dots (without_last_dot text)

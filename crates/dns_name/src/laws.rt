@@ -56,7 +56,8 @@ pub fn a_name_is_read_from_its_text()
 pub fn names_that_are_alike()
     ensures same { (name other : List (List ℕ)) →
         IsTrue (same_name name other) ↔ (lowered name ≡ lowered other) }
-    ensures within { (name zone : List (List ℕ)) → IsTrue (ends_with name zone) ↔ EndsWith name zone }
+    ensures within { (name zone : List (List ℕ)) →
+        IsTrue (ends_with name zone) ↔ EndsWith name zone }
 {}
 
 /// A name in lower case has no upper case left, and a pattern matches a name exactly if it matches the name in lower

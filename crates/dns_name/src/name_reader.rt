@@ -259,7 +259,8 @@ fn mark(
 // Where the name at a place goes on, in the message and in the octets, at whose end it is.
 fn next_of(message: &[u8], octets: &[u8], place: usize, from: usize) -> Option<(usize, usize)>
     requires { IsTail message.now octets.now place from (length octets.now) }
-    ensures { IfSome result (λ next. IsTail message.now octets.now next.0 next.1 (length octets.now)) }
+    ensures { IfSome result
+        (λ next. IsTail message.now octets.now next.0 next.1 (length octets.now)) }
 {
     match item_at(message, place, place, 0) {
         Ok(Item::Label(label)) => Some((place + label.len() + 1, from + label.len() + 1)),

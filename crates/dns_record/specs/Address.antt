@@ -7,7 +7,9 @@ use Rattle.dns_record.specs.Record.{PlainRecord}
 
 -- the data of A is an address of version 4, and that of AAAA one of version 6
 abbrev pub address_by : ℕ → List ℕ → Option Addr
-address_by rtype rdata = if rtype == 1 then Some (V4 (number_at 4 rdata 0)) else (if rtype == 28 then Some (V6 (number_at 16 rdata 0)) else None)
+address_by rtype rdata =
+    if rtype == 1 then Some (V4 (number_at 4 rdata 0))
+    else (if rtype == 28 then Some (V6 (number_at 16 rdata 0)) else None)
 
 -- an A or AAAA record of class IN holds an address
 abbrev pub address_in : PlainRecord → Option Addr

@@ -43,7 +43,8 @@ pub record HasNoData (message : List ℕ) (at : ℕ) : Type 0 where
   pub size : ℕ
   pub fields : FieldsAt message at place rtype class size
   pub inside : place + 10 + size ≤ length message
-  pub no_data : (rdata : List ℕ) → ¬ DataAt rtype class message (place + 10) rdata (place + 10 + size)
+  pub no_data : (rdata : List ℕ) →
+      ¬ DataAt rtype class message (place + 10) rdata (place + 10 + size)
 
 -- the record at a place shows this fault
 abbrev pub RecordShows : List ℕ → ℕ → RecordFault → Type 0

@@ -14,22 +14,29 @@ use Rattle.dns_record.specs.Record.{PlainRecord}
 abbrev pub PartsAt : List Part → List ℕ → ℕ → List ℕ → ℕ → Type 0
 PartsAt [] message place octets after = (octets ≡ []) × (after ≡ place)
 PartsAt (Name ∷ parts) message place octets after =
-    (name : List (List ℕ)) × (middle : ℕ) × (rest : List ℕ) × NameAt message place (Ok (name, middle)) × (octets ≡ name_octets name ++ rest) × PartsAt parts message middle rest after
+    (name : List (List ℕ)) × (middle : ℕ) × (rest : List ℕ)
+    × NameAt message place (Ok (name, middle)) × (octets ≡ name_octets name ++ rest)
+    × PartsAt parts message middle rest after
 PartsAt (Fixed count ∷ parts) message place octets after =
-    (first : List ℕ) × (rest : List ℕ) × (length first ≡ count) × Stands first message place (place + count) × (place + count ≤ length message) × (octets ≡ first ++ rest)
+    (first : List ℕ) × (rest : List ℕ) × (length first ≡ count)
+    × Stands first message place (place + count) × (place + count ≤ length message)
+    × (octets ≡ first ++ rest)
     × PartsAt parts message (place + count) rest after
 
 -- The data of a record of the type and class stands in a message between two places: the parts of their
 -- layout, or any octets.
 abbrev pub DataAt : ℕ → ℕ → List ℕ → ℕ → List ℕ → ℕ → Type 0
-DataAt rtype class message place rdata after = MatchOption (layout_of rtype class) (Stands rdata message place after) (λ layout. PartsAt layout message place rdata after)
+DataAt rtype class message place rdata after =
+    MatchOption (layout_of rtype class) (Stands rdata message place after)
+    (λ layout. PartsAt layout message place rdata after)
 
 -- This record stands at a place of a message, and that is the place after it.
 pub record RecordAt (message : List ℕ) (at : ℕ) (r : PlainRecord) (after : ℕ) : Type 0 where
   pub owner_end : ℕ
   pub size : ℕ
   pub owner : NameAt message at (Ok (r.owner, owner_end))
-  pub fields : Stands (number_octets 2 r.rtype ++ number_octets 2 r.class ++ number_octets 4 r.ttl ++ number_octets 2 size) message owner_end (owner_end + 10)
+  pub fields : Stands (number_octets 2 r.rtype ++ number_octets 2 r.class ++ number_octets 4 r.ttl
+      ++ number_octets 2 size) message owner_end (owner_end + 10)
   pub type_fits : r.rtype < 2 ^ 16
   pub class_fits : r.class < 2 ^ 16
   pub ttl_fits : r.ttl < 2 ^ 32

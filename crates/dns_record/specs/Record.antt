@@ -26,4 +26,5 @@ pub record IsRecord (r : PlainRecord) : Type 0 where
 -- a record as it is written, its names in full
 unfoldable pub record_octets : PlainRecord → List ℕ
 record_octets r =
-    name_octets r.owner ++ number_octets 2 r.rtype ++ number_octets 2 r.class ++ number_octets 4 r.ttl ++ number_octets 2 (length r.rdata) ++ r.rdata
+    name_octets r.owner ++ number_octets 2 r.rtype ++ number_octets 2 r.class
+    ++ number_octets 4 r.ttl ++ number_octets 2 (length r.rdata) ++ r.rdata

@@ -28,7 +28,9 @@ lower_case_part (Fixed count) octets = (take count octets, count)
 -- the parts with their names in lower case
 unfoldable pub lowered_parts : List Part → List ℕ → List ℕ
 lowered_parts [] octets = []
-lowered_parts (part ∷ parts) octets = let first = lower_case_part part octets in first.0 ++ lowered_parts parts (drop first.1 octets)
+lowered_parts (part ∷ parts) octets =
+    let first = lower_case_part part octets in
+    first.0 ++ lowered_parts parts (drop first.1 octets)
 
 -- the data of this layout with its names in lower case; as it is where there is none
 abbrev pub lowered_layout : Option (List Part) → List ℕ → List ℕ
@@ -44,7 +46,8 @@ abbrev pub AreLowered : List Part → List ℕ → List ℕ → Type 0
 AreLowered [] octets low = (octets ≡ []) × (low ≡ [])
 AreLowered (Name ∷ parts) octets low =
     (name : List (List ℕ)) × (rest : List ℕ) × (low_rest : List ℕ) × IsName name
-    × (octets ≡ name_octets name ++ rest) × (low ≡ name_octets (lowered name) ++ low_rest) × AreLowered parts rest low_rest
+    × (octets ≡ name_octets name ++ rest) × (low ≡ name_octets (lowered name) ++ low_rest)
+    × AreLowered parts rest low_rest
 AreLowered (Fixed count ∷ parts) octets low =
     (first : List ℕ) × (rest : List ℕ) × (low_rest : List ℕ) × (length first ≡ count)
     × (octets ≡ first ++ rest) × (low ≡ first ++ low_rest) × AreLowered parts rest low_rest
@@ -60,7 +63,13 @@ IsLoweredData rtype rdata low = IsLoweredBy (layout_of rtype 1) rdata low
 
 -- the record as a row
 abbrev pub row_of : PlainRecord → PlainRow
-row_of r = record { owner = lowered r.owner; rtype = r.rtype; ttl = r.ttl; rdata = lowered_data r.rtype r.rdata }
+row_of r =
+    record {
+      owner = lowered r.owner;
+      rtype = r.rtype;
+      ttl = r.ttl;
+      rdata = lowered_data r.rtype r.rdata;
+    }
 
 pub record IsRow (row : PlainRow) : Type 0 where
   pub is_owner : IsName row.owner

@@ -3,4 +3,6 @@ use Rattle.std.specs.Prelude.{ℕ, ◌-◌, ◌^◌, Bool, ◌&&◌, ◌||◌, n
 
 -- Their serial is newer than ours. At a distance of 2^31 neither of two is newer.
 abbrev pub is_newer : ℕ → ℕ → Bool
-is_newer ours theirs = (nat_lt ours theirs && nat_lt (theirs - ours) (2 ^ 31)) || (nat_lt theirs ours && nat_lt (2 ^ 31) (ours - theirs))
+is_newer ours theirs =
+    (nat_lt ours theirs && nat_lt (theirs - ours) (2 ^ 31))
+    || (nat_lt theirs ours && nat_lt (2 ^ 31) (ours - theirs))

@@ -11,11 +11,13 @@ use Rattle.dns_record.specs.Record.{PlainRecord}
 unfoldable pub soa_octets : Soa → List ℕ
 soa_octets soa =
     name_octets soa.mname ++ name_octets soa.rname
-    ++ number_octets 4 soa.serial ++ number_octets 4 soa.refresh ++ number_octets 4 soa.retry ++ number_octets 4 soa.expire ++ number_octets 4 soa.minimum
+    ++ number_octets 4 soa.serial ++ number_octets 4 soa.refresh ++ number_octets 4 soa.retry
+    ++ number_octets 4 soa.expire ++ number_octets 4 soa.minimum
 
 -- the SOA record of this owner
 abbrev pub soa_record : List (List ℕ) → Soa → PlainRecord
-soa_record owner soa = record { owner = owner; rtype = 6; class = 1; ttl = soa.ttl; rdata = soa_octets soa }
+soa_record owner soa =
+    record { owner = owner; rtype = 6; class = 1; ttl = soa.ttl; rdata = soa_octets soa }
 
 -- the SOA that the data holds: two names, and numbers behind them
 unfoldable pub soa_in : ℕ → List ℕ → Result Soa NameFault

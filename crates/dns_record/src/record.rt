@@ -26,7 +26,13 @@ impl Model for Record {
 
     ghost Value = { PlainRecord };
 
-    ghost view = { λ r. record { owner = r.owner; rtype = r.rtype; class = r.class; ttl = r.ttl; rdata = r.rdata } };
+    ghost view = { λ r. record {
+      owner = r.owner;
+      rtype = r.rtype;
+      class = r.class;
+      ttl = r.ttl;
+      rdata = r.rdata;
+    } };
 
     ghost invariant = { λ r. IsData r.rtype r.class r.rdata };
 }
@@ -35,7 +41,8 @@ impl Record {
     /// A record of parts that fit each other.
     pub(crate) fn new(owner: Name, rtype: u16, class: u16, ttl: u32, rdata: Octets) -> Self
         requires { IsData rtype class rdata }
-        ensures { result ≡ record { owner = owner; rtype = rtype; class = class; ttl = ttl; rdata = rdata } }
+        ensures { result
+            ≡ record { owner = owner; rtype = rtype; class = class; ttl = ttl; rdata = rdata } }
     {
         Record {
             owner,
@@ -117,7 +124,14 @@ pub fn write_record(
 ) -> Result<(), AllocError>
     requires { length rdata.now < 2 ^ 16 }
     ensures ok { OnOk result (out.new
-        ≡ out.old ++ record_octets (record { owner = owner.now; rtype = rtype; class = class; ttl = ttl; rdata = rdata.now })) }
+        ≡ out.old
+        ++ record_octets (record {
+          owner = owner.now;
+          rtype = rtype;
+          class = class;
+          ttl = ttl;
+          rdata = rdata.now;
+        })) }
     ensures begins { take (length out.old) out.new ≡ out.old }
     ensures name { IsName owner.now }
 {
@@ -128,7 +142,9 @@ pub fn write_record(
 
 // What stands between the name and the data: the type, the class, the TTL and the length of the data.
 fn field_octets(rtype: u16, class: u16, ttl: u32, len: u16) -> [u8; 10]
-    ensures { result ≡ number_octets 2 rtype ++ number_octets 2 class ++ number_octets 4 ttl ++ number_octets 2 len }
+    ensures { result
+        ≡ number_octets 2 rtype ++ number_octets 2 class ++ number_octets 4 ttl
+        ++ number_octets 2 len }
 {
     let mut octets = [0; 10];
     BigEndian::write_u16(&mut octets, rtype);

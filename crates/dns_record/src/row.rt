@@ -25,9 +25,11 @@ impl Model for Row {
 
     ghost Value = { PlainRow };
 
-    ghost view = { λ r. record { owner = r.owner; rtype = r.rtype; ttl = r.ttl; rdata = r.rdata.items } };
+    ghost view = { λ r.
+        record { owner = r.owner; rtype = r.rtype; ttl = r.ttl; rdata = r.rdata.items } };
 
-    ghost invariant = { λ r. IsRow (record { owner = r.owner; rtype = r.rtype; ttl = r.ttl; rdata = r.rdata.items }) };
+    ghost invariant = { λ r. IsRow
+        (record { owner = r.owner; rtype = r.rtype; ttl = r.ttl; rdata = r.rdata.items }) };
 }
 
 /// A copy is the row. It takes an allocation each for the owner and the data.

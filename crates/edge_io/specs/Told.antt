@@ -43,4 +43,5 @@ pub record Closings (S K : Type 0) : Type 0 where
 -- one more that was closed, where they are known
 abbrev pub closed_more : {S K : Type 0} → Option (Closings S K) → Ended S K → Option (Closings S K)
 closed_more None ended = None
-closed_more (Some closings) ended = Some (record { count = min (closings.count + 1) (2 ^ 64 - 1); last = Some ended })
+closed_more (Some closings) ended =
+    Some (record { count = min (closings.count + 1) (2 ^ 64 - 1); last = Some ended })

@@ -61,7 +61,8 @@ pub trait Sink {
         ensures bytes { held self.new ≡ appended (held self.old) (moved piece.now result) }
         ensures count { faults self.old ≤ faults self.new }
         ensures none { result ≡ Ok 0 → Rose (faults self.old) (faults self.new) }
-        ensures failed { result ≡ Err SinkError.WriteFault → Rose (faults self.old) (faults self.new) }
+        ensures failed { result ≡ Err SinkError.WriteFault →
+            Rose (faults self.old) (faults self.new) }
         ensures no_room { result ≡ Err SinkError.OutOfMemory → faults self.new ≡ faults self.old }
         ensures steady { steady self.old →
             (result ≢ Ok 0) × (result ≢ Err SinkError.WriteFault) × steady self.new };
@@ -73,7 +74,8 @@ pub fn write_all<K: Sink>(sink: &mut K, bytes: &[u8]) -> Result<(), SinkError>
     ensures ok { OnOk result (K.held sink.new ≡ appended (K.held sink.old) bytes.now) }
     ensures err { OnErr result (WritesPrefix bytes.now (K.held sink.old) (K.held sink.new)) }
     ensures count { K.faults sink.old ≤ K.faults sink.new }
-    ensures failed { result ≡ Err SinkError.WriteFault → Rose (K.faults sink.old) (K.faults sink.new) }
+    ensures failed { result ≡ Err SinkError.WriteFault →
+        Rose (K.faults sink.old) (K.faults sink.new) }
     ensures steady { K.steady sink.old → (result ≢ Err SinkError.WriteFault) × K.steady sink.new }
 {
     let mut done = 0;

@@ -111,7 +111,8 @@ pub fn read_frame<S: Source>(alloc: Global, source: &mut S) -> Result<Option<Oct
     ensures fault { IfErr result (λ error.
         BlamesSource error (Rose (S.faults source.old) (S.faults source.new))) }
     ensures count { S.faults source.old ≤ S.faults source.new }
-    ensures steady { S.steady source.old → (result ≢ Err (AFault AReadFault)) × S.steady source.new }
+    ensures steady { S.steady source.old →
+        (result ≢ Err (AFault AReadFault)) × S.steady source.new }
 {
     let Some(count) = read_size(source)? else {
         return Ok(None);
@@ -140,7 +141,8 @@ pub fn write_frame<K: Sink>(sink: &mut K, payload: &[u8]) -> Result<(), SinkErro
     ensures err { OnErr result
         (WritesPrefix (frame_octets payload.now) (K.held sink.old) (K.held sink.new)) }
     ensures count { K.faults sink.old ≤ K.faults sink.new }
-    ensures failed { result ≡ Err SinkError.WriteFault → Rose (K.faults sink.old) (K.faults sink.new) }
+    ensures failed { result ≡ Err SinkError.WriteFault →
+        Rose (K.faults sink.old) (K.faults sink.new) }
     ensures steady { K.steady sink.old → (result ≢ Err SinkError.WriteFault) × K.steady sink.new }
 {
     write_all(sink, &size_bytes(payload.len()))?;

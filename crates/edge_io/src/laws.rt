@@ -8,5 +8,6 @@ ghost use Rattle.edge_io.specs.declared.frame.FrameError.{FrameError};
 pub fn a_frame_is_read_back()
     ensures { (message rest : List ℕ) (read : Result (Option (List ℕ)) FrameError)
         (after : Option (List ℕ)) →
-        ReadsFrame read (Some (frame_octets message ++ rest)) after → ReadsBack message rest read after }
+        ReadsFrame read (Some (frame_octets message ++ rest)) after →
+        ReadsBack message rest read after }
 {}

@@ -37,7 +37,8 @@ impl<
         backs: VecDeque<P>,
         failing: Vec<u64>,
     ) -> Self
-        ensures arrivals { ⟦<ListWires<S, K, L, P> as Wires>⟧.arrivals result ≡ Some arrivals.items }
+        ensures arrivals { ⟦<ListWires<S, K, L, P> as Wires>⟧.arrivals result
+            ≡ Some arrivals.items }
         ensures fetches { ⟦<ListWires<S, K, L, P> as Wires>⟧.fetches result ≡ Some fetches.items }
         ensures bound { ⟦<ListWires<S, K, L, P> as Wires>⟧.bound result ≡ Some [] }
         ensures fetched { ⟦<ListWires<S, K, L, P> as Wires>⟧.fetched result ≡ Some [] }

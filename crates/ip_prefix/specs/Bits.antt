@@ -22,7 +22,8 @@ pub record HasBitBehind (length : ℕ) (addr : Addr) : Type 0 where
 
 -- each bit after the first `length` bits is 0
 abbrev pub IsZeroBehind : ℕ → Addr → Type 0
-IsZeroBehind length addr = (place : ℕ) → length ≤ place → place < width addr → bit_of addr place ≡ false
+IsZeroBehind length addr =
+    (place : ℕ) → length ≤ place → place < width addr → bit_of addr place ≡ false
 
 -- a prefix is this address and this length, which is in its bounds, and no bit after the length is 1
 pub record IsPrefixOf (addr : Addr) (length : ℕ) (prefix : PlainPrefix) : Type 0 where

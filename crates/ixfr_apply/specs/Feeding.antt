@@ -37,7 +37,8 @@ pub record Stands (asked : TransferRequest) (p : Progress) (its : List Item) : T
 -- the same, and the SOA that closes it didn't come
 abbrev pub WaitsBehind : TransferRequest → Option Progress → List (List ℕ) → Type 0
 WaitsBehind asked None messages = ⊥
-WaitsBehind asked (Some p) messages = Stands asked p (items messages) × (transfer_of p.gathered ≡ None)
+WaitsBehind asked (Some p) messages =
+    Stands asked p (items messages) × (transfer_of p.gathered ≡ None)
 
 -- the reader has taken these messages, which don't end the transfer
 abbrev pub Waits : Reader → List (List ℕ) → Type 0
@@ -46,10 +47,13 @@ Waits reader messages = WaitsBehind reader.asked reader.progress messages
 -- what a message did to a reader, by how all messages up to this one end the transfer, or that they don't
 abbrev pub Feeds : Result Fed TransferError → Reader → List (List ℕ) → Option Outcome → Type 0
 Feeds (Ok fed.More) new messages outcome = (outcome ≡ None) × Waits new messages
-Feeds (Ok (fed.Current theirs)) new messages outcome = (outcome ≡ Some (Ok (Current theirs))) × IsFinished new
-Feeds (Ok (fed.Done transfer)) new messages outcome = (outcome ≡ Some (Ok (New transfer))) × IsFinished new
+Feeds (Ok (fed.Current theirs)) new messages outcome =
+    (outcome ≡ Some (Ok (Current theirs))) × IsFinished new
+Feeds (Ok (fed.Done transfer)) new messages outcome =
+    (outcome ≡ Some (Ok (New transfer))) × IsFinished new
 Feeds (Err errors.OutOfMemory) new messages outcome = IsFinished new
-Feeds (Err (errors.Fault fault)) new messages outcome = (outcome ≡ Some (Err fault)) × IsFinished new
+Feeds (Err (errors.Fault fault)) new messages outcome =
+    (outcome ≡ Some (Err fault)) × IsFinished new
 
 -- a fault that a message shows, not the stream or the reader
 abbrev pub IsOfMessage : TransferFault → Type 0
@@ -90,7 +94,8 @@ abbrev pub next_outcome : Next → Result FeedOutcome TransferFault
 next_outcome (on p) = Ok (transfer_outcome (transfer_of p.gathered) p)
 next_outcome (current theirs) = Ok (current_at theirs)
 
-abbrev pub feed_outcome : TransferRequest → Option Progress → List ℕ → Result FeedOutcome TransferFault
+abbrev pub feed_outcome : TransferRequest → Option Progress → List ℕ →
+    Result FeedOutcome TransferFault
 feed_outcome asked None octets = Err Finished
 feed_outcome asked (Some p) octets = message_run asked p octets >>= next_outcome
 
@@ -98,7 +103,8 @@ abbrev pub GoesOn : Option Progress → Result FeedOutcome TransferFault → Typ
 GoesOn None gives = ⊥
 GoesOn (Some p) gives = gives ≡ Ok (more p)
 
-abbrev pub Meets : Result Fed TransferError → Option Progress → Result FeedOutcome TransferFault → Type 0
+abbrev pub Meets : Result Fed TransferError → Option Progress → Result FeedOutcome TransferFault →
+    Type 0
 Meets (Ok fed.More) new gives = GoesOn new gives
 Meets (Ok (fed.Current theirs)) new gives = (gives ≡ Ok (current_at theirs)) × (new ≡ None)
 Meets (Ok (fed.Done transfer)) new gives = (gives ≡ Ok (done transfer)) × (new ≡ None)

@@ -30,7 +30,8 @@ offer_by_outcome transfer (Err fault) = refuses (refusal.Apply fault)
 
 abbrev pub offer_by_reading : PlainZone → Outcome → Offer
 offer_by_reading zone (Ok (taken.Current theirs)) = is_current theirs
-offer_by_reading zone (Ok (taken.New transfer)) = offer_by_outcome transfer (apply_outcome zone transfer)
+offer_by_reading zone (Ok (taken.New transfer)) =
+    offer_by_outcome transfer (apply_outcome zone transfer)
 offer_by_reading zone (Err fault) = refuses (refusal.Transfer fault)
 
 -- What is asked for: what is newer than what is loaded, of this serial; all of the zone where nothing is, or where it is marked.
@@ -44,7 +45,8 @@ wanted_of marked content = wanted_by marked (content_serial content)
 
 -- the request of an ID for a zone that is marked or not
 abbrev pub request_of : ℕ → Bool → PlainZone → TransferRequest
-request_of id marked zone = record { id = id; origin = zone.origin; wanted = wanted_of marked zone.content; most = MOST }
+request_of id marked zone =
+    record { id = id; origin = zone.origin; wanted = wanted_of marked zone.content; most = MOST }
 
 -- what a zone that is marked or not does with a stream, which comes for a request of this ID
 abbrev pub offer : ℕ → Bool → PlainZone → List ℕ → Offer

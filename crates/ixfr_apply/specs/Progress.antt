@@ -24,7 +24,9 @@ new_progress = record { count = 0; gathered = [] }
 
 -- one more message or record
 abbrev pub one_more : TransferRequest → Progress → Result Progress TransferFault
-one_more asked p = if nat_le asked.most (p.count + 1) then Err (TooManyRecords asked.most) else Ok (record p { count = p.count + 1 })
+one_more asked p =
+    if nat_le asked.most (p.count + 1) then Err (TooManyRecords asked.most)
+    else Ok (record p { count = p.count + 1 })
 
 -- what a record does, by how it ends the transfer, or that it doesn't
 abbrev pub next_of : Progress → PlainRecord → Option End → Result Next TransferFault
@@ -34,10 +36,14 @@ next_of p r (Some (Err fault)) = Err fault
 
 -- what a counted record does that holds no SOA, and one that holds this SOA, where the transfer isn't closed
 abbrev pub row_run : TransferRequest → Progress → PlainRecord → Result Next TransferFault
-row_run asked p r = next_of p r (open_end asked.wanted false p.gathered None (place_fault asked.origin false r))
+row_run asked p r =
+    next_of p r (open_end asked.wanted false p.gathered None (place_fault asked.origin false r))
 
-abbrev pub soa_run : TransferRequest → Bool → Progress → PlainRecord → Soa → Result Next TransferFault
-soa_run asked alone p r soa = next_of p r (open_end asked.wanted alone p.gathered (Some soa) (place_fault asked.origin true r))
+abbrev pub soa_run : TransferRequest → Bool → Progress → PlainRecord → Soa →
+    Result Next TransferFault
+soa_run asked alone p r soa =
+    next_of p r
+    (open_end asked.wanted alone p.gathered (Some soa) (place_fault asked.origin true r))
 
 -- what a counted answer record does
 abbrev pub counted_run : TransferRequest → Bool → Progress → PlainRecord → Result Next TransferFault
@@ -53,9 +59,11 @@ then_more more (on p) = more p
 then_more more (current theirs) = Ok (current theirs)
 
 -- what answer records of one message do
-abbrev pub answers_run : TransferRequest → Bool → Progress → List PlainRecord → Result Next TransferFault
+abbrev pub answers_run : TransferRequest → Bool → Progress → List PlainRecord →
+    Result Next TransferFault
 answers_run asked alone p [] = Ok (on p)
-answers_run asked alone p (r ∷ rs) = answer_run asked alone p r >>= then_more (λ now. answers_run asked alone now rs)
+answers_run asked alone p (r ∷ rs) =
+    answer_run asked alone p r >>= then_more (λ now. answers_run asked alone now rs)
 
 -- what a message does
 unfoldable pub message_run : TransferRequest → Progress → List ℕ → Result Next TransferFault
@@ -65,7 +73,8 @@ message_run asked p octets = do
   answers_run asked (length m.answer == 1) now m.answer
 
 -- the count rose, or there were too many
-abbrev pub Counts : Result (Unit {0}) TransferFault → Progress → Result Progress TransferFault → Type 0
+abbrev pub Counts : Result (Unit {0}) TransferFault → Progress → Result Progress TransferFault →
+    Type 0
 Counts (Ok u) new gives = gives ≡ Ok new
 Counts (Err fault) new gives = gives ≡ Err fault
 
@@ -77,7 +86,8 @@ Takes (Err errors.OutOfMemory) new gives = ⊤
 Takes (Err (errors.Fault fault)) new gives = gives ≡ Err fault
 
 -- the same of a row
-abbrev pub TakesRow : Result (Unit {0}) TransferError → Progress → Result Next TransferFault → Type 0
+abbrev pub TakesRow : Result (Unit {0}) TransferError → Progress → Result Next TransferFault →
+    Type 0
 TakesRow (Ok u) new gives = gives ≡ Ok (on new)
 TakesRow (Err errors.OutOfMemory) new gives = ⊤
 TakesRow (Err (errors.Fault fault)) new gives = gives ≡ Err fault

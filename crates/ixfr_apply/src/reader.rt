@@ -48,7 +48,8 @@ impl TransferReader {
     /// than 33,554,432 messages and answer records.
     pub fn start(alloc: Global, id: u16, origin: &Name, wanted: Wanted) -> Result<Self, AllocError>
         ensures reader { IfOk result (λ reader.
-            reader ≡ new_reader (record { id = id; origin = origin.now; wanted = wanted; most = MOST })) }
+            reader
+            ≡ new_reader (record { id = id; origin = origin.now; wanted = wanted; most = MOST })) }
         ensures waits { IfOk result (λ reader. Waits reader []) }
     {
         TransferReader::start_within(alloc, id, origin, wanted, MOST)
@@ -63,7 +64,8 @@ impl TransferReader {
         most: u32,
     ) -> Result<Self, AllocError>
         ensures reader { IfOk result (λ reader.
-            reader ≡ new_reader (record { id = id; origin = origin.now; wanted = wanted; most = most })) }
+            reader
+            ≡ new_reader (record { id = id; origin = origin.now; wanted = wanted; most = most })) }
         ensures waits { IfOk result (λ reader. Waits reader []) }
     {
         let origin = origin.clone()?;
@@ -82,7 +84,8 @@ impl TransferReader {
     // Takes a message, where the transfer has come so far and its progress is taken out.
     fn advance(&mut self, mut progress: Progress, message: &[u8]) -> Result<Fed, TransferError>
         requires { self.old.progress ≡ None }
-        ensures meets { Meets result self.new.progress (feed_outcome self.old.asked (Some progress) message.now) }
+        ensures meets { Meets result self.new.progress
+            (feed_outcome self.old.asked (Some progress) message.now) }
         ensures asked { self.new.asked ≡ self.old.asked }
     {
         if let Some(theirs) = progress.take_message(self.alloc, &self.asked, message)? {

@@ -23,7 +23,8 @@ pub fn request(alloc: Global, id: u16, origin: &Name) -> Result<Octets, AllocErr
 /// The bytes of a request of this ID for what is newer of a zone than our version, whose SOA this is (IXFR, RFC 1995, section
 /// 3): its question, and the SOA record of our version as authority. They fit a frame.
 pub fn request_newer(alloc: Global, id: u16, origin: &Name, soa: &Soa) -> Result<Octets, AllocError>
-    ensures request { IfOk result (λ octets. octets ≡ spelling (newer_request id origin.now soa.now)) }
+    ensures request { IfOk result
+        (λ octets. octets ≡ spelling (newer_request id origin.now soa.now)) }
     ensures short { IfOk result (λ octets. length octets ≤ FRAME_MAX) }
 {
     // called for their clauses: names are short
@@ -49,7 +50,8 @@ fn written(
     qtype: u16,
     authority: &[Record],
 ) -> Result<Octets, AllocError>
-    ensures { IfOk result (λ octets. octets ≡ spelling (request_message id origin.now qtype authority.now)) }
+    ensures { IfOk result
+        (λ octets. octets ≡ spelling (request_message id origin.now qtype authority.now)) }
 {
     let header = Header::request(id, false);
     let question = Question {

@@ -40,7 +40,8 @@ pub fn read_transfer<S: Source>(
     origin: &Name,
     wanted: Wanted,
 ) -> Result<Taken, TransferError>
-    ensures reads { Reads (record { id = id; origin = origin.now; wanted = wanted; most = MOST }) result
+    ensures reads { Reads (record { id = id; origin = origin.now; wanted = wanted; most = MOST })
+        result
         (S.left source.old) (S.left source.new) }
     ensures taken { TakesSome (S.left source.old) (S.left source.new) }
     ensures fault { IfErr result (λ error.

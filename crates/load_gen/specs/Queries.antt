@@ -32,12 +32,17 @@ client_of d = V4 (10 * 2 ^ 24 + d % 256 * 2 ^ 16 + d / 256 % 256 * 2 ^ 8 + 1)
 
 -- a query by its ID and its four draws
 abbrev pub query_of : ℕ → ℕ → ℕ → ℕ → ℕ → LoadQuery
-query_of id a b c d = record { client = client_of d; message = spelling (request_for id (written_name (query_text a b c))) }
+query_of id a b c d =
+    record {
+      client = client_of d;
+      message = spelling (request_for id (written_name (query_text a b c)));
+    }
 
 -- the query that comes after so many others, where this state stands before the first; IDs count from 1
 abbrev pub query_at : ℕ → ℕ → LoadQuery
 query_at seed place =
-    query_of ((place + 1) % 65536) (draw seed (4 * place)) (draw seed (4 * place + 1)) (draw seed (4 * place + 2)) (draw seed (4 * place + 3))
+    query_of ((place + 1) % 65536) (draw seed (4 * place)) (draw seed (4 * place + 1))
+    (draw seed (4 * place + 2)) (draw seed (4 * place + 3))
 
 -- the first queries from a state on, so many
 unfoldable pub first_queries : ℕ → ℕ → List LoadQuery
@@ -46,4 +51,6 @@ first_queries seed (suc count) = first_queries seed count ++ query_at seed count
 
 -- the query of this ID that is drawn in a state
 abbrev pub query_from : ℕ → ℕ → LoadQuery
-query_from id x = query_of id (drawn_in (next_state x)) (drawn_in (after_two x)) (drawn_in (after_three x)) (drawn_in (after_four x))
+query_from id x =
+    query_of id (drawn_in (next_state x)) (drawn_in (after_two x)) (drawn_in (after_three x))
+    (drawn_in (after_four x))

@@ -16,21 +16,30 @@ target_text action =
 abbrev pub owner_text : ℕ → ℕ → ℕ → List ℕ
 owner_text kind b c =
     if kind == 0 then host_text (b % 4096) (c % 64) (codes ".example.rpz.example")
-    else (if kind == 1 then codes "*." ++ host_text (b % 4096) (c % 64) (codes ".example.rpz.example")
-    else (if kind == 2 then codes "32." ++ (decimal (c % 256) ++ (codes "." ++ (decimal (b % 256) ++ codes ".0.10.rpz-ip.rpz.example")))
-    else codes "24.0." ++ (decimal (c % 256) ++ (codes "." ++ (decimal (b % 256) ++ codes ".10.rpz-client-ip.rpz.example")))))
+    else (if kind == 1
+    then codes "*." ++ host_text (b % 4096) (c % 64) (codes ".example.rpz.example")
+    else (if kind == 2
+    then codes "32."
+    ++ (decimal (c % 256)
+    ++ (codes "." ++ (decimal (b % 256) ++ codes ".0.10.rpz-ip.rpz.example")))
+    else codes "24.0."
+    ++ (decimal (c % 256)
+    ++ (codes "." ++ (decimal (b % 256) ++ codes ".10.rpz-client-ip.rpz.example")))))
 
 -- a CNAME record (type 5) of class IN and TTL 60
 abbrev pub alias_record : List (List ℕ) → List (List ℕ) → PlainRecord
-alias_record owner target = record { owner = owner; rtype = 5; class = 1; ttl = 60; rdata = name_octets target }
+alias_record owner target =
+    record { owner = owner; rtype = 5; class = 1; ttl = 60; rdata = name_octets target }
 
 -- the record of a rule
 abbrev pub rule_record : ℕ → ℕ → ℕ → PlainRecord
-rule_record a b c = alias_record (written_name (owner_text (a % 4) b c)) (written_name (target_text (a / 4 % 3)))
+rule_record a b c =
+    alias_record (written_name (owner_text (a % 4) b c)) (written_name (target_text (a / 4 % 3)))
 
 -- the rule that comes after so many others
 abbrev pub rule_at : ℕ → ℕ → PlainRecord
-rule_at seed place = rule_record (draw seed (3 * place)) (draw seed (3 * place + 1)) (draw seed (3 * place + 2))
+rule_at seed place =
+    rule_record (draw seed (3 * place)) (draw seed (3 * place + 1)) (draw seed (3 * place + 2))
 
 -- the first rules of a seed, so many
 unfoldable pub first_rules : ℕ → ℕ → List PlainRecord
@@ -39,4 +48,5 @@ first_rules seed (suc count) = first_rules seed count ++ rule_at seed count ∷ 
 
 -- the rule that is drawn in a state
 abbrev pub rule_from : ℕ → PlainRecord
-rule_from x = rule_record (drawn_in (next_state x)) (drawn_in (after_two x)) (drawn_in (after_three x))
+rule_from x =
+    rule_record (drawn_in (next_state x)) (drawn_in (after_two x)) (drawn_in (after_three x))

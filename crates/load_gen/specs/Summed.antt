@@ -29,7 +29,17 @@ origin = written_name (codes "rpz.example")
 
 -- its SOA
 abbrev pub load_soa : Soa
-load_soa = record { mname = []; rname = []; serial = 1; refresh = 3600; retry = 600; expire = 86400; minimum = 60; ttl = 60 }
+load_soa =
+    record {
+      mname = [];
+      rname = [];
+      serial = 1;
+      refresh = 3600;
+      retry = 600;
+      expire = 86400;
+      minimum = 60;
+      ttl = 60;
+    }
 
 -- the transfer that brings the rows: the whole zone
 abbrev pub load_entry : List PlainRecord → Entry
@@ -45,7 +55,8 @@ upstream facts question = fact_for question
 
 -- what is said once what comes from the upstream leaves no question
 abbrev pub last_turn : PlainPolicy → Incoming → Turn
-last_turn policy incoming = turn_by policy incoming (facts_after policy incoming upstream FACT_LIMIT [])
+last_turn policy incoming =
+    turn_by policy incoming (facts_after policy incoming upstream FACT_LIMIT [])
 
 -- what is said to a query, which came over UDP
 abbrev pub turn_for : PlainPolicy → LoadQuery → Turn
@@ -124,5 +135,8 @@ summary load = summary_under (load_policy load.rows) load.queries
 -- the line of a summary
 abbrev pub summary_line : Summary → List ℕ
 summary_line s =
-    codes "rows " ++ (decimal s.rows ++ (codes " nxdomain " ++ (decimal s.nxdomain ++ (codes " nodata " ++ (decimal s.nodata
-    ++ (codes " other " ++ (decimal s.other ++ (codes " mark " ++ (decimal s.mark ++ 10 ∷ [])))))))))
+    codes "rows "
+    ++ (decimal s.rows
+    ++ (codes " nxdomain " ++ (decimal s.nxdomain ++ (codes " nodata " ++ (decimal s.nodata
+    ++ (codes " other "
+    ++ (decimal s.other ++ (codes " mark " ++ (decimal s.mark ++ 10 ∷ [])))))))))

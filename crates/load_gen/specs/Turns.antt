@@ -11,15 +11,21 @@ use Rattle.load_gen.specs.Summed.{upstream}
 -- something is said, or the answer to what was asked is known
 abbrev pub TurnsOnce : Result (Option Turn) AllocError → SessionState → SessionState → Type 0
 TurnsOnce (Ok (Some turn)) old new = (turn ≡ turn_of old) × (is_said turn ≡ true)
-TurnsOnce (Ok None) old new = (new.policy ≡ old.policy) × (new.incoming ≡ old.incoming) × (new.facts ≡ facts_by upstream old.facts (turn_of old))
+TurnsOnce (Ok None) old new =
+    (new.policy ≡ old.policy) × (new.incoming ≡ old.incoming)
+    × (new.facts ≡ facts_by upstream old.facts (turn_of old))
 TurnsOnce (Err e) old new = Unit {0}
 
 -- so many turns from here lead where all turns lead
 pub record LeadsOn (most left : ℕ) (first now : SessionState) : Type 0 where
   pub policy : now.policy ≡ first.policy
   pub incoming : now.incoming ≡ first.incoming
-  pub facts : facts_after first.policy first.incoming upstream left now.facts ≡ facts_after first.policy first.incoming upstream most first.facts
+  pub facts : facts_after first.policy first.incoming upstream left now.facts
+      ≡ facts_after first.policy first.incoming upstream most first.facts
 
 -- what is said once all that a session asks from its beginning is answered
 abbrev pub SaysLast : SessionState → Turn → Type 0
-SaysLast session turn = turn ≡ turn_by session.policy session.incoming (facts_after session.policy session.incoming upstream FACT_LIMIT session.facts)
+SaysLast session turn =
+    turn
+    ≡ turn_by session.policy session.incoming
+    (facts_after session.policy session.incoming upstream FACT_LIMIT session.facts)

@@ -23,7 +23,8 @@ address_octets sum = 10 ∷ 0 ∷ sum / 256 ∷ sum % 256 ∷ []
 
 -- the A record of a name: class IN, TTL 60
 abbrev pub address_record : List (List ℕ) → PlainRecord
-address_record name = record { owner = name; rtype = 1; class = 1; ttl = 60; rdata = address_octets (name_sum name) }
+address_record name =
+    record { owner = name; rtype = 1; class = 1; ttl = 60; rdata = address_octets (name_sum name) }
 
 -- what the upstream answers to a question
 abbrev pub fact_for : Question → Fact
@@ -31,7 +32,17 @@ fact_for question = Answer (plain_answer 0 (address_record question.name ∷ [])
 
 -- the header of a response that desires and has recursion
 abbrev pub response_header : Header
-response_header = record { id = 0; qr = true; opcode = 0; aa = false; tc = false; rd = true; ra = true; rcode = 0 }
+response_header =
+    record {
+      id = 0;
+      qr = true;
+      opcode = 0;
+      aa = false;
+      tc = false;
+      rd = true;
+      ra = true;
+      rcode = 0;
+    }
 
 -- the message in which the answer comes
 abbrev pub response_to : Question → Message

@@ -64,7 +64,8 @@ pub(crate) fn tally_under(
     policy: &Snapshot,
     queries: &[LoadQuery],
 ) -> Result<Tally, AllocError>
-    ensures { IfOk result (λ tally. tally ≡ tally_of (map (turn_for policy.now.zones) queries.now)) }
+    ensures { IfOk result
+        (λ tally. tally ≡ tally_of (map (turn_for policy.now.zones) queries.now)) }
 {
     let own = Arc::new(alloc, policy.again(alloc)?)?;
     let mut tally = Tally::none();

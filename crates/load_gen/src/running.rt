@@ -50,11 +50,13 @@ fn tally_by<R: Threads + Sync>(
     workers: u32,
 ) -> Result<Tally, AllocError>
     requires { 1 ≤ workers }
-    ensures { IfOk result (λ tally. tally ≡ tally_of (map (turn_for policy.now.zones) queries.now)) }
+    ensures { IfOk result
+        (λ tally. tally ≡ tally_of (map (turn_for policy.now.zones) queries.now)) }
 {
     let size = part_len(queries.len(), workers);
     let answer = |_start: usize, part: &[LoadQuery]| -> Result<Tally, AllocError>
-        ensures { IfOk result (λ tally. tally ≡ tally_of (map (turn_for policy.entry.now.zones) part.entry.now)) }
+        ensures { IfOk result
+            (λ tally. tally ≡ tally_of (map (turn_for policy.entry.now.zones) part.entry.now)) }
     { tally_under(alloc, policy, part) };
     let parts = thread::map_chunks(rt, alloc, queries, size, &answer)?;
     joined(&parts)

@@ -19,28 +19,38 @@ use Rattle.policy_feed.specs.declared.polling.Polled.TheVariants.{Current, New}
 use Rattle.policy_feed.specs.Poll.{with_zone_mark, after_refusal}
 
 -- what a transfer that was read does: it is published, or memory runs out, or the zone can't take it
-abbrev pub Offers : ℕ → PlainZone → Transfer → Result Polled FeedError → Published → Published → Type 0
+abbrev pub Offers : ℕ → PlainZone → Transfer → Result Polled FeedError → Published → Published →
+    Type 0
 Offers number zone transfer (Ok (Current theirs)) old new = ⊥
-Offers number zone transfer (Ok (New told)) old new = Publishes number zone transfer (Ok told) old new
+Offers number zone transfer (Ok (New told)) old new =
+    Publishes number zone transfer (Ok told) old new
 Offers number zone transfer (Err errors.OutOfMemory) old new = new ≡ old
 Offers number zone transfer (Err (errors.Fault WriteFault)) old new = ⊥
 Offers number zone transfer (Err (errors.Fault (TransferFaulty fault))) old new = ⊥
-Offers number zone transfer (Err (errors.Fault (Apply fault))) old new = (apply_outcome zone transfer ≡ Err fault) × (new ≡ after_refusal old number zone)
+Offers number zone transfer (Err (errors.Fault (Apply fault))) old new =
+    (apply_outcome zone transfer ≡ Err fault) × (new ≡ after_refusal old number zone)
 
 -- where the bytes of the source are known: it is read as the answer to a request of this ID
-abbrev pub ReadsAnswer : ℕ → ℕ → PlainZone → Taken → Published → Option (List ℕ) → Option (List ℕ) → Type 0
-ReadsAnswer id number zone read old before after = ReadsAs (request_of id (mark_at old.marks number) zone) (Ok read) before after
+abbrev pub ReadsAnswer : ℕ → ℕ → PlainZone → Taken → Published → Option (List ℕ) → Option (List ℕ) →
+    Type 0
+ReadsAnswer id number zone read old before after =
+    ReadsAs (request_of id (mark_at old.marks number) zone) (Ok read) before after
 
 -- what a poll does whose request was written, by what was published and what is left of the source
-abbrev pub TakesAnswer : ℕ → ℕ → PlainZone → Result Polled FeedError → Published → Published → Option (List ℕ) → Option (List ℕ) → Type 0
+abbrev pub TakesAnswer : ℕ → ℕ → PlainZone → Result Polled FeedError → Published → Published →
+    Option (List ℕ) → Option (List ℕ) → Type 0
 TakesAnswer id number zone (Ok (Current theirs)) old new before after =
-    ReadsAnswer id number zone (taken.Current theirs) old before after × (new ≡ with_zone_mark old number false)
+    ReadsAnswer id number zone (taken.Current theirs) old before after
+    × (new ≡ with_zone_mark old number false)
 TakesAnswer id number zone (Ok (New told)) old new before after =
-    (transfer : Transfer) × ReadsAnswer id number zone (taken.New transfer) old before after × Publishes number zone transfer (Ok told) old new
-TakesAnswer id number zone (Err errors.OutOfMemory) old new before after = TakesSome before after × (new ≡ old)
+    (transfer : Transfer) × ReadsAnswer id number zone (taken.New transfer) old before after
+    × Publishes number zone transfer (Ok told) old new
+TakesAnswer id number zone (Err errors.OutOfMemory) old new before after =
+    TakesSome before after × (new ≡ old)
 TakesAnswer id number zone (Err (errors.Fault WriteFault)) old new before after = ⊥
 TakesAnswer id number zone (Err (errors.Fault (TransferFaulty fault))) old new before after =
-    Faults (request_of id (mark_at old.marks number) zone) fault before after × (new ≡ after_refusal old number zone)
+    Faults (request_of id (mark_at old.marks number) zone) fault before after
+    × (new ≡ after_refusal old number zone)
 TakesAnswer id number zone (Err (errors.Fault (Apply fault))) old new before after =
     (transfer : Transfer) × ReadsAnswer id number zone (taken.New transfer) old before after
     × (apply_outcome zone transfer ≡ Err fault) × (new ≡ after_refusal old number zone)

@@ -38,8 +38,10 @@ fn request_message<N: StoreName>(
     number: u32,
 ) -> Result<Octets, AllocError>
     requires { IsSome (zone_at publisher.now.version.zones number) }
-    ensures request { IfOk result (λ octets. (zone : PlainZone) → zone_at publisher.now.version.zones number ≡ Some zone →
-        octets ≡ spelling (request_for id (mark_at publisher.now.marks number) zone.origin zone.content)) }
+    ensures request { IfOk result
+        (λ octets. (zone : PlainZone) → zone_at publisher.now.version.zones number ≡ Some zone →
+        octets
+        ≡ spelling (request_for id (mark_at publisher.now.marks number) zone.origin zone.content)) }
     ensures short { IfOk result (λ octets. length octets ≤ FRAME_MAX) }
 {
     let origin = publisher.origin(number);
@@ -64,16 +66,20 @@ pub fn poll_zone<N: StoreName, S: Source, K: Sink, R: Wait>(
     number: u32,
 ) -> Result<Polled, FeedError>
     requires { IsSome (zone_at publisher.old.version.zones number) }
-    ensures polls { IfSome (zone_at publisher.old.version.zones number) (λ zone. Polls id number zone result
+    ensures polls { IfSome (zone_at publisher.old.version.zones number)
+        (λ zone. Polls id number zone result
         (record { published = publisher.old; left = S.left source.old; held = K.held sink.old })
         (record { published = publisher.new; left = S.left source.new; held = K.held sink.new })) }
-    ensures write_failed { result ≡ Err (errors.Fault faults.WriteFault) → Rose (K.faults sink.old) (K.faults sink.new) }
-    ensures read_failed { result ≡ Err (errors.Fault (faults.Transfer AReadFault)) → Rose (S.faults source.old) (S.faults source.new) }
+    ensures write_failed { result ≡ Err (errors.Fault faults.WriteFault) →
+        Rose (K.faults sink.old) (K.faults sink.new) }
+    ensures read_failed { result ≡ Err (errors.Fault (faults.Transfer AReadFault)) →
+        Rose (S.faults source.old) (S.faults source.new) }
     ensures source_count { S.faults source.old ≤ S.faults source.new }
     ensures sink_count { K.faults sink.old ≤ K.faults sink.new }
     ensures source_steady { S.steady source.old →
         (result ≢ Err (errors.Fault (faults.Transfer AReadFault))) × S.steady source.new }
-    ensures sink_steady { K.steady sink.old → (result ≢ Err (errors.Fault faults.WriteFault)) × K.steady sink.new }
+    ensures sink_steady { K.steady sink.old →
+        (result ≢ Err (errors.Fault faults.WriteFault)) × K.steady sink.new }
 {
     let message = request_message(alloc, publisher, id, number)?;
     match write_frame(sink, message.as_slice()) {

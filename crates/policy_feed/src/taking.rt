@@ -34,9 +34,11 @@ fn read_answer<N: StoreName, S: Source>(
 ) -> Result<Taken, TransferError>
     requires { IsSome (zone_at publisher.now.version.zones number) }
     ensures reads { IfSome (zone_at publisher.now.version.zones number) (λ zone.
-        Reads (request_of id (mark_at publisher.now.marks number) zone) result (S.left source.old) (S.left source.new)) }
+        Reads (request_of id (mark_at publisher.now.marks number) zone) result (S.left source.old)
+        (S.left source.new)) }
     ensures taken { TakesSome (S.left source.old) (S.left source.new) }
-    ensures fault { IfErr result (λ error. BlamesSource error (Rose (S.faults source.old) (S.faults source.new))) }
+    ensures fault { IfErr result
+        (λ error. BlamesSource error (Rose (S.faults source.old) (S.faults source.new))) }
     ensures count { S.faults source.old ≤ S.faults source.new }
     ensures steady { S.steady source.old →
         (result ≢ Err (transfer_errors.Fault AReadFault)) × S.steady source.new }
@@ -93,7 +95,8 @@ pub(crate) fn take_transfer<N: StoreName, S: Source, R: Wait>(
 ) -> Result<Polled, FeedError>
     requires { IsSome (zone_at publisher.old.version.zones number) }
     ensures takes { IfSome (zone_at publisher.old.version.zones number) (λ zone.
-        TakesAnswer id number zone result publisher.old publisher.new (S.left source.old) (S.left source.new)) }
+        TakesAnswer id number zone result publisher.old publisher.new (S.left source.old)
+        (S.left source.new)) }
     ensures written { result ≢ Err (errors.Fault faults.WriteFault) }
     ensures failed { result ≡ Err (errors.Fault (faults.Transfer AReadFault)) →
         Rose (S.faults source.old) (S.faults source.new) }

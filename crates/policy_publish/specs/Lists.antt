@@ -30,4 +30,5 @@ KeepsTold old new = (list : List Entry) → WasTold old list → WasTold new lis
 
 -- the list begins with the one that was seen, and with each that was told
 abbrev pub GoesOn : Known → List Entry → Type 0
-GoesOn known list = IsPrefix known.seen list × ((told : List Entry) → WasTold known told → IsPrefix told list)
+GoesOn known list =
+    IsPrefix known.seen list × ((told : List Entry) → WasTold known told → IsPrefix told list)

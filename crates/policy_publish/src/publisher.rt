@@ -45,7 +45,11 @@ impl<N: StoreName> Model for Publisher<N> {
     ghost Value = { Published };
 
     ghost view = { λ p.
-        record { list = p.latest.line.entries; version = arc_value p.latest.version; marks = p.marks } };
+        record {
+          list = p.latest.line.entries;
+          version = arc_value p.latest.version;
+          marks = p.marks;
+        } };
 
     // the writer shows the latest version, and nothing waits behind it
     ghost invariant = { λ p. IsOf N.store p.latest × (p.log_writer ≡ N.store.book) ×
@@ -74,7 +78,8 @@ impl<N: StoreName> Publisher<N> {
     ) -> Result<Publisher<N>, AllocError>
         requires readers { (0 < readers) × (readers ≤ READER_LIMIT) }
         requires store { IsOf N.store shown × (log_writer ≡ N.store.book) }
-        ensures shown { IfOk result (λ p. (p.list ≡ shown.line.entries) × (p.version ≡ arc_value shown.version)) }
+        ensures shown { IfOk result
+            (λ p. (p.list ≡ shown.line.entries) × (p.version ≡ arc_value shown.version)) }
         ensures marks { IfOk result (λ p. p.marks ≡ marks) }
     {
         let (first, spare, again) = (shown.again()?, shown.again()?, shown.again()?);
@@ -186,7 +191,8 @@ impl<N: StoreName> Publisher<N> {
     /// The origin of the zone of this number. It waits for nobody and takes no memory.
     pub fn origin(&self, number: u32) -> &Name
         requires { IsSome (zone_at self.now.version.zones number) }
-        ensures { IfSome (zone_at self.now.version.zones number) (λ zone. result.now ≡ zone.origin) }
+        ensures { IfSome (zone_at self.now.version.zones number)
+            (λ zone. result.now ≡ zone.origin) }
     {
         zone_of(&self.latest.version, number).origin()
     }

@@ -62,12 +62,14 @@ impl<N: StoreName> Model for PolicyReader<N> {
 
     ghost view = { λ r. record { seen = r.seen; told = r.told } };
 
-    ghost invariant = { λ r. IfSome r.own (λ version. StandsFor N.store.origins (arc_value version) r.seen) };
+    ghost invariant = { λ r. IfSome r.own
+        (λ version. StandsFor N.store.origins (arc_value version) r.seen) };
 }
 
 // What is shown once more; `None` where it has no more entries than these.
 fn newer(shown: &Shown, entries: Option<u64>) -> Result<Option<Shown>, AllocError>
-    ensures { IfOk result (λ taken. IfSome taken (λ s. (arc_value s.version ≡ arc_value shown.now.version) ×
+    ensures { IfOk result
+        (λ taken. IfSome taken (λ s. (arc_value s.version ≡ arc_value shown.now.version) ×
         (s.line ≡ shown.now.line))) }
 {
     match entries {
@@ -127,7 +129,8 @@ impl<N: StoreName> PolicyReader<N> {
 
     // The version that the reader has, once more; an error where it has none, or was told of more.
     fn own_again(&self) -> Result<Arc<Snapshot, Global>, AllocError>
-        ensures stands { IfOk result (λ version. StandsFor N.store.origins (arc_value version) self.now.seen) }
+        ensures stands { IfOk result
+            (λ version. StandsFor N.store.origins (arc_value version) self.now.seen) }
         ensures later { OnOk result (GoesOn self.now self.now.seen) }
     {
         match &self.own {
@@ -140,7 +143,8 @@ impl<N: StoreName> PolicyReader<N> {
     #[tactic(auto, using(crate::proofs::Fronts::prefix_trans))]
     fn take(&mut self, shown: Shown) -> Result<Arc<Snapshot, Global>, AllocError>
         requires { IsOf N.store shown }
-        ensures stands { IfOk result (λ version. StandsFor N.store.origins (arc_value version) self.new.seen) }
+        ensures stands { IfOk result
+            (λ version. StandsFor N.store.origins (arc_value version) self.new.seen) }
         ensures later { OnOk result (GoesOn self.old self.new.seen) }
         ensures told { self.new.told ≡ self.old.told }
         ensures err { OnErr result (self.new ≡ self.old) }
@@ -162,7 +166,8 @@ impl<N: StoreName> PolicyReader<N> {
     /// the count of its holders, which no other thread counts; else as much as there are zones, at most 32. It answers an error where
     /// memory runs out, and is as it was then.
     pub fn pin(&mut self) -> Result<Arc<Snapshot, Global>, AllocError>
-        ensures stands { IfOk result (λ version. StandsFor N.store.origins (arc_value version) self.new.seen) }
+        ensures stands { IfOk result
+            (λ version. StandsFor N.store.origins (arc_value version) self.new.seen) }
         ensures later { OnOk result (GoesOn self.old self.new.seen) }
         ensures told { self.new.told ≡ self.old.told }
         ensures err { OnErr result (self.new ≡ self.old) }

@@ -37,7 +37,8 @@ impl Model for Parts {
 
     ghost Value = { Store };
 
-    ghost view = { λ p. record { book = p.log_writer; origins = p.origins.items; readers = p.readers } };
+    ghost view = { λ p.
+        record { book = p.log_writer; origins = p.origins.items; readers = p.readers } };
 
     ghost invariant = { λ p. (p.line.book ≡ p.log_writer) × (p.line.entries ≡ []) ×
         (length p.origins.items ≤ ZONE_LIMIT) × (0 < p.readers) × (p.readers ≤ READER_LIMIT) };
@@ -72,7 +73,8 @@ impl Parts {
         alloc: Global,
     ) -> Result<(Publisher<N>, Vec<PolicyReader<N>>), AllocError>
         requires { self ≡ N.store }
-        ensures list { IfOk result (λ r. (r.0.list ≡ []) × StandsFor N.store.origins r.0.version []) }
+        ensures list { IfOk result
+            (λ r. (r.0.list ≡ []) × StandsFor N.store.origins r.0.version []) }
         ensures marks { IfOk result (λ r. r.0.marks ≡ no_marks N.store.origins) }
         ensures readers { IfOk result (λ r. vec_len r.1 ≡ self.readers) }
         ensures new { IfOk result (λ r. All (λ k. IsNew k) r.1.items) }

@@ -81,12 +81,16 @@ pub(crate) fn prepare<N: StoreName>(
 ) -> Result<Prepared, ApplyError>
     requires store { IsOf N.store latest.now × (log_writer.now ≡ N.store.book) }
     requires zone { IsSome (zone_at (arc_value latest.now.version).zones number) }
-    ensures ok { IfOk result (λ p. IfSome (zone_at (arc_value latest.now.version).zones number) (λ zone.
-        Takes number zone transfer p.size (arc_value latest.now.version) (arc_value p.shown.version))) }
-    ensures err { IfErr result (λ error. IfSome (zone_at (arc_value latest.now.version).zones number) (λ zone.
+    ensures ok { IfOk result
+        (λ p. IfSome (zone_at (arc_value latest.now.version).zones number) (λ zone.
+        Takes number zone transfer p.size (arc_value latest.now.version)
+        (arc_value p.shown.version))) }
+    ensures err { IfErr result
+        (λ error. IfSome (zone_at (arc_value latest.now.version).zones number) (λ zone.
         Fails error (apply_outcome zone transfer))) }
     ensures list { IfOk result (λ p.
-        p.shown.line.entries ≡ latest.now.line.entries ++ record { zone = number; transfer = transfer } ∷ []) }
+        p.shown.line.entries
+        ≡ latest.now.line.entries ++ record { zone = number; transfer = transfer } ∷ []) }
     ensures store { IfOk result (λ p. IsOf N.store p.shown) }
     ensures same { IfOk result (λ p. (p.again.line ≡ p.shown.line) ×
         (arc_value p.again.version ≡ arc_value p.shown.version)) }

@@ -21,4 +21,5 @@ earlier first (Some name) = if comes_first name first then Some name else first
 
 -- the first of the first of each list
 abbrev pub first_server : PlainFacts → List (List (List (List ℕ))) → Option (List (List ℕ))
-first_server facts lists = fold (λ first list. earlier first (first_unknown_server facts list)) None lists
+first_server facts lists =
+    fold (λ first list. earlier first (first_unknown_server facts list)) None lists

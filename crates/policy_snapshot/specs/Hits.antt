@@ -14,7 +14,8 @@ use Rattle.policy_snapshot.specs.Rules.{PlainRule}
 
 -- an address of the name server is in the prefix
 abbrev pub has_address : PlainFacts → PlainPrefix → List (List ℕ) → Bool
-has_address facts prefix server = list_any (holds_within prefix server) (address_records facts server)
+has_address facts prefix server =
+    list_any (holds_within prefix server) (address_records facts server)
 
 -- The trigger is hit at a position of the chain, where this name stands: the client is in the prefix, which counts at the name
 -- of the query alone; the pattern matches the name; an address of the answer for this name is in the prefix; the pattern
@@ -22,14 +23,22 @@ has_address facts prefix server = list_any (holds_within prefix server) (address
 abbrev pub is_hit : Query → PlainFacts → ℕ → List (List ℕ) → Trigger → Bool
 is_hit query facts position name (ClientIp prefix) = position == 0 && contains prefix query.client
 is_hit query facts position name (Qname pattern) = matches pattern name
-is_hit query facts position name (ResponseIp prefix) = list_any (holds_within prefix name) (main_records query facts)
+is_hit query facts position name (ResponseIp prefix) =
+    list_any (holds_within prefix name) (main_records query facts)
 is_hit query facts position name (NsDname pattern) = list_any (matches pattern) (servers facts name)
-is_hit query facts position name (NsIp prefix) = list_any (has_address facts prefix) (servers facts name)
+is_hit query facts position name (NsIp prefix) =
+    list_any (has_address facts prefix) (servers facts name)
 
 -- a rule that is hit at a position
 abbrev pub hit_at : ℕ → PlainRule → PlainHit
-hit_at position rule = record { rank = record { position = position; zone = rule.zone; trigger = rule.trigger }; action = rule.action; soa = rule.soa }
+hit_at position rule =
+    record {
+      rank = record { position = position; zone = rule.zone; trigger = rule.trigger };
+      action = rule.action;
+      soa = rule.soa;
+    }
 
 -- The hits of the rules at a position, where this name stands.
 abbrev pub hits : List PlainRule → Query → PlainFacts → ℕ → List (List ℕ) → List PlainHit
-hits all query facts position name = map (hit_at position) (filter (λ rule. is_hit query facts position name rule.trigger) all)
+hits all query facts position name =
+    map (hit_at position) (filter (λ rule. is_hit query facts position name rule.trigger) all)

@@ -23,7 +23,12 @@ use Rattle.policy_snapshot.specs.Sight.{PlainSight}
 
 -- the hit of an entry of an index
 abbrev pub entry_hit : {K : Type 0} → (K → Trigger) → ℕ → ℕ → PlainRecord → K × Action → PlainHit
-entry_hit kind position number soa e = record { rank = record { position = position; zone = number; trigger = kind e.0 }; action = e.1; soa = soa }
+entry_hit kind position number soa e =
+    record {
+      rank = record { position = position; zone = number; trigger = kind e.0 };
+      action = e.1;
+      soa = soa;
+    }
 
 abbrev pub or_hit : Option PlainHit → Option PlainHit → Option PlainHit
 or_hit None other = other
@@ -47,26 +52,33 @@ best_over look xs = fold (λ found x. better found (look x)) None xs
 -- the client counts at the name of the query alone
 abbrev pub client_hit : ℕ → PlainRecord → PlainSight → PlainRules → Option PlainHit
 client_hit number soa sight rules =
-    if sight.position == 0 then option_map (entry_hit ClientIp sight.position number soa) (longest sight.client rules.client_ip) else None
+    if sight.position == 0
+    then option_map (entry_hit ClientIp sight.position number soa)
+    (longest sight.client rules.client_ip) else None
 
 abbrev pub server_hit : ℕ → ℕ → PlainRecord → PlainRules → List (List ℕ) → Option PlainHit
-server_hit position number soa rules server = option_map (entry_hit NsDname position number soa) (names.best server rules.nsdname)
+server_hit position number soa rules server =
+    option_map (entry_hit NsDname position number soa) (names.best server rules.nsdname)
 
 abbrev pub address_hit : ℕ → ℕ → PlainRecord → PlainRules → Addr → Option PlainHit
-address_hit position number soa rules addr = option_map (entry_hit NsIp position number soa) (longest addr rules.nsip)
+address_hit position number soa rules addr =
+    option_map (entry_hit NsIp position number soa) (longest addr rules.nsip)
 
 -- the best hit among the rules of the zone of this number and SOA record
 abbrev pub index_hit : ℕ → PlainRecord → PlainSight → PlainRules → Option PlainHit
 index_hit number soa sight rules =
     or_hit (client_hit number soa sight rules)
-    (or_hit (option_map (entry_hit Qname sight.position number soa) (names.best sight.name rules.qname))
-    (or_hit (option_map (entry_hit ResponseIp sight.position number soa) (first_about sight.name sight.records rules.response_ip))
+    (or_hit
+    (option_map (entry_hit Qname sight.position number soa) (names.best sight.name rules.qname))
+    (or_hit (option_map (entry_hit ResponseIp sight.position number soa)
+    (first_about sight.name sight.records rules.response_ip))
     (or_hit (best_over (best_over (server_hit sight.position number soa rules)) sight.servers)
     (best_over (address_hit sight.position number soa rules) sight.addresses))))
 
 abbrev pub content_hit : ℕ → PlainSight → List (List ℕ) → Option Content → Option PlainHit
 content_hit number sight origin None = None
-content_hit number sight origin (Some content) = index_hit number (soa_record origin content.soa) sight (rules_of origin content.rows)
+content_hit number sight origin (Some content) =
+    index_hit number (soa_record origin content.soa) sight (rules_of origin content.rows)
 
 abbrev pub zone_hit : ℕ → PlainSight → PlainZone → Option PlainHit
 zone_hit number sight zone = content_hit number sight zone.origin zone.content
@@ -74,7 +86,8 @@ zone_hit number sight zone = content_hit number sight zone.origin zone.content
 -- the best hit among the rules of zones that are numbered from this number on: that of the first zone that has one
 abbrev pub zones_hit : ℕ → PlainSight → List PlainZone → Option PlainHit
 zones_hit number sight [] = None
-zones_hit number sight (zone ∷ zones) = or_hit (zone_hit number sight zone) (zones_hit (number + 1) sight zones)
+zones_hit number sight (zone ∷ zones) =
+    or_hit (zone_hit number sight zone) (zones_hit (number + 1) sight zones)
 
 -- the kinds in order of precedence
 abbrev pub place_of_kind : Kind → ℕ
@@ -88,7 +101,8 @@ place_of_kind kinds.NsIp = 4
 abbrev pub kind_could_decide : Kind → ℕ → Option PlainHit → Bool
 kind_could_decide kind number None = true
 kind_could_decide kind number (Some hit) =
-    nat_lt number hit.rank.zone || (number == hit.rank.zone && nat_le (place_of_kind kind) (kind_number hit.rank.trigger))
+    nat_lt number hit.rank.zone
+    || (number == hit.rank.zone && nat_le (place_of_kind kind) (kind_number hit.rank.trigger))
 
 -- the zone has rules of this kind
 abbrev pub has_kind_in : Kind → List (List ℕ) → Option Content → Bool
@@ -99,7 +113,8 @@ has_kind_in kind origin (Some content) = has_kind (rules_of origin content.rows)
 abbrev pub zones_need : Kind → ℕ → Option PlainHit → List PlainZone → Bool
 zones_need kind number hit [] = false
 zones_need kind number hit (zone ∷ zones) =
-    (has_kind_in kind zone.origin zone.content && kind_could_decide kind number hit) || zones_need kind (number + 1) hit zones
+    (has_kind_in kind zone.origin zone.content && kind_could_decide kind number hit)
+    || zones_need kind (number + 1) hit zones
 
 -- servers are looked at in lists where some zone has rules about them
 abbrev pub AreListsIf : Bool → List (List (List (List ℕ))) → List (List (List ℕ)) → Type 0

@@ -47,7 +47,8 @@ needs_addresses (NsIp prefix) = true
 abbrev pub could_decide : Option PlainHit → PlainRule → Bool
 could_decide None rule = true
 could_decide (Some hit) rule =
-    not (is_gt (ordering_then (nat_cmp rule.zone hit.rank.zone) (nat_cmp (kind_number rule.trigger) (kind_number hit.rank.trigger))))
+    not (is_gt (ordering_then (nat_cmp rule.zone hit.rank.zone)
+    (nat_cmp (kind_number rule.trigger) (kind_number hit.rank.trigger))))
 
 -- some rule that could decide needs it
 abbrev pub is_needed : (Trigger → Bool) → List PlainRule → Option PlainHit → Bool
@@ -63,7 +64,8 @@ server_questions name = map (λ owner. question_of owner 2) (ancestors name)
 
 -- both questions about the addresses of a server are answered
 abbrev pub has_known_addresses : PlainFacts → List (List ℕ) → Bool
-has_known_addresses facts server = is_known facts (question_of server 1) && is_known facts (question_of server 28)
+has_known_addresses facts server =
+    is_known facts (question_of server 1) && is_known facts (question_of server 28)
 
 -- no name of the list comes before this one in canonical order
 abbrev pub is_least : List (List (List ℕ)) → List (List ℕ) → Bool
@@ -75,12 +77,14 @@ least_name names = find (is_least names) names
 
 -- the question about the addresses of a server that isn't answered yet: A before AAAA
 abbrev pub address_question : PlainFacts → List (List ℕ) → Question
-address_question facts server = if is_known facts (question_of server 1) then question_of server 28 else question_of server 1
+address_question facts server =
+    if is_known facts (question_of server 1) then question_of server 28 else question_of server 1
 
 -- the question about the first server, in canonical order, whose addresses aren't all known
 abbrev pub unknown_address : PlainFacts → List (List ℕ) → Option Question
 unknown_address facts name =
-    option_map (address_question facts) (least_name (filter (λ server. not (has_known_addresses facts server)) (servers facts name)))
+    option_map (address_question facts)
+    (least_name (filter (λ server. not (has_known_addresses facts server)) (servers facts name)))
 
 abbrev pub if_needed : Bool → Option Question → Option Question
 if_needed needed question = if needed then question else None
@@ -92,10 +96,13 @@ or_question None other = other
 -- The question that must be asked at a position, where this name stands, before it is known which rule decides there, by the
 -- best hit that is known: that of the query, if its answer isn't known and a rule needs it that could decide; then the first NS
 -- question of the name and those above it; then the first question about an address of a server.
-abbrev pub pending : List PlainRule → Query → PlainFacts → List (List ℕ) → Option PlainHit → Option Question
+abbrev pub pending : List PlainRule → Query → PlainFacts → List (List ℕ) → Option PlainHit →
+    Option Question
 pending all query facts name hit =
-    or_question (if_needed (is_needed needs_answer all hit) (first_unknown facts (main_question query ∷ [])))
-    (or_question (if_needed (is_needed needs_servers all hit) (first_unknown facts (server_questions name)))
+    or_question
+    (if_needed (is_needed needs_answer all hit) (first_unknown facts (main_question query ∷ [])))
+    (or_question
+    (if_needed (is_needed needs_servers all hit) (first_unknown facts (server_questions name)))
     (if_needed (is_needed needs_addresses all hit) (unknown_address facts name)))
 
 -- What comes next: this must be asked; the rule of this hit decides, behind these names of the chain, at this name; no rule is
@@ -106,13 +113,15 @@ pub data Next : Type 0 where
   no_hit : Next
   chain_too_long : Next
 
-abbrev pub unless_pending : List (List (List ℕ)) → List (List ℕ) → Option PlainHit → Option Question → Option Next
+abbrev pub unless_pending : List (List (List ℕ)) → List (List ℕ) → Option PlainHit →
+    Option Question → Option Next
 unless_pending before name hit (Some question) = Some (ask question)
 unless_pending before name (Some hit) None = Some (decided_by before name hit)
 unless_pending before name None None = None
 
 -- what comes next at a name of the chain, behind these names; None where nothing is pending there and no rule is hit
-abbrev pub next_at : List PlainRule → Query → PlainFacts → List (List (List ℕ)) → List (List ℕ) → Option Next
+abbrev pub next_at : List PlainRule → Query → PlainFacts → List (List (List ℕ)) → List (List ℕ) →
+    Option Next
 next_at all query facts before name =
     let hit = best (hits all query facts (length before) name) in
     unless_pending before name hit (pending all query facts name hit)
@@ -122,23 +131,29 @@ or_next None other = other
 or_next (Some next) other = next
 
 -- what comes next along names of the chain, behind these names
-abbrev pub next_along : List PlainRule → Query → PlainFacts → List (List (List ℕ)) → List (List (List ℕ)) → Next
+abbrev pub next_along : List PlainRule → Query → PlainFacts → List (List (List ℕ)) →
+    List (List (List ℕ)) → Next
 next_along all query facts before [] = no_hit
 next_along all query facts before (name ∷ names) =
-    or_next (next_at all query facts before name) (next_along all query facts (before ++ name ∷ []) names)
+    or_next (next_at all query facts before name)
+    (next_along all query facts (before ++ name ∷ []) names)
 
 -- what comes next behind the first name of a chain, which may be too long
-abbrev pub next_in_chain : List PlainRule → Query → PlainFacts → Option (List (List (List ℕ))) → Next
+abbrev pub next_in_chain : List PlainRule → Query → PlainFacts → Option (List (List (List ℕ))) →
+    Next
 next_in_chain all query facts None = chain_too_long
-next_in_chain all query facts (Some names) = next_along all query facts (take 1 names) (drop 1 names)
+next_in_chain all query facts (Some names) =
+    next_along all query facts (take 1 names) (drop 1 names)
 
 -- what comes next behind the name of the query: the answer is needed, which shows the chain
 abbrev pub next_behind : List PlainRule → Query → PlainFacts → Option Fact → Next
 next_behind all query facts None = ask (main_question query)
-next_behind all query facts (Some fact) = next_in_chain all query facts (chain (main_question query) fact)
+next_behind all query facts (Some fact) =
+    next_in_chain all query facts (chain (main_question query) fact)
 
 -- What comes next for a query under a policy, by what is known: at the name of the query first, then along the chain.
 abbrev pub next : PlainPolicy → Query → PlainFacts → Next
 next policy query facts =
     let all = rules policy in
-    or_next (next_at all query facts [] query.question.name) (next_behind all query facts (fact_about facts (main_question query)))
+    or_next (next_at all query facts [] query.question.name)
+    (next_behind all query facts (fact_about facts (main_question query)))

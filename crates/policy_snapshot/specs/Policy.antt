@@ -24,7 +24,8 @@ zone_after zone transfer = zone_by zone (apply_outcome zone transfer)
 
 abbrev pub with_zone_after : PlainPolicy → Entry → Option PlainZone → PlainPolicy
 with_zone_after policy entry None = policy
-with_zone_after policy entry (Some zone) = slice_set policy (entry.zone - 1) (zone_after zone entry.transfer)
+with_zone_after policy entry (Some zone) =
+    slice_set policy (entry.zone - 1) (zone_after zone entry.transfer)
 
 -- the policy after one more transfer, which changes its zone alone
 abbrev pub policy_with : PlainPolicy → Entry → PlainPolicy
@@ -42,7 +43,9 @@ TakesTransfer (Some zone) transfer = (next : PlainZone) × (apply_outcome zone t
 -- each transfer of the list is taken by its zone, as the ones before it left the policy
 abbrev pub AreTaken : PlainPolicy → List Entry → Type 0
 AreTaken policy [] = ⊤
-AreTaken policy (entry ∷ entries) = TakesTransfer (zone_at policy entry.zone) entry.transfer × AreTaken (policy_with policy entry) entries
+AreTaken policy (entry ∷ entries) =
+    TakesTransfer (zone_at policy entry.zone) entry.transfer
+    × AreTaken (policy_with policy entry) entries
 
 -- the same from zones of these origins with nothing loaded: each entry is a transfer that was accepted
 abbrev pub AreAccepted : List (List (List ℕ)) → List Entry → Type 0

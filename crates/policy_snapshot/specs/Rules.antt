@@ -19,12 +19,15 @@ pub record PlainRule : Type 0 where
 abbrev pub content_rules : ℕ → List (List ℕ) → Option Content → List PlainRule
 content_rules number origin None = []
 content_rules number origin (Some content) =
-    map (λ r. record { zone = number; trigger = r.0; action = r.1; soa = soa_record origin content.soa }) (zone_rules origin content.rows)
+    map (λ r.
+    record { zone = number; trigger = r.0; action = r.1; soa = soa_record origin content.soa })
+    (zone_rules origin content.rows)
 
 -- the rules of zones that are numbered from this number on
 abbrev pub rules_from : ℕ → PlainPolicy → List PlainRule
 rules_from number [] = []
-rules_from number (zone ∷ zones) = content_rules number zone.origin zone.content ++ rules_from (number + 1) zones
+rules_from number (zone ∷ zones) =
+    content_rules number zone.origin zone.content ++ rules_from (number + 1) zones
 
 -- All rules of a policy.
 abbrev pub rules : PlainPolicy → List PlainRule

@@ -10,7 +10,8 @@ use Rattle.policy_snapshot.specs.Rules.{PlainRule}
 -- no fact that may come changes which hit is the best at a position, where this name stands
 abbrev pub IsSettled : List PlainRule → Query → PlainFacts → ℕ → List (List ℕ) → Type 0
 IsSettled all query facts position name =
-    (more : PlainFacts) → Extends facts more → best (hits all query more position name) ≡ best (hits all query facts position name)
+    (more : PlainFacts) → Extends facts more →
+    best (hits all query more position name) ≡ best (hits all query facts position name)
 
 -- something is decided: no question comes next
 abbrev pub is_settled : Next → Bool

@@ -18,10 +18,19 @@ pub record PlainSight : Type 0 where
 
 -- what the code holds by reference
 abbrev pub sight_seen : Sight → PlainSight
-sight_seen s = record { position = s.position; client = s.client; name = s.name.now; records = s.records.now; servers = map (λ list. list.now) s.servers.now; addresses = s.addresses.now }
+sight_seen s =
+    record {
+      position = s.position;
+      client = s.client;
+      name = s.name.now;
+      records = s.records.now;
+      servers = map (λ list. list.now) s.servers.now;
+      addresses = s.addresses.now;
+    }
 
 -- by what is known, with these servers and addresses
-abbrev pub sight_of : Query → PlainFacts → ℕ → List (List ℕ) → List (List (List (List ℕ))) → List Addr → PlainSight
+abbrev pub sight_of : Query → PlainFacts → ℕ → List (List ℕ) → List (List (List (List ℕ))) →
+    List Addr → PlainSight
 sight_of query facts position name lists addresses = record {
   position = position;
   client = query.client;

@@ -34,14 +34,20 @@ pub record Stands (snapshot : PlainSnapshot) (entries : List Entry) : Type 0 whe
   pub accepted : snapshot.accepted ≡ count_of (length entries)
 
 -- The snapshot is the policy of these origins after a list of accepted transfers.
-pub record StandsFor (origins : List (List (List ℕ))) (snapshot : PlainSnapshot) (entries : List Entry) : Type 0 where
+pub record StandsFor (origins : List (List (List ℕ))) (snapshot : PlainSnapshot)
+    (entries : List Entry) : Type 0 where
   pub origins_are : origins_of snapshot.zones ≡ origins
   pub stands : Stands snapshot entries
   pub accepted : AreAccepted origins entries
 
 -- The snapshot with this zone at the place of a number, one transfer more accepted; or the fault.
-abbrev pub with_zone : PlainSnapshot → ℕ → Result PlainZone ApplyFault → Result PlainSnapshot ApplyFault
-with_zone snapshot number (Ok zone) = Ok (record { zones = slice_set snapshot.zones (number - 1) zone; accepted = next_count snapshot.accepted })
+abbrev pub with_zone : PlainSnapshot → ℕ → Result PlainZone ApplyFault →
+    Result PlainSnapshot ApplyFault
+with_zone snapshot number (Ok zone) =
+    Ok (record {
+      zones = slice_set snapshot.zones (number - 1) zone;
+      accepted = next_count snapshot.accepted;
+    })
 with_zone snapshot number (Err fault) = Err fault
 
 -- the rows of each zone are rows

@@ -85,9 +85,11 @@ impl Snapshot {
         hit: &Option<Hit<'_>>,
     ) -> Result<Option<Question>, AllocError>
         ensures question { IfOk result (λ question. question
-            ≡ pending (rules self.now.zones) query.now facts.now name.now (option_map hit_seen hit.now)) }
+            ≡ pending (rules self.now.zones) query.now facts.now name.now
+            (option_map hit_seen hit.now)) }
         ensures settled { IfOk result (λ question. (position : ℕ) → question ≡ None →
-            option_map hit_seen hit.now ≡ best (hits (rules self.now.zones) query.now facts.now position name.now) →
+            option_map hit_seen hit.now
+            ≡ best (hits (rules self.now.zones) query.now facts.now position name.now) →
             IsSettled (rules self.now.zones) query.now facts.now position name.now) }
     {
         nothing_unasked_could_matter();
@@ -106,7 +108,8 @@ impl Snapshot {
         hit: &Option<Hit<'_>>,
     ) -> Result<Option<Question>, AllocError>
         ensures { IfOk result (λ question. question
-            ≡ pending (rules self.now.zones) query.now facts.now name.now (option_map hit_seen hit.now)) }
+            ≡ pending (rules self.now.zones) query.now facts.now name.now
+            (option_map hit_seen hit.now)) }
     {
         an_index_has_the_rules_of_its_zone();
         // called for its clause: the rows of the zones are rows
@@ -130,7 +133,8 @@ impl Snapshot {
         hit: &Option<Hit<'_>>,
     ) -> Result<Option<Question>, AllocError>
         ensures { IfOk result (λ question. question
-            ≡ next.if_needed (form.zones_need kinds.ResponseIp 1 (option_map hit_seen hit.now) self.now.zones)
+            ≡ next.if_needed
+            (form.zones_need kinds.ResponseIp 1 (option_map hit_seen hit.now) self.now.zones)
             (next.first_unknown facts.now (questions.main_question query.now ∷ []))) }
     {
         if !self.needs(Kind::ResponseIp, hit)
@@ -170,7 +174,8 @@ impl Snapshot {
         hit: &Option<Hit<'_>>,
     ) -> Result<Option<Question>, AllocError>
         ensures { IfOk result (λ question. question
-            ≡ next.if_needed (form.zones_need kinds.NsIp 1 (option_map hit_seen hit.now) self.now.zones)
+            ≡ next.if_needed
+            (form.zones_need kinds.NsIp 1 (option_map hit_seen hit.now) self.now.zones)
             (next.unknown_address facts.now name.now)) }
     {
         if self.needs(Kind::NsIp, hit) {
@@ -187,8 +192,10 @@ impl Snapshot {
         facts: &'f Facts,
         name: &Name,
     ) -> Result<ServerLists<'f>, AllocError>
-        ensures { IfOk result (λ lists. form.AreListsIf (form.zones_need kinds.NsDname 1 None self.now.zones
-            || form.zones_need kinds.NsIp 1 None self.now.zones) lists (names.servers facts.now name.now)) }
+        ensures { IfOk result
+            (λ lists. form.AreListsIf (form.zones_need kinds.NsDname 1 None self.now.zones
+            || form.zones_need kinds.NsIp 1 None self.now.zones) lists
+            (names.servers facts.now name.now)) }
     {
         if self.needs(Kind::NsDname, &None) || self.needs(Kind::NsIp, &None) {
             known_servers(alloc, facts, name)
@@ -204,10 +211,12 @@ impl Snapshot {
         facts: &Facts,
         lists: &ServerLists<'_>,
     ) -> Result<Vec<Addr>, AllocError>
-        ensures some { IfOk result (λ all. IsTrue (form.zones_need kinds.NsIp 1 None self.now.zones) →
+        ensures some { IfOk result
+            (λ all. IsTrue (form.zones_need kinds.NsIp 1 None self.now.zones) →
             (servers : List (List (List ℕ))) → AreListsOf lists.now servers →
             HaveSameMembers all.items (names.addresses_of facts.now servers)) }
-        ensures none { IfOk result (λ all. form.zones_need kinds.NsIp 1 None self.now.zones ≡ false → all.items ≡ []) }
+        ensures none { IfOk result
+            (λ all. form.zones_need kinds.NsIp 1 None self.now.zones ≡ false → all.items ≡ []) }
     {
         if self.needs(Kind::NsIp, &None) {
             server_addresses(alloc, facts, lists)
@@ -220,7 +229,8 @@ impl Snapshot {
     fn first_hit(&self, sight: &Sight<'_>) -> Option<Hit<'_>>
         requires name { sight.now.lower.now ≡ lowered sight.now.name.now }
         requires servers { All AreInOrder (map (λ list. list.now) sight.now.servers.now) }
-        ensures { option_map hit_seen result ≡ form.zones_hit 1 (sight_seen sight.now) self.now.zones }
+        ensures { option_map hit_seen result
+            ≡ form.zones_hit 1 (sight_seen sight.now) self.now.zones }
     {
         let mut number = 0;
         for zone in self.zones() {

@@ -25,8 +25,10 @@ use zone_index::laws::an_index_has_the_rules_of_its_zone;
 /// The policy after no transfer has nothing loaded; one more transfer that its zone takes changes this zone alone. The number of
 /// zones stays.
 pub fn a_policy_takes_transfers_one_by_one()
-    ensures first { (origins : List (List (List ℕ))) → policy_after origins [] ≡ map unloaded origins }
-    ensures next { (origins : List (List (List ℕ))) (entries : List Entry) (number : ℕ) (transfer : Transfer)
+    ensures first { (origins : List (List (List ℕ))) →
+        policy_after origins [] ≡ map unloaded origins }
+    ensures next { (origins : List (List (List ℕ))) (entries : List Entry) (number : ℕ)
+        (transfer : Transfer)
         (zone next : PlainZone) → zone_at (policy_after origins entries) number ≡ Some zone →
         apply_outcome zone transfer ≡ Ok next →
         policy_after origins (entries ++ record { zone = number; transfer = transfer } ∷ [])
@@ -42,13 +44,19 @@ pub fn a_policy_takes_transfers_one_by_one()
 pub fn nothing_unasked_could_matter()
     ensures best { (zones : List PlainZone) (query : Query) (facts more : PlainFacts) (position : ℕ)
         (name : List (List ℕ)) → HaveRows zones → Extends facts more →
-        pending (rules zones) query facts name (best (hits (rules zones) query facts position name)) ≡ None →
-        best (hits (rules zones) query more position name) ≡ best (hits (rules zones) query facts position name) }
-    ensures pending { (zones : List PlainZone) (query : Query) (facts more : PlainFacts) (position : ℕ)
+        pending (rules zones) query facts name (best (hits (rules zones) query facts position name))
+        ≡ None →
+        best (hits (rules zones) query more position name)
+        ≡ best (hits (rules zones) query facts position name) }
+    ensures pending { (zones : List PlainZone) (query : Query) (facts more : PlainFacts)
+        (position : ℕ)
         (name : List (List ℕ)) → HaveRows zones → Extends facts more →
-        pending (rules zones) query facts name (best (hits (rules zones) query facts position name)) ≡ None →
-        pending (rules zones) query more name (best (hits (rules zones) query more position name)) ≡ None }
-    ensures next { (zones : List PlainZone) (query : Query) (facts more : PlainFacts) → HaveRows zones →
+        pending (rules zones) query facts name (best (hits (rules zones) query facts position name))
+        ≡ None →
+        pending (rules zones) query more name (best (hits (rules zones) query more position name))
+        ≡ None }
+    ensures next { (zones : List PlainZone) (query : Query) (facts more : PlainFacts) →
+        HaveRows zones →
         Extends facts more → IsTrue (is_settled (next zones query facts)) →
         next zones query more ≡ next zones query facts }
 {

@@ -39,7 +39,8 @@ fn rules_hit<'a>(
 ) -> Option<Hit<'a>>
     requires name { sight.now.lower.now ≡ lowered sight.now.name.now }
     requires servers { All AreInOrder (map (λ list. list.now) sight.now.servers.now) }
-    ensures { option_map hit_seen result ≡ form.index_hit number soa.now (sight_seen sight.now) rules.now }
+    ensures { option_map hit_seen result
+        ≡ form.index_hit number soa.now (sight_seen sight.now) rules.now }
 {
     case_does_not_matter();
     if sight.position == 0 {
@@ -91,7 +92,8 @@ fn servers_hit<'a>(
 ) -> Option<Hit<'a>>
     requires { All AreInOrder (map (λ list. list.now) lists.now) }
     ensures { option_map hit_seen result
-        ≡ best_over (best_over (form.server_hit position number soa.now rules.now)) (map (λ list. list.now) lists.now) }
+        ≡ best_over (best_over (form.server_hit position number soa.now rules.now))
+        (map (λ list. list.now) lists.now) }
 {
     let mut best = None;
     for list in lists {

@@ -36,7 +36,8 @@ impl Model for Snapshot {
 
     ghost view = { λ s. record { zones = map arc_value s.zones.items; accepted = s.accepted } };
 
-    ghost invariant = { λ s. (length s.zones.items ≤ ZONE_LIMIT) × HaveRows (map arc_value s.zones.items) };
+    ghost invariant = { λ s. (length s.zones.items ≤ ZONE_LIMIT)
+        × HaveRows (map arc_value s.zones.items) };
 }
 
 impl Snapshot {
@@ -144,7 +145,8 @@ fn with_zone_at(
     zone: Zone,
 ) -> Result<Vec<Arc<Zone, Global>>, AllocError>
     requires { place < length zones.now }
-    ensures { IfOk result (λ all. map arc_value all.items ≡ slice_set (map arc_value zones.now) place zone) }
+    ensures { IfOk result
+        (λ all. map arc_value all.items ≡ slice_set (map arc_value zones.now) place zone) }
 {
     let mut all = shared(alloc, zones)?;
     all[place] = Arc::new(alloc, zone)?;

@@ -33,7 +33,8 @@ impl<V> Model for PrefixMap<V> {
 
     ghost view = { λ m. m.entries.entries };
 
-    ghost invariant = { λ m. AllByRecursion (λ e. IsPrefix e.0) m.entries.entries × IsStrictlySortedBy prefix_order (keys_of m.entries.entries) };
+    ghost invariant = { λ m. AllByRecursion (λ e. IsPrefix e.0) m.entries.entries
+        × IsStrictlySortedBy prefix_order (keys_of m.entries.entries) };
 }
 
 impl<V> PrefixMap<V> {

@@ -58,7 +58,8 @@ impl Eq for Ranked {
 impl PartialOrd for Ranked {
     ghost partial_cmp = { λ x y. Some (prefix_order x y) };
 
-    ghost laws = { partial_order_from_agreeing_total prefix_order prefix_order_total (λ x y. refl) (λ x y. refl) };
+    ghost laws = { partial_order_from_agreeing_total prefix_order prefix_order_total (λ x y. refl)
+        (λ x y. refl) };
 
     fn partial_cmp(&self, other: &Ranked) -> Option<Ordering> {
         Some(self.cmp(other))

@@ -12,7 +12,8 @@ use Rattle.dns_name.specs.Labels.{name_octets}
 abbrev pub pattern_order : PlainPattern → PlainPattern → Ordering
 pattern_order a b =
     ordering_then (bool_cmp a.wild b.wild)
-    (ordering_then (nat_cmp (length b.base) (length a.base)) (slice_cmp nat_cmp (name_octets a.base) (name_octets b.base)))
+    (ordering_then (nat_cmp (length b.base) (length a.base))
+    (slice_cmp nat_cmp (name_octets a.base) (name_octets b.base)))
 
 -- The entry that comes first of those whose pattern is about the name, as a scan over all entries finds it.
 abbrev pub best : {V : Type 0} → List (List ℕ) → List (PlainPattern × V) → Option (PlainPattern × V)

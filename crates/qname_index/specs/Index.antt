@@ -19,7 +19,8 @@ pub record IsIndex {V : Type 0} (entries : List (PlainPattern × V)) : Type 0 wh
 
 -- The mark of so many labels as the pattern's base has is set, if the pattern is wild. Marks may be set for nothing.
 abbrev pub IsMarked : List Bool → PlainPattern → Type 0
-IsMarked marks pattern = pattern.wild ≡ true → slice_index_or marks (length pattern.base) false ≡ true
+IsMarked marks pattern =
+    pattern.wild ≡ true → slice_index_or marks (length pattern.base) false ≡ true
 
 -- Each wild pattern of the entries is marked, so that a look-up may pass over numbers of labels with no mark.
 abbrev pub AreMarked : {V : Type 0} → List Bool → List (PlainPattern × V) → Type 0

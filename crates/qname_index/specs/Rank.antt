@@ -14,14 +14,20 @@ pub record Rank : Type 0 where
   pub octets : List ℕ
 
 abbrev pub rank_of : PlainPattern → Rank
-rank_of pattern = record { wild = pattern.wild; labels = length pattern.base; octets = name_octets pattern.base }
+rank_of pattern =
+    record { wild = pattern.wild; labels = length pattern.base; octets = name_octets pattern.base }
 
 -- `pattern_order`, of ranks
 abbrev pub rank_order : Rank → Rank → Ordering
-rank_order a b = ordering_then (bool_cmp a.wild b.wild) (ordering_then (nat_cmp b.labels a.labels) (slice_cmp nat_cmp a.octets b.octets))
+rank_order a b =
+    ordering_then (bool_cmp a.wild b.wild)
+    (ordering_then (nat_cmp b.labels a.labels) (slice_cmp nat_cmp a.octets b.octets))
 
 pub rank_total : IsTotalOrder rank_order
-rank_total = then_total (on_total (λ r. r.wild) bool_cmp_total) (then_total (back_total (on_total (λ r. r.labels) nat_cmp_total)) (on_total (λ r. r.octets) nat_list_cmp_total))
+rank_total =
+    then_total (on_total (λ r. r.wild) bool_cmp_total) (then_total
+    (back_total (on_total (λ r. r.labels) nat_cmp_total))
+    (on_total (λ r. r.octets) nat_list_cmp_total))
 
 -- the rank of the exact pattern of a name
 abbrev pub exact_rank : List (List ℕ) → Rank
@@ -29,7 +35,8 @@ exact_rank name = record { wild = false; labels = length name; octets = name_oct
 
 -- the rank of the wild pattern whose base is so many labels of the name, its last ones
 abbrev pub wild_rank : List (List ℕ) → ℕ → Rank
-wild_rank name count = record { wild = true; labels = count; octets = name_octets (drop (length name - count) name) }
+wild_rank name count =
+    record { wild = true; labels = count; octets = name_octets (drop (length name - count) name) }
 
 -- the rank is the pattern's
 abbrev pub has_rank : Rank → PlainPattern → Bool

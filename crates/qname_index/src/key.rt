@@ -36,7 +36,8 @@ impl Model for Key {
 
     ghost view = { λ k. k.pattern };
 
-    ghost invariant = { λ k. (k.labels ≡ length k.pattern.base) × (IsHead (name_octets k.pattern.base) k.head) × IsKey k.pattern };
+    ghost invariant = { λ k. (k.labels ≡ length k.pattern.base)
+        × (IsHead (name_octets k.pattern.base) k.head) × IsKey k.pattern };
 }
 
 // The first 16 octets as one number, the highest first, with zeros behind where there are fewer.
@@ -91,7 +92,9 @@ fn compare_ranks<'x>(
 ) -> Ordering
     requires head { IsHead octets.now head }
     requires other_head { IsHead other_octets.now other_head }
-    ensures { result ≡ rank_order (record { wild = wild; labels = labels; octets = octets.now }) (record { wild = other_wild; labels = other_labels; octets = other_octets.now }) }
+    ensures { result
+        ≡ rank_order (record { wild = wild; labels = labels; octets = octets.now })
+        (record { wild = other_wild; labels = other_labels; octets = other_octets.now }) }
 {
     match wild.cmp(&other_wild) {
         Ordering::Equal => match other_labels.cmp(&labels) {
@@ -188,11 +191,16 @@ impl Ord for Key {
 }
 
 impl<'a> Comparable<Key> for KeyParts<'a> {
-    ghost compare = { λ q k. rank_order (record { wild = q.wild; labels = q.labels; octets = q.octets.now }) (rank_of k) };
+    ghost compare = { λ q k. rank_order
+        (record { wild = q.wild; labels = q.labels; octets = q.octets.now }) (rank_of k) };
 
-    ghost respects_cmp = { λ q x y. rank_total.congr (record { wild = q.wild; labels = q.labels; octets = q.octets.now }) (rank_of x) (rank_of y) };
+    ghost respects_cmp = { λ q x y. rank_total.congr
+        (record { wild = q.wild; labels = q.labels; octets = q.octets.now }) (rank_of x)
+        (rank_of y) };
 
-    ghost below_greater = { λ q x y. le_lt_trans rank_total (record { wild = q.wild; labels = q.labels; octets = q.octets.now }) (rank_of x) (rank_of y) };
+    ghost below_greater = { λ q x y. le_lt_trans rank_total
+        (record { wild = q.wild; labels = q.labels; octets = q.octets.now }) (rank_of x)
+        (rank_of y) };
 
     fn compare(&self, key: &Key) -> Ordering {
         compare_ranks(

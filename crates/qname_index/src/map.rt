@@ -39,13 +39,15 @@ impl<V> Model for NameMap<V> {
 
     ghost view = { λ m. m.entries.entries };
 
-    ghost invariant = { λ m. IsIndex m.entries.entries × AreMarked m.wild_depths m.entries.entries };
+    ghost invariant = { λ m. IsIndex m.entries.entries
+        × AreMarked m.wild_depths m.entries.entries };
 }
 
 // Marks how many labels the base of the pattern has, where the pattern is wild.
 fn mark(depths: &mut [bool; DEPTHS], key: &Key)
     ensures marked { IsMarked depths.new key.now }
-    ensures kept { (pattern : PlainPattern) → IsMarked depths.old pattern → IsMarked depths.new pattern }
+    ensures kept { (pattern : PlainPattern) → IsMarked depths.old pattern →
+        IsMarked depths.new pattern }
 {
     if key.pattern().is_wild() {
         depths[key.labels()] = true;
@@ -125,7 +127,11 @@ impl<V> NameMap<V> {
     // The entry whose pattern has this rank.
     fn find(&self, asked: KeyParts<'_>) -> Option<(&Pattern, &V)>
         ensures found { option_map (λ e. (e.0.now, e.1.now)) result
-            ≡ lookup_entry (has_rank (record { wild = asked.entry.wild; labels = asked.entry.labels; octets = asked.entry.octets.now })) self.now }
+            ≡ lookup_entry (has_rank (record {
+              wild = asked.entry.wild;
+              labels = asked.entry.labels;
+              octets = asked.entry.octets.now;
+            })) self.now }
         ensures index { IsIndex self.now }
     {
         match self.entries.get_key_value(asked) {
@@ -138,7 +144,8 @@ impl<V> NameMap<V> {
     // base of so many labels.
     fn find_wild(&self, labels: usize, octets: &[u8]) -> Option<(&Pattern, &V)>
         ensures found { option_map (λ e. (e.0.now, e.1.now)) result
-            ≡ lookup_entry (has_rank (record { wild = true; labels = labels; octets = octets.now })) self.now }
+            ≡ lookup_entry (has_rank (record { wild = true; labels = labels; octets = octets.now }))
+            self.now }
         ensures index { IsIndex self.now }
     {
         if is_marked(&self.wild_depths, labels) {

@@ -27,21 +27,24 @@ verdict_turn query facts verdict = reply (reply_limit query) query verdict facts
 -- upstream passes; where the chain of aliases is too long, there is no answer
 abbrev pub turn_by_next : Query → PlainFacts → Next → Turn
 turn_by_next query facts (ask question) = Ask question
-turn_by_next query facts (decided_by before name hit) = verdict_turn query facts (hits hit.action hit.soa before name)
+turn_by_next query facts (decided_by before name hit) =
+    verdict_turn query facts (hits hit.action hit.soa before name)
 turn_by_next query facts no_hit = verdict_turn query facts passes
 turn_by_next query facts chain_too_long = verdict_turn query facts fails
 
 -- a question is asked while fewer than FACT_LIMIT facts are known; there is no answer where one more is needed
 abbrev pub within_limit : Query → PlainFacts → Turn → Turn
 within_limit query facts (Said s) = Said s
-within_limit query facts (Ask question) = if nat_lt (length facts) FACT_LIMIT then Ask question else verdict_turn query facts fails
+within_limit query facts (Ask question) =
+    if nat_lt (length facts) FACT_LIMIT then Ask question else verdict_turn query facts fails
 
 -- What is done about a message under a policy, by what is known. A refusal has at most the question and the OPT record, and
 -- keeps to the least limit.
 abbrev pub turn_by : PlainPolicy → Incoming → PlainFacts → Turn
 turn_by policy Silent facts = Said said.Silent
 turn_by policy (Refuse message) facts = Said (said.Reply (spelling_within LEAST_LIMIT message))
-turn_by policy (Asks query) facts = within_limit query facts (turn_by_next query facts (next policy query facts))
+turn_by policy (Asks query) facts =
+    within_limit query facts (turn_by_next query facts (next policy query facts))
 
 -- what a session does at this point
 abbrev pub turn_of : SessionState → Turn
@@ -49,7 +52,8 @@ turn_of session = turn_by session.policy session.incoming session.facts
 
 -- at the beginning nothing is known
 abbrev pub new_session : PlainPolicy → Incoming → SessionState
-new_session policy incoming = record { policy = policy; incoming = incoming; facts = []; asked = None }
+new_session policy incoming =
+    record { policy = policy; incoming = incoming; facts = []; asked = None }
 
 abbrev pub question_in : Turn → Option Question
 question_in (Ask question) = Some question
@@ -57,7 +61,13 @@ question_in (Said s) = None
 
 -- after a turn it waits exactly if it asked
 abbrev pub after_turn : SessionState → SessionState
-after_turn session = record { policy = session.policy; incoming = session.incoming; facts = session.facts; asked = question_in (turn_of session) }
+after_turn session =
+    record {
+      policy = session.policy;
+      incoming = session.incoming;
+      facts = session.facts;
+      asked = question_in (turn_of session);
+    }
 
 -- with one fact more, of the question that was asked
 abbrev pub with_fact : PlainFacts → Option Question → Fact → PlainFacts
@@ -66,15 +76,28 @@ with_fact facts (Some question) fact = facts ++ (question, fact) ∷ []
 
 -- after the fact is given that was asked for
 abbrev pub after_fact : SessionState → Fact → SessionState
-after_fact session fact = record { policy = session.policy; incoming = session.incoming; facts = with_fact session.facts session.asked fact; asked = None }
+after_fact session fact =
+    record {
+      policy = session.policy;
+      incoming = session.incoming;
+      facts = with_fact session.facts session.asked fact;
+      asked = None;
+    }
 
 -- waiting for the answer to a question, with these facts
 abbrev pub awaiting : SessionState → PlainFacts → Question → SessionState
-awaiting session facts question = record { policy = session.policy; incoming = session.incoming; facts = facts; asked = Some question }
+awaiting session facts question =
+    record {
+      policy = session.policy;
+      incoming = session.incoming;
+      facts = facts;
+      asked = Some question;
+    }
 
 -- What a session has asked for isn't known yet, and there is room for it.
 abbrev pub AsksAnew : PlainFacts → Option Question → Type 0
-AsksAnew facts asked = IfSome asked (λ question. (fact_about facts question ≡ None) × (length facts < FACT_LIMIT))
+AsksAnew facts asked =
+    IfSome asked (λ question. (fact_about facts question ≡ None) × (length facts < FACT_LIMIT))
 
 -- A query passes its own name: no rule is hit there, and nothing is pending there.
 abbrev pub PassesName : PlainPolicy → Query → PlainFacts → Type 0

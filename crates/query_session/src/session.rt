@@ -39,9 +39,15 @@ impl Model for Session {
 
     ghost Value = { SessionState };
 
-    ghost view = { λ s. record { policy = s.policy.value.zones; incoming = s.incoming; facts = s.facts; asked = s.asked } };
+    ghost view = { λ s. record {
+      policy = s.policy.value.zones;
+      incoming = s.incoming;
+      facts = s.facts;
+      asked = s.asked;
+    } };
 
-    ghost invariant = { λ s. AsksAnew s.facts s.asked × (s.passed ≡ true → IsPassed s.policy.value.zones s.incoming s.facts) };
+    ghost invariant = { λ s. AsksAnew s.facts s.asked
+        × (s.passed ≡ true → IsPassed s.policy.value.zones s.incoming s.facts) };
 }
 
 impl Session {
@@ -71,7 +77,8 @@ impl Session {
     // What is done at this point, and whether the query passes its own name.
     fn next_turn(&self) -> Result<(Turn, bool), AllocError>
         ensures turn { IfOk result (λ turn. turn.0 ≡ turn_of self.now) }
-        ensures passes { IfOk result (λ turn. turn.1 ≡ true → IsPassed self.now.policy self.now.incoming self.now.facts) }
+        ensures passes { IfOk result
+            (λ turn. turn.1 ≡ true → IsPassed self.now.policy self.now.incoming self.now.facts) }
         ensures short { IfOk result (λ turn. SaysShort turn.0) }
     {
         match &self.incoming {
@@ -133,7 +140,8 @@ impl Session {
     /// again: what undoes [`give`](Session::give) where what was to follow can't be done. Where no more than these are known,
     /// nothing changes.
     pub fn take_back(&mut self, count: usize)
-        ensures taken { (before after : PlainFacts) (question : questions.Question) (fact : told.Fact) →
+        ensures taken { (before after : PlainFacts) (question : questions.Question)
+            (fact : told.Fact) →
             self.old.facts ≡ before ++ (question, fact) ∷ after → length before ≡ count →
             self.new ≡ awaiting self.old before question }
         ensures few { length self.old.facts ≤ count → self.new ≡ self.old }

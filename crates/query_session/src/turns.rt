@@ -32,7 +32,8 @@ pub(crate) fn turn_about(
     ensures turn { IfOk result (λ turn. turn.0
         ≡ within_limit query.now facts.now
         (turn_by_next query.now facts.now (next policy.now.zones query.now facts.now))) }
-    ensures passes { IfOk result (λ turn. turn.1 ≡ true → PassesName policy.now.zones query.now facts.now) }
+    ensures passes { IfOk result
+        (λ turn. turn.1 ≡ true → PassesName policy.now.zones query.now facts.now) }
     ensures short { IfOk result (λ turn. SaysShort turn.0) }
 {
     let (turn, passes) = unlimited_turn(alloc, policy, query, facts, passed)?;
@@ -68,7 +69,8 @@ fn unlimited_turn(
     requires { passed ≡ true → PassesName policy.now.zones query.now facts.now }
     ensures turn { IfOk result (λ turn. turn.0
         ≡ turn_by_next query.now facts.now (next policy.now.zones query.now facts.now)) }
-    ensures passes { IfOk result (λ turn. turn.1 ≡ true → PassesName policy.now.zones query.now facts.now) }
+    ensures passes { IfOk result
+        (λ turn. turn.1 ≡ true → PassesName policy.now.zones query.now facts.now) }
     ensures short { IfOk result (λ turn. SaysShort turn.0) }
 {
     if passed {
@@ -157,7 +159,8 @@ fn turn_by_fact(
 
 // Whether it is an answer without a CNAME record, which shows no chain but the name that was asked for.
 fn has_no_alias(fact: &Fact) -> bool
-    ensures { result ≡ true → (question : Question) → chains.chain question fact.now ≡ Some (question.name ∷ []) }
+    ensures { result ≡ true → (question : Question) →
+        chains.chain question fact.now ≡ Some (question.name ∷ []) }
 {
     an_answer_without_aliases_shows_no_chain();
     match fact {

@@ -11,11 +11,13 @@ use Rattle.reply_build.specs.Reply.{Sections, Outcome, needs, gives, silent, rep
 -- the reply but for its OPT record, which its counts have
 abbrev pub draft_octets : Query → Sections → List ℕ
 draft_octets query s =
-    ((start_octets (reply_header s.tc s.rcode query) (Some query.question) (length s.answer) (length s.authority) (length s.additional + opt_count (reply_edns 0 query.edns))
+    ((start_octets (reply_header s.tc s.rcode query) (Some query.question) (length s.answer)
+    (length s.authority) (length s.additional + opt_count (reply_edns 0 query.edns))
     ++ records_octets s.answer) ++ records_octets s.authority) ++ records_octets s.additional
 
 abbrev pub draft_of : Query → Sections → Draft
-draft_of query s = record { header = reply_header s.tc s.rcode query; octets = draft_octets query s }
+draft_of query s =
+    record { header = reply_header s.tc s.rcode query; octets = draft_octets query s }
 
 -- an outcome, with its reply as a draft
 abbrev pub draft_outcome : Query → Outcome → DraftOutcome

@@ -30,7 +30,17 @@ use Rattle.reply_build.specs.Verdict.{PlainVerdict, passes, fails, hits}
 
 -- a response that keeps the ID and RD of the query (RFC 1035, section 4.1.1)
 abbrev pub reply_header : Bool → ℕ → Query → Header
-reply_header tc rcode query = record { id = query.id; qr = true; opcode = 0; aa = false; tc = tc; rd = query.rd; ra = true; rcode = rcode }
+reply_header tc rcode query =
+    record {
+      id = query.id;
+      qr = true;
+      opcode = 0;
+      aa = false;
+      tc = tc;
+      rd = query.rd;
+      ra = true;
+      rcode = rcode;
+    }
 
 -- what a reply says beside the question as it came and the OPT record
 pub record Sections : Type 0 where
@@ -52,7 +62,14 @@ reply_of query s = record {
 }
 
 abbrev pub sections : ℕ → List PlainRecord → List PlainRecord → List PlainRecord → Sections
-sections rcode answer authority additional = record { tc = false; rcode = rcode; answer = answer; authority = authority; additional = additional }
+sections rcode answer authority additional =
+    record {
+      tc = false;
+      rcode = rcode;
+      answer = answer;
+      authority = authority;
+      additional = additional;
+    }
 
 -- there is no answer: rcode 2
 abbrev pub server_failure : Sections
@@ -97,11 +114,13 @@ pass_outcome question (Some (Answer answer)) = gives (answer_sections answer)
 
 -- the answer of the upstream to the query's own question passes
 abbrev pub main_outcome : Query → PlainFacts → Outcome
-main_outcome query facts = pass_outcome (main_question query) (fact_about facts (main_question query))
+main_outcome query facts =
+    pass_outcome (main_question query) (fact_about facts (main_question query))
 
 -- local data as a record of this owner, in class IN
 abbrev pub local_record : List (List ℕ) → PlainLocal → PlainRecord
-local_record owner row = record { owner = owner; rtype = row.rtype; class = 1; ttl = row.ttl; rdata = row.rdata }
+local_record owner row =
+    record { owner = owner; rtype = row.rtype; class = 1; ttl = row.ttl; rdata = row.rdata }
 
 -- the row has the type that is asked for; ANY asks for all (RFC 1035, section 3.2.3)
 abbrev pub is_asked : ℕ → PlainLocal → Bool
@@ -111,33 +130,43 @@ is_asked qtype row = qtype == 255 || row.rtype == qtype
 -- the zone (section 3.6)
 abbrev pub local_answer : Query → List PlainLocal → Place → Sections
 local_answer query rows place =
-    sections 0 (place.kept ++ map (local_record place.name) (filter (is_asked query.question.qtype) rows)) [] (place.soa ∷ [])
+    sections 0
+    (place.kept ++ map (local_record place.name) (filter (is_asked query.question.qtype) rows)) []
+    (place.soa ∷ [])
 
 -- the alias of a name, to its target
 abbrev pub alias_record : List (List ℕ) → ℕ → List (List ℕ) → PlainRecord
-alias_record owner ttl target = record { owner = owner; rtype = 5; class = 1; ttl = ttl; rdata = name_octets target }
+alias_record owner ttl target =
+    record { owner = owner; rtype = 5; class = 1; ttl = ttl; rdata = name_octets target }
 
 -- an alias and the answer of the upstream about its target: its rcode, its answers, and its SOA in the authority section
 abbrev pub alias_sections : Place → PlainRecord → PlainAnswer → Sections
-alias_sections place alias answer = sections answer.rcode (place.kept ++ alias ∷ aged_answers answer) (soa_list answer) (place.soa ∷ [])
+alias_sections place alias answer =
+    sections answer.rcode (place.kept ++ alias ∷ aged_answers answer) (soa_list answer)
+    (place.soa ∷ [])
 
 -- the alias to a target of which this is known
 abbrev pub alias_outcome : Query → ℕ → List (List ℕ) → Place → Option Fact → Outcome
 alias_outcome query ttl target place None = needs (question_of target query.question.qtype)
 alias_outcome query ttl target place (Some (Broken why)) = gives server_failure
-alias_outcome query ttl target place (Some (Answer answer)) = gives (alias_sections place (alias_record place.name ttl target) answer)
+alias_outcome query ttl target place (Some (Answer answer)) =
+    gives (alias_sections place (alias_record place.name ttl target) answer)
 
 -- the alias to this target, which is None where it is longer than a name may be; the alias alone where the alias itself is
 -- asked for
 abbrev pub target_outcome : Query → ℕ → Place → PlainFacts → Option (List (List ℕ)) → Outcome
 target_outcome query ttl place facts None = gives server_failure
 target_outcome query ttl place facts (Some target) =
-    if asks_alias query.question.qtype then gives (sections 0 (place.kept ++ alias_record place.name ttl target ∷ []) [] (place.soa ∷ []))
-    else alias_outcome query ttl target place (fact_about facts (question_of target query.question.qtype))
+    if asks_alias query.question.qtype
+    then gives
+    (sections 0 (place.kept ++ alias_record place.name ttl target ∷ []) [] (place.soa ∷ []))
+    else alias_outcome query ttl target place
+    (fact_about facts (question_of target query.question.qtype))
 
 abbrev pub by_alias : Query → List PlainLocal → Place → PlainFacts → Option PlainLocal → Outcome
 by_alias query rows place facts None = gives (local_answer query rows place)
-by_alias query rows place facts (Some row) = target_outcome query row.ttl place facts (target_of place.name row.rdata)
+by_alias query rows place facts (Some row) =
+    target_outcome query row.ttl place facts (target_of place.name row.rdata)
 
 -- local data, or the alias that it is
 abbrev pub local_outcome : Query → List PlainLocal → Place → PlainFacts → Outcome
@@ -149,7 +178,8 @@ over_tcp Tcp = true
 
 -- the answer of the upstream passes over TCP; over UDP the reply is truncated
 abbrev pub tcp_only_outcome : Query → PlainFacts → Outcome
-tcp_only_outcome query facts = if over_tcp query.transport then main_outcome query facts else gives truncation
+tcp_only_outcome query facts =
+    if over_tcp query.transport then main_outcome query facts else gives truncation
 
 -- what a rule's action comes to; nothing is said for DROP (section 3.4)
 abbrev pub by_action : Query → PlainFacts → Place → Action → Outcome
@@ -162,13 +192,20 @@ by_action query facts place (Local rows) = local_outcome query rows place facts
 
 -- where a rule decides that is hit behind these names: the aliases are those of the answer to the query, with what is left of
 -- their TTLs
-abbrev pub place_of : Query → PlainFacts → PlainRecord → List (List (List ℕ)) → List (List ℕ) → Place
-place_of query facts soa before name = record { kept = map (aged (main_age query facts)) (chain_aliases (main_records query facts) before); name = name; soa = soa }
+abbrev pub place_of : Query → PlainFacts → PlainRecord → List (List (List ℕ)) → List (List ℕ) →
+    Place
+place_of query facts soa before name =
+    record {
+      kept = map (aged (main_age query facts)) (chain_aliases (main_records query facts) before);
+      name = name;
+      soa = soa;
+    }
 
 abbrev pub by_verdict : Query → PlainVerdict → PlainFacts → Outcome
 by_verdict query passes facts = main_outcome query facts
 by_verdict query fails facts = gives server_failure
-by_verdict query (hits action soa before name) facts = by_action query facts (place_of query facts soa before name) action
+by_verdict query (hits action soa before name) facts =
+    by_action query facts (place_of query facts soa before name) action
 
 -- the question is asked, or the reply is sent, in its truncated form where it is longer than the limit
 abbrev pub outcome_turn : ℕ → Query → Outcome → Turn

@@ -16,16 +16,21 @@ has_alias records name = is_some (alias_of records name)
 -- record of the zone and the OPT record
 abbrev pub rule_start : Header → Query → Place → ℕ → ℕ → List ℕ
 rule_start header query place answers authorities =
-    start_octets header (Some query.question) (length place.kept + answers) authorities (1 + opt_count (reply_edns 0 query.edns)) ++ records_octets place.kept
+    start_octets header (Some query.question) (length place.kept + answers) authorities
+    (1 + opt_count (reply_edns 0 query.edns)) ++ records_octets place.kept
 
 -- the reply by a rule with these answers behind the aliases that led to its place
 abbrev pub rule_sections : ℕ → Place → List PlainRecord → List PlainRecord → Sections
-rule_sections rcode place answers authority = sections rcode (place.kept ++ answers) authority (place.soa ∷ [])
+rule_sections rcode place answers authority =
+    sections rcode (place.kept ++ answers) authority (place.soa ∷ [])
 
 -- the reply by a rule that is an alias to this target, with these answers behind it
-abbrev pub alias_reply : ℕ → Place → ℕ → List (List ℕ) → List PlainRecord → List PlainRecord → Sections
-alias_reply rcode place ttl target answers authority = rule_sections rcode place (alias_record place.name ttl target ∷ answers) authority
+abbrev pub alias_reply : ℕ → Place → ℕ → List (List ℕ) → List PlainRecord → List PlainRecord →
+    Sections
+alias_reply rcode place ttl target answers authority =
+    rule_sections rcode place (alias_record place.name ttl target ∷ answers) authority
 
 -- no records
 abbrev pub empty_sections : Bool → ℕ → Sections
-empty_sections tc rcode = record { tc = tc; rcode = rcode; answer = []; authority = []; additional = [] }
+empty_sections tc rcode =
+    record { tc = tc; rcode = rcode; answer = []; authority = []; additional = [] }

@@ -20,7 +20,9 @@ if_ok (Err too_long) = None
 abbrev pub target_by : List (List ℕ) → List (List ℕ) → Option (List (List ℕ))
 target_by name [] = Some []
 target_by name (label ∷ []) = Some (label ∷ [])
-target_by name (label ∷ next ∷ others) = if is_asterisk label then if_ok (join_outcome name (next ∷ others)) else Some (label ∷ next ∷ others)
+target_by name (label ∷ next ∷ others) =
+    if is_asterisk label then if_ok (join_outcome name (next ∷ others))
+    else Some (label ∷ next ∷ others)
 
 abbrev pub target_in : List (List ℕ) → Outcome → Option (List (List ℕ))
 target_in name (Ok found) = target_by name found.0

@@ -38,7 +38,8 @@ pub fn build(
 ) -> Result<Turn, AllocError>
     requires low { LEAST_LIMIT ≤ limit }
     requires high { limit ≤ GREATEST_LIMIT }
-    ensures turn { IfOk result (λ turn. turn ≡ reply limit query.now (verdict_of verdict.entry) facts.now) }
+    ensures turn { IfOk result
+        (λ turn. turn ≡ reply limit query.now (verdict_of verdict.entry) facts.now) }
     ensures short { IfOk result SaysShort }
 {
     let outcome = by_verdict(alloc, query, verdict, facts)?;
@@ -57,7 +58,8 @@ fn by_verdict(
     facts: &Facts,
 ) -> Result<DraftOutcome, AllocError>
     ensures { IfOk result (λ outcome. outcome
-        ≡ draft_outcome query.now (form.by_verdict query.now (verdict_of verdict.entry) facts.now)) }
+        ≡ draft_outcome query.now
+        (form.by_verdict query.now (verdict_of verdict.entry) facts.now)) }
 {
     match verdict {
         Verdict::Pass => main_outcome(alloc, query, facts),
@@ -83,7 +85,8 @@ fn by_verdict(
 // The records in which the aliases of these names stand: those of the answer to the query. Where there are no names, it
 // isn't looked for.
 fn records_behind<'f>(query: &Query, facts: &'f Facts, before: &[Name]) -> &'f [Record]
-    ensures { chain_aliases result.now before.now ≡ chain_aliases (main_records query.now facts.now) before.now }
+    ensures { chain_aliases result.now before.now
+        ≡ chain_aliases (main_records query.now facts.now) before.now }
 {
     if before.is_empty() {
         return &[];
@@ -100,7 +103,8 @@ fn by_action(
     action: &Action,
 ) -> Result<DraftOutcome, AllocError>
     ensures { IfOk result (λ outcome. outcome
-        ≡ draft_outcome query.now (form.by_action query.now facts.now (place_seen place.now) action.now)) }
+        ≡ draft_outcome query.now
+        (form.by_action query.now facts.now (place_seen place.now) action.now)) }
 {
     match action {
         Action::NxDomain => Ok(DraftOutcome::Gives(denial(alloc, 3, query, place)?)),

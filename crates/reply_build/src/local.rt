@@ -55,7 +55,9 @@ fn write_if_asked(
     row: &LocalRow,
 ) -> Result<(), AllocError>
     ensures { OnOk result (out.new
-        ≡ out.old ++ records_octets (map (local_record owner.now) (filter (form.is_asked qtype) (row.now ∷ [])))) }
+        ≡ out.old
+        ++ records_octets
+        (map (local_record owner.now) (filter (form.is_asked qtype) (row.now ∷ [])))) }
 {
     if is_asked(qtype, row) {
         write_row(out, owner, row)
@@ -72,7 +74,8 @@ fn write_asked(
     rows: &[LocalRow],
 ) -> Result<(), AllocError>
     ensures { OnOk result (out.new
-        ≡ out.old ++ records_octets (map (local_record owner.now) (filter (form.is_asked qtype) rows.now))) }
+        ≡ out.old
+        ++ records_octets (map (local_record owner.now) (filter (form.is_asked qtype) rows.now))) }
 {
     for row in rows {
         write_if_asked(out, owner, qtype, row)?;
@@ -104,7 +107,8 @@ fn local_draft(
 
 // Writes the alias of a name at the end.
 fn write_alias(out: &mut Octets, owner: &Name, ttl: u32, target: &Name) -> Result<(), AllocError>
-    ensures { OnOk result (out.new ≡ out.old ++ record_octets (alias_record owner.now ttl target.now)) }
+    ensures { OnOk result
+        (out.new ≡ out.old ++ record_octets (alias_record owner.now ttl target.now)) }
 {
     write_record(out, owner, rtype::CNAME, class::IN, ttl, target.octets())
 }
@@ -122,7 +126,8 @@ fn alias_draft(
     place: &PlaceRef<'_>,
 ) -> Result<Draft, AllocError>
     ensures { IfOk result (λ draft. draft ≡ draft_of query.now
-        (alias_reply rcode (place_seen place.now) ttl target.now (map (aged age) answers.now) (map (aged age) authority.now))) }
+        (alias_reply rcode (place_seen place.now) ttl target.now (map (aged age) answers.now)
+        (map (aged age) authority.now))) }
 {
     let header = reply_header(false, rcode, query);
     let count = answers.len() + 1;
@@ -147,7 +152,8 @@ fn alias_answer_draft(
     answer: &Answer,
 ) -> Result<Draft, AllocError>
     ensures { IfOk result (λ draft. draft
-        ≡ draft_of query.now (form.alias_sections (place_seen place.now) (alias_record place.now.name.now ttl target.now) answer.now)) }
+        ≡ draft_of query.now (form.alias_sections (place_seen place.now)
+        (alias_record place.now.name.now ttl target.now) answer.now)) }
 {
     alias_draft(
         alloc,
@@ -183,7 +189,8 @@ fn alias_outcome(
     fact: Option<&Fact>,
 ) -> Result<DraftOutcome, AllocError>
     ensures { IfOk result (λ outcome. outcome
-        ≡ draft_outcome query.now (form.alias_outcome query.now ttl target (place_seen place.now) (option_copied fact.entry))) }
+        ≡ draft_outcome query.now (form.alias_outcome query.now ttl target (place_seen place.now)
+        (option_copied fact.entry))) }
 {
     match fact {
         None => Ok(DraftOutcome::Needs(question_of(target, query.question.qtype))),
@@ -205,7 +212,8 @@ fn target_outcome(
     target: Option<Name>,
 ) -> Result<DraftOutcome, AllocError>
     ensures { IfOk result (λ outcome. outcome
-        ≡ draft_outcome query.now (form.target_outcome query.now ttl (place_seen place.now) facts.now target)) }
+        ≡ draft_outcome query.now
+        (form.target_outcome query.now ttl (place_seen place.now) facts.now target)) }
 {
     let Some(target) = target else {
         return Ok(DraftOutcome::Gives(server_failure(alloc, query)?));
@@ -227,7 +235,8 @@ pub fn local_outcome(
     facts: &Facts,
 ) -> Result<DraftOutcome, AllocError>
     ensures { IfOk result (λ outcome. outcome
-        ≡ draft_outcome query.now (form.local_outcome query.now rows.now (place_seen place.now) facts.now)) }
+        ≡ draft_outcome query.now
+        (form.local_outcome query.now rows.now (place_seen place.now) facts.now)) }
 {
     match alias_in(rows) {
         None => Ok(DraftOutcome::Gives(local_draft(alloc, query, rows, place)?)),

@@ -56,7 +56,9 @@ fn write_alias_of(
     name: &Name,
 ) -> Result<(), AllocError>
     ensures { OnOk result (out.new
-        ≡ out.old ++ records_octets (map (aged age) (option_to_list (chains.alias_of records.now name.now)))) }
+        ≡ out.old
+        ++ records_octets
+        (map (aged age) (option_to_list (chains.alias_of records.now name.now)))) }
 {
     match alias_of(records, name) {
         None => Ok(()),
@@ -71,7 +73,8 @@ pub fn write_kept(
     age: u32,
     before: &[Name],
 ) -> Result<(), AllocError>
-    ensures { OnOk result (out.new ≡ out.old ++ records_octets (map (aged age) (chain_aliases records.now before.now))) }
+    ensures { OnOk result (out.new
+        ≡ out.old ++ records_octets (map (aged age) (chain_aliases records.now before.now))) }
 {
     for name in before {
         write_alias_of(out, records, age, name)?;

@@ -170,7 +170,8 @@ fn pass_outcome(
     fact: Option<&Fact>,
 ) -> Result<DraftOutcome, AllocError>
     ensures { IfOk result (λ outcome. outcome
-        ≡ draft_outcome query.now (form.pass_outcome (question_about query.now) (option_copied fact.entry))) }
+        ≡ draft_outcome query.now
+        (form.pass_outcome (question_about query.now) (option_copied fact.entry))) }
 {
     match fact {
         None => Ok(DraftOutcome::Needs(main_question(query)?)),

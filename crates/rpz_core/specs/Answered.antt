@@ -11,7 +11,8 @@ use Rattle.query_session.specs.Session.{turn_by}
 
 -- The later facts are these, and behind them only what live entries of the cache say: each about the question that the turn by
 -- the facts before it asks.
-pub data AreAnswered (now : ℕ) (policy : PlainPolicy) (incoming : Incoming) (cached : List PlainLearned) : PlainFacts → PlainFacts → Type 0 where
+pub data AreAnswered (now : ℕ) (policy : PlainPolicy) (incoming : Incoming)
+    (cached : List PlainLearned) : PlainFacts → PlainFacts → Type 0 where
   no_more : (facts : PlainFacts) → AreAnswered now policy incoming cached facts facts
   one_more : (facts later : PlainFacts) (question : Question) (entry : PlainLearned)
       → turn_by policy incoming facts ≡ Ask question

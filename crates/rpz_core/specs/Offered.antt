@@ -38,5 +38,12 @@ policy_by_offered policy (Refuses why) = policy
 
 -- the core once this was offered to the zone of this number, which is marked afterwards or isn't
 abbrev pub core_by_offered : CoreState → ℕ → Bool → Offered → CoreState × Output
-core_by_offered core number mark offered =
-    (record { policy = policy_by_offered core.policy offered; marks = with_mark core.marks number mark; sessions = core.sessions; clock = core.clock }, offered_output number offered)
+core_by_offered core number mark offered = (
+  record {
+    policy = policy_by_offered core.policy offered;
+    marks = with_mark core.marks number mark;
+    sessions = core.sessions;
+    clock = core.clock;
+  },
+  offered_output number offered,
+)

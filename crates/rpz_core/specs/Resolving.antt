@@ -21,21 +21,31 @@ abbrev pub resolution : List PlainLearned → PlainFacts → Turn → Resolved
 resolution cached facts turn = record { cached = cached; facts = facts; turn = turn }
 
 -- a question that no live entry answers is asked; what a live one says, at its age, is known, and the query goes on
-abbrev pub by_entry : (List PlainLearned → PlainFacts → Resolved) → ℕ → List PlainLearned → PlainFacts → Question → Option PlainLearned → Resolved
+abbrev pub by_entry : (List PlainLearned → PlainFacts → Resolved) → ℕ → List PlainLearned →
+    PlainFacts → Question → Option PlainLearned → Resolved
 by_entry go_on now cached facts question None = resolution cached facts (Ask question)
-by_entry go_on now cached facts question (Some entry) = go_on cached (facts ++ (question, fact_at now entry) ∷ [])
+by_entry go_on now cached facts question (Some entry) =
+    go_on cached (facts ++ (question, fact_at now entry) ∷ [])
 
 -- what a turn asks is looked up in the cache
-abbrev pub by_turn : (List PlainLearned → PlainFacts → Resolved) → ℕ → List PlainLearned → PlainFacts → Turn → Resolved
-by_turn go_on now cached facts (Ask question) = by_entry go_on now (after_look_up question cached) facts question (live_entry question now cached)
+abbrev pub by_turn : (List PlainLearned → PlainFacts → Resolved) → ℕ → List PlainLearned →
+    PlainFacts → Turn → Resolved
+by_turn go_on now cached facts (Ask question) =
+    by_entry go_on now (after_look_up question cached) facts question
+    (live_entry question now cached)
 by_turn go_on now cached facts (Said s) = resolution cached facts (Said s)
 
 -- the turns of a query under a policy at this second, with these facts, where the cache may answer so many questions
-unfoldable pub resolve_within : ℕ → ℕ → PlainPolicy → Incoming → List PlainLearned → PlainFacts → Resolved
-resolve_within zero now policy incoming cached facts = resolution cached facts (turn_by policy incoming facts)
-resolve_within (suc left) now policy incoming cached facts = by_turn (resolve_within left now policy incoming) now cached facts (turn_by policy incoming facts)
+unfoldable pub resolve_within : ℕ → ℕ → PlainPolicy → Incoming → List PlainLearned → PlainFacts →
+    Resolved
+resolve_within zero now policy incoming cached facts =
+    resolution cached facts (turn_by policy incoming facts)
+resolve_within (suc left) now policy incoming cached facts =
+    by_turn (resolve_within left now policy incoming) now cached facts
+    (turn_by policy incoming facts)
 
 -- The turns of a query under a policy at this second, with these facts: what it asks is answered by live entries of the cache,
 -- until a question has none, or it is done. There are never more facts than FACT_LIMIT.
 abbrev pub resolve : ℕ → PlainPolicy → Incoming → List PlainLearned → PlainFacts → Resolved
-resolve now policy incoming cached facts = resolve_within FACT_LIMIT now policy incoming cached facts
+resolve now policy incoming cached facts =
+    resolve_within FACT_LIMIT now policy incoming cached facts

@@ -25,14 +25,30 @@ pub record CoreState : Type 0 where
   pub clock : ℕ
 
 abbrev pub new_core : List (List (List ℕ)) → CoreState
-new_core origins = record { policy = new_snapshot origins; marks = no_marks origins; sessions = no_sessions; clock = 0 }
+new_core origins =
+    record {
+      policy = new_snapshot origins;
+      marks = no_marks origins;
+      sessions = no_sessions;
+      clock = 0;
+    }
 
 -- the state of the core in a world
 abbrev pub state_of : World → CoreState
-state_of world = record { policy = record { zones = policy_of world; accepted = count_of (length world.accepted) }; marks = world.marks; sessions = world.sessions; clock = world.clock }
+state_of world =
+    record {
+      policy = record { zones = policy_of world; accepted = count_of (length world.accepted) };
+      marks = world.marks;
+      sessions = world.sessions;
+      clock = world.clock;
+    }
 
 abbrev pub with_zone : PlainSnapshot → ℕ → PlainZone → PlainSnapshot
-with_zone policy number zone = record { zones = slice_set policy.zones (number - 1) zone; accepted = next_count policy.accepted }
+with_zone policy number zone =
+    record {
+      zones = slice_set policy.zones (number - 1) zone;
+      accepted = next_count policy.accepted;
+    }
 
 -- the policy after an offer to the zone of this number
 abbrev pub policy_by_offer : PlainSnapshot → ℕ → Offer → PlainSnapshot
@@ -45,65 +61,101 @@ core_after_offer core number zone offered =
     let marked = mark_at core.marks number in (
       record {
         policy = policy_by_offer core.policy number offered;
-        marks = with_mark core.marks number (mark_after marked (wanted_of marked zone.content) offered);
+        marks = with_mark core.marks number (mark_after marked (wanted_of marked zone.content)
+            offered);
         sessions = core.sessions;
         clock = core.clock;
       },
       offer_output number offered,
     )
 
-abbrev pub transfer_step : CoreState → ℕ → List ℕ → Option PlainZone → Result (CoreState × Output) CoreFault
+abbrev pub transfer_step : CoreState → ℕ → List ℕ → Option PlainZone →
+    Result (CoreState × Output) CoreFault
 transfer_step core number stream None = Err fault.NoZone
-transfer_step core number stream (Some zone) = Ok (core_after_offer core number zone (offer 0 (mark_at core.marks number) zone stream))
+transfer_step core number stream (Some zone) =
+    Ok (core_after_offer core number zone (offer 0 (mark_at core.marks number) zone stream))
 
 abbrev pub full_step : CoreState → ℕ → Option PlainZone → Result (CoreState × Output) CoreFault
 full_step core number None = Err fault.NoZone
-full_step core number (Some zone) = Ok (record { policy = core.policy; marks = with_mark core.marks number true; sessions = core.sessions; clock = core.clock }, output.None)
+full_step core number (Some zone) =
+    Ok (
+      record {
+        policy = core.policy;
+        marks = with_mark core.marks number true;
+        sessions = core.sessions;
+        clock = core.clock;
+      },
+      output.None,
+    )
 
-abbrev pub with_sessions : CoreState → Result (SessionsState × Output) CoreFault → Result (CoreState × Output) CoreFault
-with_sessions core (Ok next) = Ok (record { policy = core.policy; marks = core.marks; sessions = next.0; clock = core.clock }, next.1)
+abbrev pub with_sessions : CoreState → Result (SessionsState × Output) CoreFault →
+    Result (CoreState × Output) CoreFault
+with_sessions core (Ok next) =
+    Ok (
+      record { policy = core.policy; marks = core.marks; sessions = next.0; clock = core.clock },
+      next.1,
+    )
 with_sessions core (Err fault) = Err fault
 
 abbrev pub clock_step : CoreState → ℕ → CoreState × Output
-clock_step core seconds = (record { policy = core.policy; marks = core.marks; sessions = core.sessions; clock = seconds }, output.None)
+clock_step core seconds = (
+  record { policy = core.policy; marks = core.marks; sessions = core.sessions; clock = seconds },
+  output.None,
+)
 
 unfoldable pub core_step : CoreState → Event → Result (CoreState × Output) CoreFault
-core_step core (event.Transfer number stream) = transfer_step core number stream (zone_at core.policy.zones number)
+core_step core (event.Transfer number stream) =
+    transfer_step core number stream (zone_at core.policy.zones number)
 core_step core (event.Full number) = full_step core number (zone_at core.policy.zones number)
 core_step core (event.Query worker transport client message) =
-    with_sessions core (take_query core.clock core.sessions core.policy.zones worker transport client message)
-core_step core (event.Give worker message) = with_sessions core (take_answer core.clock core.sessions worker message)
-core_step core (event.Fail worker) = with_sessions core (take_failure core.clock core.sessions worker)
+    with_sessions core
+    (take_query core.clock core.sessions core.policy.zones worker transport client message)
+core_step core (event.Give worker message) =
+    with_sessions core (take_answer core.clock core.sessions worker message)
+core_step core (event.Fail worker) =
+    with_sessions core (take_failure core.clock core.sessions worker)
 core_step core (event.Clock seconds) = Ok (clock_step core seconds)
 
 -- the same with an empty cache
 abbrev pub uncached_core : CoreState → CoreState
-uncached_core core = record { policy = core.policy; marks = core.marks; sessions = uncached core.sessions; clock = core.clock }
+uncached_core core =
+    record {
+      policy = core.policy;
+      marks = core.marks;
+      sessions = uncached core.sessions;
+      clock = core.clock;
+    }
 
 -- What a step did: what the definition gives. After a fault the state is as it was. Out of memory, the cache is empty, which gives
 -- memory back, and all else is as it was.
-abbrev pub Steps : Result (CoreState × Output) CoreFault → Result Output CoreError → CoreState → CoreState → Type 0
+abbrev pub Steps : Result (CoreState × Output) CoreFault → Result Output CoreError → CoreState →
+    CoreState → Type 0
 Steps gives (Ok out) old new = gives ≡ Ok (new, out)
 Steps gives (Err (errors.Fault fault)) old new = (gives ≡ Err fault) × (new ≡ old)
 Steps gives (Err errors.OutOfMemory) old new = new ≡ uncached_core old
 
 -- The same of a part of a step, which out of memory leaves what `bare` keeps of the state.
-abbrev pub StepsBare : {S : Type 0} → (S → S) → Result (S × Output) CoreFault → Result Output CoreError → S → S → Type 0
+abbrev pub StepsBare : {S : Type 0} → (S → S) → Result (S × Output) CoreFault →
+    Result Output CoreError → S → S → Type 0
 StepsBare bare gives (Ok out) old new = gives ≡ Ok (new, out)
 StepsBare bare gives (Err (errors.Fault fault)) old new = (gives ≡ Err fault) × (new ≡ old)
 StepsBare bare gives (Err errors.OutOfMemory) old new = bare new ≡ bare old
 
 -- The same of a part that has no fault.
-abbrev pub TurnsBare : {S : Type 0} → (S → S) → S × Output → Result Output AllocError → S → S → Type 0
+abbrev pub TurnsBare : {S : Type 0} → (S → S) → S × Output → Result Output AllocError → S → S →
+    Type 0
 TurnsBare bare gives (Ok out) old new = gives ≡ (new, out)
 TurnsBare bare gives (Err e) old new = bare new ≡ bare old
 
 -- The same of a pending query that was taken out of its worker's place: an error puts it back.
-abbrev pub TurnsOrPutsBack : ℕ → PendingQuery → SessionsState × Output → Result Output AllocError → SessionsState → SessionsState → Type 0
+abbrev pub TurnsOrPutsBack : ℕ → PendingQuery → SessionsState × Output → Result Output AllocError →
+    SessionsState → SessionsState → Type 0
 TurnsOrPutsBack worker pending gives (Ok out) old new = gives ≡ (new, out)
-TurnsOrPutsBack worker pending gives (Err e) old new = uncached new ≡ uncached (with_worker old worker (Some pending) old.last_id)
+TurnsOrPutsBack worker pending gives (Err e) old new =
+    uncached new ≡ uncached (with_worker old worker (Some pending) old.last_id)
 
 -- the world after a step, seen as the state of the core
-abbrev pub as_core_outcome : Result (World × Output) CoreFault → Result (CoreState × Output) CoreFault
+abbrev pub as_core_outcome : Result (World × Output) CoreFault →
+    Result (CoreState × Output) CoreFault
 as_core_outcome (Ok next) = Ok (state_of next.0, next.1)
 as_core_outcome (Err fault) = Err fault

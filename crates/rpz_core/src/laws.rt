@@ -31,22 +31,27 @@ pub fn an_event_is_refused_by_its_state()
 
 /// An event that isn't refused outputs something, unless it is Full or Clock.
 pub fn an_event_has_one_output()
-    ensures { (world next : World) (event : Event) (out : Output) → world_step world event ≡ Ok (next, out) →
+    ensures { (world next : World) (event : Event) (out : Output) →
+        world_step world event ≡ Ok (next, out) →
         (out ≡ output.None) ↔ IsQuiet event }
 {}
 
 /// The core does in its state what the world does.
 pub fn the_core_does_what_the_world_does()
-    ensures { (world : World) (event : Event) → core_step (state_of world) event ≡ as_core_outcome (world_step world event) }
+    ensures { (world : World) (event : Event) →
+        core_step (state_of world) event ≡ as_core_outcome (world_step world event) }
 {}
 
 /// No event opens a zone, or changes the number of marks or of workers.
 pub fn an_event_keeps_the_zones_and_the_workers()
-    ensures origins { (world next : World) (event : Event) (out : Output) → world_step world event ≡ Ok (next, out) →
+    ensures origins { (world next : World) (event : Event) (out : Output) →
+        world_step world event ≡ Ok (next, out) →
         next.origins ≡ world.origins }
-    ensures marks { (world next : World) (event : Event) (out : Output) → world_step world event ≡ Ok (next, out) →
+    ensures marks { (world next : World) (event : Event) (out : Output) →
+        world_step world event ≡ Ok (next, out) →
         length next.marks ≡ length world.marks }
-    ensures workers { (world next : World) (event : Event) (out : Output) → world_step world event ≡ Ok (next, out) →
+    ensures workers { (world next : World) (event : Event) (out : Output) →
+        world_step world event ≡ Ok (next, out) →
         length next.sessions.workers ≡ length world.sessions.workers }
 {}
 
@@ -60,21 +65,27 @@ pub fn a_refused_transfer_changes_nothing_but_the_mark()
         world_step world (Transfer number stream) ≡ Ok (next, out) → other - 1 ≢ number - 1 →
         mark_at next.marks other ≡ mark_at world.marks other }
     ensures pending { (world next : World) (number : ℕ) (stream : List ℕ) (out : Output) →
-        world_step world (Transfer number stream) ≡ Ok (next, out) → next.sessions ≡ world.sessions }
+        world_step world (Transfer number stream) ≡ Ok (next, out) →
+        next.sessions ≡ world.sessions }
 {}
 
 /// The turns of a query at a second, where live entries of the cache answer what it asks: what is done in the end is what is done
 /// by what is known then. That is what was known, and behind it only what live entries say about what was asked. What is asked in
 /// the end has no live entry. The entries are the same, in whatever order.
 pub fn the_cache_answers_before_the_upstream()
-    ensures turn { (now : ℕ) (policy : PlainPolicy) (incoming : Incoming) (cached : List PlainLearned) (facts : PlainFacts) →
+    ensures turn { (now : ℕ) (policy : PlainPolicy) (incoming : Incoming)
+        (cached : List PlainLearned) (facts : PlainFacts) →
         let r = resolve now policy incoming cached facts in
         r.turn ≡ turn_by policy incoming r.facts }
-    ensures known { (now : ℕ) (policy : PlainPolicy) (incoming : Incoming) (cached : List PlainLearned) (facts : PlainFacts) →
-        AreAnswered now policy incoming cached facts (resolve now policy incoming cached facts).facts }
-    ensures asked { (now : ℕ) (policy : PlainPolicy) (incoming : Incoming) (cached : List PlainLearned) (facts : PlainFacts)
+    ensures known { (now : ℕ) (policy : PlainPolicy) (incoming : Incoming)
+        (cached : List PlainLearned) (facts : PlainFacts) →
+        AreAnswered now policy incoming cached facts
+        (resolve now policy incoming cached facts).facts }
+    ensures asked { (now : ℕ) (policy : PlainPolicy) (incoming : Incoming)
+        (cached : List PlainLearned) (facts : PlainFacts)
         (question : Question) → let r = resolve now policy incoming cached facts in
         r.turn ≡ Ask question → live_entry question now r.cached ≡ None }
-    ensures entries { (now : ℕ) (policy : PlainPolicy) (incoming : Incoming) (cached : List PlainLearned) (facts : PlainFacts) →
+    ensures entries { (now : ℕ) (policy : PlainPolicy) (incoming : Incoming)
+        (cached : List PlainLearned) (facts : PlainFacts) →
         HaveSameEntries (resolve now policy incoming cached facts).cached cached }
 {}

@@ -41,7 +41,8 @@ pub(crate) fn read_offer(
     stream: Octets,
 ) -> Result<Offered, AllocError>
     requires { zone_at policy.now.zones number ≡ Some zone.now }
-    ensures { IfOk result (λ offered. IsOffer offered policy.now number (offer 0 marked zone.now stream)) }
+    ensures { IfOk result
+        (λ offered. IsOffer offered policy.now number (offer 0 marked zone.now stream)) }
 {
     match read_stream(alloc, stream, marked, zone) {
         Ok(Taken::Current { theirs }) => Ok(Offered::Current(theirs)),
@@ -59,8 +60,10 @@ fn applied(
     transfer: Transfer,
 ) -> Result<Offered, AllocError>
     requires { IsSome (zone_at policy.now.zones number) }
-    ensures { IfOk result (λ offered. (zone : PlainZone) → zone_at policy.now.zones number ≡ Some zone →
-        IsOffer offered policy.now number (offer_by_outcome transfer (apply_outcome zone transfer))) }
+    ensures { IfOk result
+        (λ offered. (zone : PlainZone) → zone_at policy.now.zones number ≡ Some zone →
+        IsOffer offered policy.now number
+        (offer_by_outcome transfer (apply_outcome zone transfer))) }
 {
     match policy.apply(alloc, number, transfer) {
         Ok(next) => Ok(Offered::Takes(next)),

@@ -26,7 +26,13 @@ impl Model for Pending {
 
     ghost Value = { PendingQuery };
 
-    ghost view = { λ p. record { policy = p.session.policy; incoming = p.session.incoming; facts = p.session.facts; question = p.question; id = p.id } };
+    ghost view = { λ p. record {
+      policy = p.session.policy;
+      incoming = p.session.incoming;
+      facts = p.session.facts;
+      question = p.question;
+      id = p.id;
+    } };
 
     ghost invariant = { λ p. p.session.asked ≡ Some p.question };
 }

@@ -35,7 +35,12 @@ impl Model for Core {
 
     ghost Value = { CoreState };
 
-    ghost view = { λ c. record { policy = c.policy.value; marks = c.marks; sessions = c.sessions; clock = c.clock } };
+    ghost view = { λ c. record {
+      policy = c.policy.value;
+      marks = c.marks;
+      sessions = c.sessions;
+      clock = c.clock;
+    } };
 }
 
 impl Core {
@@ -131,7 +136,9 @@ impl Core {
 
     // The zone of this number is to be transferred in full next.
     fn full(&mut self, number: u32) -> Result<Output, CoreError>
-        ensures { StepsBare uncached_core (full_step self.old number (zone_at self.old.policy.zones number)) result self.old self.new }
+        ensures { StepsBare uncached_core
+            (full_step self.old number (zone_at self.old.policy.zones number)) result self.old
+            self.new }
     {
         match self.policy.zone(number) {
             None => Err(CoreError::Fault(CoreFault::NoZone)),
@@ -144,7 +151,9 @@ impl Core {
 
     // A stream comes as the transfer of the zone of this number.
     fn take_transfer(&mut self, number: u32, stream: Octets) -> Result<Output, CoreError>
-        ensures { StepsBare uncached_core (transfer_step self.old number stream (zone_at self.old.policy.zones number)) result self.old self.new }
+        ensures { StepsBare uncached_core
+            (transfer_step self.old number stream (zone_at self.old.policy.zones number)) result
+            self.old self.new }
     {
         let marked = self.marks.get(number);
         let Some(zone) = self.policy.zone(number) else {
@@ -158,7 +167,8 @@ impl Core {
 
     // What was offered to the zone of this number is done, and the zone is marked afterwards or isn't.
     fn settle(&mut self, number: u32, mark: bool, offered: Offered) -> Result<Output, AllocError>
-        ensures { TurnsBare uncached_core (core_by_offered self.old number mark offered) result self.old self.new }
+        ensures { TurnsBare uncached_core (core_by_offered self.old number mark offered) result
+            self.old self.new }
     {
         let output = offered.output(number);
         match offered {

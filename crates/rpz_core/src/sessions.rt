@@ -42,7 +42,8 @@ impl Model for Sessions {
 
     ghost Value = { SessionsState };
 
-    ghost view = { λ s. record { workers = s.workers.items; last_id = s.last_id; cached = s.cache.entries } };
+    ghost view = { λ s.
+        record { workers = s.workers.items; last_id = s.last_id; cached = s.cache.entries } };
 
     ghost invariant = { λ s. (length s.workers.items ≡ WORKERS) × (s.cache.limit ≡ MOST_ENTRIES) };
 }
@@ -92,7 +93,9 @@ impl Sessions {
         client: Addr,
         message: &[u8],
     ) -> Result<Output, CoreError>
-        ensures { StepsBare uncached (take_query now self.old policy.now.value.zones worker transport client message.now) result self.old self.new }
+        ensures { StepsBare uncached
+            (take_query now self.old policy.now.value.zones worker transport client message.now)
+            result self.old self.new }
     {
         match self.workers.get(worker as usize) {
             None => Err(CoreError::Fault(CoreFault::NoWorker)),
@@ -113,7 +116,9 @@ impl Sessions {
         worker: u32,
         mut session: Session,
     ) -> Result<Output, AllocError>
-        ensures { TurnsBare uncached (next_turn now self.old worker session.policy session.incoming session.facts) result self.old self.new }
+        ensures { TurnsBare uncached
+            (next_turn now self.old worker session.policy session.incoming session.facts) result
+            self.old self.new }
     {
         let id = self.last_id.wrapping_add(1);
         match next_message(alloc, &mut self.cache, &mut session, id, now)? {
@@ -159,7 +164,8 @@ impl Sessions {
         worker: u32,
         message: Octets,
     ) -> Result<Output, CoreError>
-        ensures { StepsBare uncached (take_answer now self.old worker message) result self.old self.new }
+        ensures { StepsBare uncached (take_answer now self.old worker message) result self.old
+            self.new }
     {
         match self.workers.get(worker as usize) {
             None => Err(CoreError::Fault(CoreFault::NoWorker)),
@@ -176,9 +182,12 @@ impl Sessions {
         worker: u32,
         message: &Octets,
     ) -> Result<Output, AllocError>
-        requires { (pending : PendingQuery) × (slice_get self.old.workers worker ≡ Some (Some pending)) }
-        ensures { (pending : PendingQuery) → slice_get self.old.workers worker ≡ Some (Some pending) →
-            TurnsBare uncached (answered_step now self.old worker message.now pending) result self.old self.new }
+        requires { (pending : PendingQuery)
+            × (slice_get self.old.workers worker ≡ Some (Some pending)) }
+        ensures { (pending : PendingQuery) →
+            slice_get self.old.workers worker ≡ Some (Some pending) →
+            TurnsBare uncached (answered_step now self.old worker message.now pending) result
+            self.old self.new }
     {
         let learned = self.learned(alloc, now, worker, message)?;
         self.resume_learned(alloc, now, worker, learned)
@@ -192,9 +201,11 @@ impl Sessions {
         worker: u32,
         message: &Octets,
     ) -> Result<Learned<ListLink>, AllocError>
-        requires { (pending : PendingQuery) × (slice_get self.now.workers worker ≡ Some (Some pending)) }
+        requires { (pending : PendingQuery)
+            × (slice_get self.now.workers worker ≡ Some (Some pending)) }
         ensures learned { IfOk result (λ entry. (pending : PendingQuery) →
-            slice_get self.now.workers worker ≡ Some (Some pending) → entry ≡ learned_by pending message.now now) }
+            slice_get self.now.workers worker ≡ Some (Some pending) →
+            entry ≡ learned_by pending message.now now) }
         ensures moment { IfOk result (λ entry. entry.moment ≡ now) }
     {
         match self.workers.get(worker as usize) {
@@ -214,9 +225,13 @@ impl Sessions {
         learned: Learned<ListLink>,
     ) -> Result<Output, AllocError>
         requires moment { learned.moment ≡ now }
-        requires pending { (pending : PendingQuery) × (slice_get self.old.workers worker ≡ Some (Some pending)) }
-        ensures { (pending : PendingQuery) → slice_get self.old.workers worker ≡ Some (Some pending) →
-            TurnsBare uncached (resumed_step now (with_learned self.old learned) worker pending (fact_at now learned)) result self.old self.new }
+        requires pending { (pending : PendingQuery)
+            × (slice_get self.old.workers worker ≡ Some (Some pending)) }
+        ensures { (pending : PendingQuery) →
+            slice_get self.old.workers worker ≡ Some (Some pending) →
+            TurnsBare uncached
+            (resumed_step now (with_learned self.old learned) worker pending (fact_at now learned))
+            result self.old self.new }
     {
         let fact = learned.fact(alloc, now)?;
         self.cache.keep(alloc, learned)?;
@@ -252,9 +267,12 @@ impl Sessions {
         worker: u32,
         fact: Fact,
     ) -> Result<Output, AllocError>
-        requires { (pending : PendingQuery) × (slice_get self.old.workers worker ≡ Some (Some pending)) }
-        ensures { (pending : PendingQuery) → slice_get self.old.workers worker ≡ Some (Some pending) →
-            TurnsBare uncached (resumed_step now self.old worker pending fact) result self.old self.new }
+        requires { (pending : PendingQuery)
+            × (slice_get self.old.workers worker ≡ Some (Some pending)) }
+        ensures { (pending : PendingQuery) →
+            slice_get self.old.workers worker ≡ Some (Some pending) →
+            TurnsBare uncached (resumed_step now self.old worker pending fact) result self.old
+            self.new }
     {
         match take_slot(&mut self.workers, worker as usize) {
             None => unreachable!(),
@@ -271,7 +289,8 @@ impl Sessions {
         pending: Pending,
         fact: Fact,
     ) -> Result<Output, AllocError>
-        ensures { TurnsOrPutsBack worker pending (resumed_step now self.old worker pending fact) result self.old self.new }
+        ensures { TurnsOrPutsBack worker pending (resumed_step now self.old worker pending fact)
+            result self.old self.new }
     {
         let id = self.last_id.wrapping_add(1);
         match pending.resume(alloc, &mut self.cache, fact, id, now) {

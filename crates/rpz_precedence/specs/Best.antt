@@ -23,7 +23,9 @@ best hits = find (is_first hits) hits
 -- The same as a relation: there is no hit, or it is this one, and none precedes it.
 abbrev pub IsBest : List PlainHit → Option PlainHit → Type 0
 IsBest hits None = hits ≡ []
-IsBest hits (Some hit) = Contains hits hit × ((other : PlainHit) → Contains hits other → precedes other.rank hit.rank ≡ false)
+IsBest hits (Some hit) =
+    Contains hits hit
+    × ((other : PlainHit) → Contains hits other → precedes other.rank hit.rank ≡ false)
 
 -- Hits whose triggers are such as rows have, and of which no two are at one rank.
 pub record AreHits (hits : List PlainHit) : Type 0 where

@@ -30,7 +30,8 @@ kind_number (NsIp prefix) = 4
 -- before wild, then by the canonical order of bases.
 abbrev pub server_order : PlainPattern → PlainPattern → Ordering
 server_order a b =
-    ordering_then (nat_cmp (length b.base) (length a.base)) (ordering_then (bool_cmp a.wild b.wild) (canonical_order a.base b.base))
+    ordering_then (nat_cmp (length b.base) (length a.base))
+    (ordering_then (bool_cmp a.wild b.wild) (canonical_order a.base b.base))
 
 -- Two triggers of one kind: the longer prefix, then the smaller address; the exact pattern, then the longer base.
 abbrev pub place_order : Trigger → Trigger → Ordering
@@ -46,7 +47,9 @@ trigger_order t u = ordering_then (nat_cmp (kind_number t) (kind_number u)) (pla
 
 -- The smaller position, then the earlier zone, then the kind of trigger, then the place among those of this kind.
 abbrev pub rank_order : PlainRank → PlainRank → Ordering
-rank_order a b = ordering_then (nat_cmp a.position b.position) (ordering_then (nat_cmp a.zone b.zone) (trigger_order a.trigger b.trigger))
+rank_order a b =
+    ordering_then (nat_cmp a.position b.position)
+    (ordering_then (nat_cmp a.zone b.zone) (trigger_order a.trigger b.trigger))
 
 -- the rule of the first rank goes before that of the second
 abbrev pub precedes : PlainRank → PlainRank → Bool

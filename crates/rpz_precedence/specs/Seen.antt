@@ -14,4 +14,9 @@ trigger_seen (NsDname pattern) = triggers.NsDname pattern.now
 trigger_seen (NsIp prefix) = triggers.NsIp prefix
 
 abbrev pub hit_seen : Hit → PlainHit
-hit_seen hit = record { rank = record { position = hit.position; zone = hit.zone; trigger = trigger_seen hit.trigger }; action = hit.action.now; soa = hit.soa.now }
+hit_seen hit =
+    record {
+      rank = record { position = hit.position; zone = hit.zone; trigger = trigger_seen hit.trigger };
+      action = hit.action.now;
+      soa = hit.soa.now;
+    }

@@ -43,17 +43,21 @@ pub fn the_best_hit_is_the_one_that_nothing_precedes()
 /// which precedes the others.
 pub fn an_index_is_in_order_of_precedence()
     ensures client_ip { (position zone : ℕ) (p q : PlainPrefix) →
-        precedes (rank_at position zone (triggers.ClientIp p)) (rank_at position zone (triggers.ClientIp q))
+        precedes (rank_at position zone (triggers.ClientIp p))
+        (rank_at position zone (triggers.ClientIp q))
         ≡ is_lt (prefix_order p q) }
     ensures qname { (position zone : ℕ) (p q : PlainPattern) →
-        precedes (rank_at position zone (triggers.Qname p)) (rank_at position zone (triggers.Qname q))
+        precedes (rank_at position zone (triggers.Qname p))
+        (rank_at position zone (triggers.Qname q))
         ≡ is_lt (pattern_order p q) }
     ensures response_ip { (position zone : ℕ) (p q : PlainPrefix) →
-        precedes (rank_at position zone (triggers.ResponseIp p)) (rank_at position zone (triggers.ResponseIp q))
+        precedes (rank_at position zone (triggers.ResponseIp p))
+        (rank_at position zone (triggers.ResponseIp q))
         ≡ is_lt (prefix_order p q) }
     ensures ns_dname { (position zone : ℕ) (p q : PlainPattern) (server : List (List ℕ)) →
         IsTrue (matches p server) → IsTrue (matches q server) → is_lt (pattern_order q p) ≡ false →
-        precedes (rank_at position zone (triggers.NsDname q)) (rank_at position zone (triggers.NsDname p))
+        precedes (rank_at position zone (triggers.NsDname q))
+        (rank_at position zone (triggers.NsDname p))
         ≡ false }
     ensures ns_ip { (position zone : ℕ) (p q : PlainPrefix) →
         precedes (rank_at position zone (triggers.NsIp p)) (rank_at position zone (triggers.NsIp q))

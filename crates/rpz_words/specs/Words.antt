@@ -38,7 +38,8 @@ serve_app = with_rule (with_rule (with_rule (with_rule (with_rule (new_app (code
 -- `load SEED RULES QUERIES WORKERS`
 abbrev pub load_app : App
 load_app = with_rule (with_rule (with_rule (with_rule (new_app (codes "load"))
-    (one_value (codes "SEED"))) (one_value (codes "RULES"))) (one_value (codes "QUERIES"))) (one_value (codes "WORKERS"))
+    (one_value (codes "SEED"))) (one_value (codes "RULES"))) (one_value (codes "QUERIES")))
+    (one_value (codes "WORKERS"))
 
 -- the command set: `rpz replay`, `rpz serve` and `rpz load`
 abbrev pub rpz_app : App
@@ -61,7 +62,13 @@ settings_of rows = do
   turns ← value_at turns_of (codes "TURNS") rows
   workers ← value_at workers_of (codes "WORKERS") rows
   zones ← zones_at (codes "ZONE@PRIMARY") rows
-  Some (record { listen = listen; upstream = upstream; turns = turns; workers = workers; zones = zones })
+  Some (record {
+    listen = listen;
+    upstream = upstream;
+    turns = turns;
+    workers = workers;
+    zones = zones;
+  })
 
 -- what the values of `load` say, if each has its form
 unfoldable pub load_settings_of : List Row → Option LoadSettings
@@ -76,8 +83,10 @@ load_settings_of rows = do
 abbrev pub named_command : Text → List Row → Option Command
 named_command name rows =
     if bytes_eq name (codes "replay") then Some Replay
-    else (if bytes_eq name (codes "serve") then (settings_of rows >>= λ settings. Some (Serve settings))
-    else (if bytes_eq name (codes "load") then (load_settings_of rows >>= λ settings. Some (Load settings))
+    else (if bytes_eq name (codes "serve")
+    then (settings_of rows >>= λ settings. Some (Serve settings))
+    else (if bytes_eq name (codes "load")
+    then (load_settings_of rows >>= λ settings. Some (Load settings))
     else None))
 
 -- what the matches of the words ask for, by the subcommand and its values

@@ -17,7 +17,8 @@ pub fn what_is_asked_for_is_within_limits()
 
 /// The port of an endpoint is never 0.
 pub fn the_port_of_an_endpoint_is_not_0()
-    ensures { (text : Text) (endpoint : Endpoint) → endpoint_of text ≡ Some endpoint → 1 ≤ endpoint.port }
+    ensures { (text : Text) (endpoint : Endpoint) → endpoint_of text ≡ Some endpoint →
+        1 ≤ endpoint.port }
 {}
 
 /// A number has no sign: neither `+` nor `-` may stand before its digits.

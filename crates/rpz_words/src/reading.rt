@@ -58,7 +58,8 @@ fn with_program_name<'a>(alloc: Global, words: &'a [String]) -> Result<Vec<&'a s
 // The matches of the words, of which the first is the program's name.
 fn matches_of<'a>(alloc: Global, words: &'a [&'a str]) -> Result<ArgMatches<'a>, WordsError>
     ensures ok { IfOk result (λ matches.
-        subcommand_rows_of matches ≡ subcommand_of rpz_app (map (λ word. word.now) words.entry.now)) }
+        subcommand_rows_of matches
+        ≡ subcommand_of rpz_app (map (λ word. word.now) words.entry.now)) }
     ensures taken { OnOk result (fault_of rpz_app (map (λ word. word.now) words.entry.now) ≡ []) }
     ensures usage { result ≡ Err WordsError.Usage →
         takes rpz_app (map (λ word. word.now) words.entry.now) ≡ true → ⊥ }
@@ -135,21 +136,24 @@ fn endpoint_at(matches: &ArgMatches, id: &str) -> Option<Endpoint>
 
 // The number from 1 to the limit that an argument has as its value.
 fn number_at(matches: &ArgMatches, id: &str, most: u32) -> Option<u32>
-    ensures { result ≡ value_at (values_form.number_to most) id.now (rows_of (found_of matches.now)) }
+    ensures { result
+        ≡ value_at (values_form.number_to most) id.now (rows_of (found_of matches.now)) }
 {
     number_to(text_at(matches, id)?.as_bytes(), most)
 }
 
 // The number of at most the limit that an argument has as its value.
 fn count_at(matches: &ArgMatches, id: &str, most: u32) -> Option<u32>
-    ensures { result ≡ value_at (values_form.count_to most) id.now (rows_of (found_of matches.now)) }
+    ensures { result
+        ≡ value_at (values_form.count_to most) id.now (rows_of (found_of matches.now)) }
 {
     count_to(text_at(matches, id)?.as_bytes(), most)
 }
 
 // The value of an argument.
 fn text_at<'a>(matches: &ArgMatches<'a>, id: &str) -> Option<&'a str>
-    ensures { option_map (λ text. text.now) result ≡ first_of id.now (rows_of (found_of matches.now)) }
+    ensures { option_map (λ text. text.now) result
+        ≡ first_of id.now (rows_of (found_of matches.now)) }
 {
     matches.get_str(id)
 }

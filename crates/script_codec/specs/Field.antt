@@ -31,7 +31,9 @@ value_of digits = fold (λ value b. value * 10 + (b - 48)) 0 digits
 
 -- 1 to `most` decimal digits, of a number below the bound
 abbrev pub is_number : ℕ → ℕ → List ℕ → Bool
-is_number most bound digits = nat_lt 0 (length digits) && nat_le (length digits) most && list_all is_ascii_digit digits && nat_lt (value_of digits) bound
+is_number most bound digits =
+    nat_lt 0 (length digits) && nat_le (length digits) most && list_all is_ascii_digit digits
+    && nat_lt (value_of digits) bound
 
 -- a number: 1 to 10 decimal digits, at most 4,294,967,295
 unfoldable pub number_of : List ℕ → Result ℕ LineFault

@@ -100,7 +100,8 @@ is_text_byte b = nat_le 32 b && nat_le b 126
 unfoldable pub unnumbered_line : List ℕ → PlainState → Result (Option Line) LineFault
 unnumbered_line text state = do
   _ ← refuse_if (not (list_all is_text_byte text)) why.Char
-  if is_skipped text then Ok None else (worded_line state (fields_of text) >>= λ says. Ok (Some says))
+  if is_skipped text then Ok None
+      else (worded_line state (fields_of text) >>= λ says. Ok (Some says))
 
 -- what the line of this number says
 unfoldable pub line_of : ℕ → List ℕ → PlainState → Result (Option Line) LineFault

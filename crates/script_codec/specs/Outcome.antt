@@ -8,7 +8,8 @@ use Rattle.script_codec.specs.declared.line_fault.UnnumberedError.TheVariants as
 
 -- what follows a result, which ends at the first refusal
 infixl 10 ◌>>=◌
-abbrev pub ◌>>=◌ : {A B : Type 0} → Result A LineFault → (A → Result B LineFault) → Result B LineFault
+abbrev pub ◌>>=◌ : {A B : Type 0} → Result A LineFault → (A → Result B LineFault) →
+    Result B LineFault
 (Ok x) >>= f = f x
 (Err why) >>= f = Err why
 

@@ -31,8 +31,10 @@ abbrev pub IsWithin : PlainState → Line → Type 0
 IsWithin state (Zone origin) = IsName origin × MayOpen state origin
 IsWithin state (Transfer zone stream) = IsZone state zone
 IsWithin state (Full zone) = IsZone state zone
-IsWithin state (Query worker transport client message) = IsWorker worker × IsMessage message × (is_pending state worker ≡ false)
-IsWithin state (Give worker message) = IsWorker worker × IsMessage message × (is_pending state worker ≡ true)
+IsWithin state (Query worker transport client message) =
+    IsWorker worker × IsMessage message × (is_pending state worker ≡ false)
+IsWithin state (Give worker message) =
+    IsWorker worker × IsMessage message × (is_pending state worker ≡ true)
 IsWithin state (Fail worker) = IsWorker worker × (is_pending state worker ≡ true)
 IsWithin state (Clock seconds) = Unit {0}
 

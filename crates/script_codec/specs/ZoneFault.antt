@@ -66,6 +66,13 @@ numbers_of (Apply fault) = apply_numbers fault
 
 -- the line of a fault of this word and these numbers
 abbrev pub refused_line : ℕ → List ℕ → Numbers → List ℕ
-refused_line zone word Without = codes "refused " ++ (decimal zone ++ (codes " " ++ (word ++ codes "\n")))
-refused_line zone word (One number) = codes "refused " ++ (decimal zone ++ (codes " " ++ (word ++ (codes " " ++ (decimal number ++ codes "\n")))))
-refused_line zone word (Two first second) = codes "refused " ++ (decimal zone ++ (codes " " ++ (word ++ (codes " " ++ (decimal first ++ (codes " " ++ (decimal second ++ codes "\n")))))))
+refused_line zone word Without =
+    codes "refused " ++ (decimal zone ++ (codes " " ++ (word ++ codes "\n")))
+refused_line zone word (One number) =
+    codes "refused "
+    ++ (decimal zone ++ (codes " " ++ (word ++ (codes " " ++ (decimal number ++ codes "\n")))))
+refused_line zone word (Two first second) =
+    codes "refused "
+    ++ (decimal zone
+    ++ (codes " "
+    ++ (word ++ (codes " " ++ (decimal first ++ (codes " " ++ (decimal second ++ codes "\n")))))))

@@ -30,7 +30,8 @@ fn space_at(text: &[u8]) -> Option<usize>
 
 // The first field, which may not be empty, and what is left behind it.
 fn first_field<'a>(left: Left<'a>) -> Result<(&'a [u8], Left<'a>), LineFault>
-    ensures { Reads (λ x. (x.0.now, fields_left x.1)) result (fields_form.first_field (fields_left left.entry)) }
+    ensures { Reads (λ x. (x.0.now, fields_left x.1)) result
+        (fields_form.first_field (fields_left left.entry)) }
 {
     let Some(text) = left else {
         return Err(LineFault::Fields);
@@ -57,7 +58,8 @@ pub fn one_field<'a>(left: Left<'a>) -> Result<&'a [u8], LineFault>
 /// The fields of a line that has two.
 #[tactic(auto, unfolding(crate::specs::Fields::two_fields))]
 pub fn two_fields<'a>(left: Left<'a>) -> Result<(&'a [u8], &'a [u8]), LineFault>
-    ensures { Reads (λ x. (x.0.now, x.1.now)) result (fields_form.two_fields (fields_left left.entry)) }
+    ensures { Reads (λ x. (x.0.now, x.1.now)) result
+        (fields_form.two_fields (fields_left left.entry)) }
 {
     let (first, others) = first_field(left)?;
     let second = one_field(others)?;
@@ -69,7 +71,8 @@ pub fn two_fields<'a>(left: Left<'a>) -> Result<(&'a [u8], &'a [u8]), LineFault>
 pub fn four_fields<'a>(
     left: Left<'a>,
 ) -> Result<(&'a [u8], &'a [u8], &'a [u8], &'a [u8]), LineFault>
-    ensures { Reads (λ x. (x.0.now, x.1.now, x.2.now, x.3.now)) result (fields_form.four_fields (fields_left left.entry)) }
+    ensures { Reads (λ x. (x.0.now, x.1.now, x.2.now, x.3.now)) result
+        (fields_form.four_fields (fields_left left.entry)) }
 {
     let (first, others) = first_field(left)?;
     let (second, others) = first_field(others)?;

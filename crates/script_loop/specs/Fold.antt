@@ -4,7 +4,8 @@ use Rattle.script_loop.specs.declared.limits.TheConstants.{LINE_BYTES, LINES}
 use Rattle.script_loop.specs.Lines.{lines_of}
 
 -- the state is the number of the next line, and the machine
-abbrev pub with_next_number : {M W : Type 0} → ℕ → Result (M × List ℕ) W → Result ((ℕ × M) × List ℕ) W
+abbrev pub with_next_number : {M W : Type 0} → ℕ → Result (M × List ℕ) W →
+    Result ((ℕ × M) × List ℕ) W
 with_next_number number (Ok next) = Ok ((number + 1, next.0), next.1)
 with_next_number number (Err why) = Err why
 

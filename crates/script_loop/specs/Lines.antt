@@ -15,7 +15,8 @@ onto_whole b (line ∷ lines) = (b ∷ line) ∷ lines
 -- the lines whose line feed is there
 abbrev pub whole_lines : List ℕ → List (List ℕ)
 whole_lines [] = []
-whole_lines (b ∷ bytes) = if b == 10 then [] ∷ whole_lines bytes else onto_whole b (whole_lines bytes)
+whole_lines (b ∷ bytes) =
+    if b == 10 then [] ∷ whole_lines bytes else onto_whole b (whole_lines bytes)
 
 -- no byte of them is a line feed
 abbrev pub NoFeed : List ℕ → Type 0

@@ -22,10 +22,12 @@ pub record TakesAll (buffer line buffer_after line_after : List ℕ) : Type 0 wh
   pub added : line_after ≡ line ++ buffer
 
 -- what was to come is the line that was read, and then the buffer and what is left of the source
-abbrev pub Reads : Result Next SourceError → Option (List ℕ) → List ℕ → List ℕ → Option (List ℕ) → Type 0
+abbrev pub Reads : Result Next SourceError → Option (List ℕ) → List ℕ → List ℕ → Option (List ℕ) →
+    Type 0
 Reads (Ok Whole) before line buffer left = before ≡ prepended (line ++ 10 ∷ buffer) left
 Reads (Ok Last) before line buffer left = (before ≡ prepended line left) × IsAtEnd left
-Reads (Ok Cut) before line buffer left = (before ≡ prepended (line ++ buffer) left) × (LINE_BYTES < length line)
+Reads (Ok Cut) before line buffer left =
+    (before ≡ prepended (line ++ buffer) left) × (LINE_BYTES < length line)
 Reads (Err ReadFault) before line buffer left = before ≡ prepended line left
 Reads (Err OutOfMemory) before line buffer left = before ≡ prepended (line ++ buffer) left
 

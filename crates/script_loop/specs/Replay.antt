@@ -12,7 +12,8 @@ use Rattle.script_loop.specs.Lines.{whole_lines}
 use Rattle.script_loop.specs.Fold.{line_outcome, run_of, transcript, verdict}
 
 -- what an answer to a line did to a machine, by what its step gives
-abbrev pub Steps : {M W : Type 0} → Result (M × List ℕ) W → Result (Unit {0}) (AnswerError W) → M → List ℕ → Type 0
+abbrev pub Steps : {M W : Type 0} → Result (M × List ℕ) W → Result (Unit {0}) (AnswerError W) → M →
+    List ℕ → Type 0
 Steps gives (Ok u) new reply = gives ≡ Ok (new, reply)
 Steps gives (Err (Refused why)) new reply = gives ≡ Err why
 Steps gives (Err NoMemory) new reply = ⊤
@@ -22,7 +23,8 @@ abbrev pub IsPrefix : List ℕ → List ℕ → Type 0
 IsPrefix first all = (rest : List ℕ) × (all ≡ first ++ rest)
 
 -- Where both are known: these bytes were read and those written, and P holds of them.
-pub record Moves (left_before left_after out_before out_after : Option (List ℕ)) (P : List ℕ → List ℕ → Type 0) : Type 0 where
+pub record Moves (left_before left_after out_before out_after : Option (List ℕ))
+    (P : List ℕ → List ℕ → Type 0) : Type 0 where
   pub read : List ℕ
   pub written : List ℕ
   pub from_source : left_before ≡ prepended read left_after
@@ -59,7 +61,8 @@ BlamesSink (BadLine line why) blame = ⊤
 
 module _ {M W : Type 0} (too_many too_long : W) (step : M → List ℕ → Result (M × List ℕ) W) where
   -- the line took this state to that, and what it outputs went out
-  pub record Takes (old : ℕ × M) (line : List ℕ) (new : ℕ × M) (before after : Option (List ℕ)) : Type 0 where
+  pub record Takes (old : ℕ × M) (line : List ℕ) (new : ℕ × M)
+      (before after : Option (List ℕ)) : Type 0 where
     pub written : List ℕ
     pub does : line_outcome too_many too_long step old line ≡ Ok (new, written)
     pub to_sink : after ≡ appended before written
@@ -73,27 +76,41 @@ module _ {M W : Type 0} (too_many too_long : W) (step : M → List ℕ → Resul
     pub to_sink : after ≡ appended before (take count written)
 
   -- what an answer to one line did
-  abbrev pub Answers : Result (Unit {0}) (Stop W) → ℕ → M → List ℕ → M → Option (List ℕ) → Option (List ℕ) → Type 0
-  Answers (Ok u) number old line new before after = Takes (number, old) line (number + 1, new) before after
-  Answers (Err (BadLine bad why)) number old line new before after = (bad ≡ number) × (line_outcome too_many too_long step (number, old) line ≡ Err why) × (after ≡ before)
-  Answers (Err WriteFault) number old line new before after = TakesPart (number, old) line before after
-  Answers (Err OutOfMemory) number old line new before after = (after ≡ before) ⊎ TakesPart (number, old) line before after
+  abbrev pub Answers : Result (Unit {0}) (Stop W) → ℕ → M → List ℕ → M → Option (List ℕ) →
+      Option (List ℕ) → Type 0
+  Answers (Ok u) number old line new before after =
+      Takes (number, old) line (number + 1, new) before after
+  Answers (Err (BadLine bad why)) number old line new before after =
+      (bad ≡ number) × (line_outcome too_many too_long step (number, old) line ≡ Err why)
+      × (after ≡ before)
+  Answers (Err WriteFault) number old line new before after =
+      TakesPart (number, old) line before after
+  Answers (Err OutOfMemory) number old line new before after =
+      (after ≡ before) ⊎ TakesPart (number, old) line before after
   Answers (Err ReadFault) number old line new before after = ⊥
 
   -- each line whose line feed was read is answered, and none is refused
   abbrev pub AnswersWholeLines : M → List ℕ → List ℕ → Type 0
-  AnswersWholeLines machine read written = (end : ℕ × M) × (run_of too_many too_long step (1, machine) (whole_lines read) ≡ (written, Ok end))
+  AnswersWholeLines machine read written =
+      (end : ℕ × M)
+      × (run_of too_many too_long step (1, machine) (whole_lines read) ≡ (written, Ok end))
 
   -- what was written begins the transcript of what was read
   abbrev pub BeginsTranscript : M → List ℕ → List ℕ → Type 0
-  BeginsTranscript machine read written = IsPrefix written (transcript too_many too_long step machine read)
+  BeginsTranscript machine read written =
+      IsPrefix written (transcript too_many too_long step machine read)
 
   -- how a replay ends
-  abbrev pub Ends : Result (Unit {0}) (Stop W) → M → M → Option (List ℕ) → Option (List ℕ) → Option (List ℕ) → Option (List ℕ) → Type 0
+  abbrev pub Ends : Result (Unit {0}) (Stop W) → M → M → Option (List ℕ) → Option (List ℕ) →
+      Option (List ℕ) → Option (List ℕ) → Type 0
   Ends (Ok u) old new left_before left_after out_before out_after =
-      IfSome left_before (λ script. (left_after ≡ Some []) × IsOkAnd (verdict too_many too_long step old script) (λ end. end.1 ≡ new) × (out_after ≡ appended out_before (transcript too_many too_long step old script)))
+      IfSome left_before (λ script. (left_after ≡ Some [])
+      × IsOkAnd (verdict too_many too_long step old script) (λ end. end.1 ≡ new)
+      × (out_after ≡ appended out_before (transcript too_many too_long step old script)))
   Ends (Err (BadLine line why)) old new left_before left_after out_before out_after =
-      IfSome left_before (λ script. (verdict too_many too_long step old script ≡ Err (line, why)) × (out_after ≡ appended out_before (transcript too_many too_long step old script)))
-  Ends (Err ReadFault) old new left_before left_after out_before out_after = Moves left_before left_after out_before out_after (AnswersWholeLines old)
+      IfSome left_before (λ script. (verdict too_many too_long step old script ≡ Err (line, why))
+      × (out_after ≡ appended out_before (transcript too_many too_long step old script)))
+  Ends (Err ReadFault) old new left_before left_after out_before out_after =
+      Moves left_before left_after out_before out_after (AnswersWholeLines old)
   Ends (Err WriteFault) old new left_before left_after out_before out_after = ⊤
   Ends (Err OutOfMemory) old new left_before left_after out_before out_after = ⊤

@@ -9,14 +9,19 @@ ghost use Rattle.script_loop.specs.Fold.{run_of, transcript, verdict};
 pub fn an_abstract_machine_answers_alike<M, N, W>()
     ensures run { (too_many too_long : W) (view : M → N) (step : M → List ℕ → Result (M × List ℕ) W)
         (abstract_step : N → List ℕ → Result (N × List ℕ) W) → StepsAlong view step abstract_step →
-        (machine : M) (lines : List (List ℕ)) → run_of too_many too_long abstract_step (1, view machine) lines
+        (machine : M) (lines : List (List ℕ)) →
+        run_of too_many too_long abstract_step (1, view machine) lines
         ≡ run_along view (run_of too_many too_long step (1, machine) lines) }
-    ensures transcript { (too_many too_long : W) (view : M → N) (step : M → List ℕ → Result (M × List ℕ) W)
+    ensures transcript { (too_many too_long : W) (view : M → N)
+        (step : M → List ℕ → Result (M × List ℕ) W)
         (abstract_step : N → List ℕ → Result (N × List ℕ) W) → StepsAlong view step abstract_step →
-        (machine : M) (script : List ℕ) → transcript too_many too_long abstract_step (view machine) script
+        (machine : M) (script : List ℕ) →
+        transcript too_many too_long abstract_step (view machine) script
         ≡ transcript too_many too_long step machine script }
-    ensures verdict { (too_many too_long : W) (view : M → N) (step : M → List ℕ → Result (M × List ℕ) W)
+    ensures verdict { (too_many too_long : W) (view : M → N)
+        (step : M → List ℕ → Result (M × List ℕ) W)
         (abstract_step : N → List ℕ → Result (N × List ℕ) W) → StepsAlong view step abstract_step →
-        (machine : M) (script : List ℕ) → verdict too_many too_long abstract_step (view machine) script
+        (machine : M) (script : List ℕ) →
+        verdict too_many too_long abstract_step (view machine) script
         ≡ verdict_along view (verdict too_many too_long step machine script) }
 {}

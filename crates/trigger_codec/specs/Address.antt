@@ -14,7 +14,9 @@ use Rattle.trigger_codec.specs.declared.inert.Inert.TheVariants.{Address, Length
 
 -- the number that 1 to `most` digits of a base write
 abbrev pub digits_read : ℕ → ℕ → (ℕ → Bool) → List ℕ → Option ℕ
-digits_read most base is_digit label = if nat_lt 0 (length label) && nat_le (length label) most && list_all is_digit label then Some (digits_value base label) else None
+digits_read most base is_digit label =
+    if nat_lt 0 (length label) && nat_le (length label) most && list_all is_digit label
+    then Some (digits_value base label) else None
 
 -- a length in bits: 1 to 3 decimal digits
 abbrev pub length_read : List ℕ → Option ℕ
@@ -54,7 +56,9 @@ bytes_read (label ∷ labels) = both (single (byte_read label)) (bytes_read labe
 -- the words of labels, where `zz` stands for so many
 abbrev pub words_read : ℕ → List (List ℕ) → Option (List ℕ)
 words_read missing [] = Some []
-words_read missing (label ∷ labels) = both (if is_zz label then Some (replicate missing 0) else single (word_read label)) (words_read missing labels)
+words_read missing (label ∷ labels) =
+    both (if is_zz label then Some (replicate missing 0) else single (word_read label))
+    (words_read missing labels)
 
 -- the number whose digits in this base stand with the lowest first, as they do in a reversed address
 abbrev pub from_lowest : ℕ → List ℕ → ℕ
@@ -72,7 +76,9 @@ v6_of (Some words) = Some (V6 (from_lowest 65536 words))
 -- An address reversed: four bytes, eight words, or up to seven words and one `zz` for the zero words that are missing.
 unfoldable pub address_read : List (List ℕ) → Option Addr
 address_read labels =
-    if list_any is_zz labels then (if count_by is_zz labels == 1 && nat_le (length labels) 8 then v6_of (words_read (9 - length labels) labels) else None)
+    if list_any is_zz labels
+    then (if count_by is_zz labels == 1 && nat_le (length labels) 8
+    then v6_of (words_read (9 - length labels) labels) else None)
     else (if length labels == 4 then v4_of (bytes_read labels)
     else (if length labels == 8 then v6_of (words_read 0 labels)
     else None))

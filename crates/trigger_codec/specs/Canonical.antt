@@ -37,13 +37,16 @@ longer_run first other = if nat_lt first.long other.long then other else first
 -- the longest run of zero words, the first where two are equal; the words stand from this place on
 abbrev pub longest_run : ℕ → List ℕ → Run
 longest_run place [] = record { place = place; long = 0 }
-longest_run place (word ∷ words) = longer_run (record { place = place; long = zeros_first (word ∷ words) }) (longest_run (place + 1) words)
+longest_run place (word ∷ words) =
+    longer_run (record { place = place; long = zeros_first (word ∷ words) })
+    (longest_run (place + 1) words)
 
 -- the words of an address, highest first, as labels, with `zz` for a run of two or more
 abbrev pub with_run : List ℕ → Run → List (List ℕ)
 with_run words run =
     if nat_lt run.long 2 then map hexadecimal words
-    else map hexadecimal (take run.place words) ++ codes "zz" ∷ map hexadecimal (drop (run.place + run.long) words)
+    else map hexadecimal (take run.place words)
+    ++ codes "zz" ∷ map hexadecimal (drop (run.place + run.long) words)
 
 abbrev pub word_labels : List ℕ → List (List ℕ)
 word_labels words = with_run words (longest_run 0 words)

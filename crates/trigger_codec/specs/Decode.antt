@@ -19,7 +19,9 @@ labels_before owner origin = take (length owner - length origin) owner
 -- the pattern of labels: the names below the rest where the first label is `*`, else the one name
 abbrev pub pattern_read : List (List ℕ) → PlainPattern
 pattern_read [] = record { base = []; wild = false }
-pattern_read (first ∷ others) = if is_asterisk first then record { base = lowered others; wild = true } else record { base = lowered (first ∷ others); wild = false }
+pattern_read (first ∷ others) =
+    if is_asterisk first then record { base = lowered others; wild = true }
+    else record { base = lowered (first ∷ others); wild = false }
 
 abbrev pub by_prefix : (PlainPrefix → Trigger) → Result PlainPrefix Inert → Result Trigger Inert
 by_prefix kind (Ok prefix) = Ok (kind prefix)
@@ -30,7 +32,8 @@ abbrev pub by_marker : Marker → List (List ℕ) → List (List ℕ) → Result
 by_marker client_ip rest labels = by_prefix ClientIp (prefix_read rest)
 by_marker response_ip rest labels = by_prefix ResponseIp (prefix_read rest)
 by_marker nsip rest labels = by_prefix NsIp (prefix_read rest)
-by_marker nsdname rest labels = if length rest == 0 then Err UnknownMarker else Ok (NsDname (pattern_read rest))
+by_marker nsdname rest labels =
+    if length rest == 0 then Err UnknownMarker else Ok (NsDname (pattern_read rest))
 by_marker unknown rest labels = Err UnknownMarker
 by_marker plain rest labels = Ok (Qname (pattern_read labels))
 
@@ -44,7 +47,8 @@ labels_trigger labels = by_last (slice_get labels (length labels - 1)) labels
 
 -- The trigger that an owner names in the zone of this origin, or why it names none.
 unfoldable pub trigger : List (List ℕ) → List (List ℕ) → Result Trigger Inert
-trigger owner origin = if ends_with owner origin then labels_trigger (labels_before owner origin) else Err OutOfZone
+trigger owner origin =
+    if ends_with owner origin then labels_trigger (labels_before owner origin) else Err OutOfZone
 
 -- What a function returned is this, unless memory ran out.
 abbrev pub Fails : {X : Type 0} → TriggerError → Result X Inert → Type 0

@@ -7,13 +7,15 @@ use Rattle.trigger_codec.specs.Canonical.{Run, hexadecimal}
 pub record IsRun (words : List ℕ) (run : Run) : Type 0 where
   pub some : 1 ≤ run.long
   pub within : run.place + run.long ≤ length words
-  pub zeros : (place : ℕ) → run.place ≤ place → place < run.place + run.long → slice_index words place ≡ 0
+  pub zeros : (place : ℕ) → run.place ≤ place → place < run.place + run.long →
+      slice_index words place ≡ 0
   pub before : (place : ℕ) → place + 1 ≡ run.place → slice_index words place ≢ 0
   pub behind : run.place + run.long < length words → slice_index words (run.place + run.long) ≢ 0
 
 -- the run is longer than the other, or as long and stands no later
 abbrev pub IsChosenOver : Run → Run → Type 0
-IsChosenOver run other = (other.long < run.long) ⊎ ((other.long ≡ run.long) × (run.place ≤ other.place))
+IsChosenOver run other =
+    (other.long < run.long) ⊎ ((other.long ≡ run.long) × (run.place ≤ other.place))
 
 -- the longest run, and the first of those that are as long
 pub record IsFirstLongest (words : List ℕ) (run : Run) : Type 0 where
@@ -25,7 +27,9 @@ pub record HasZz (words : List ℕ) (labels : List (List ℕ)) : Type 0 where
   pub run : Run
   pub is_longest : IsFirstLongest words run
   pub two : 2 ≤ run.long
-  pub are_labels : labels ≡ map hexadecimal (take run.place words) ++ codes "zz" ∷ map hexadecimal (drop (run.place + run.long) words)
+  pub are_labels : labels
+      ≡ map hexadecimal (take run.place words)
+      ++ codes "zz" ∷ map hexadecimal (drop (run.place + run.long) words)
 
 -- these are the labels of the words where no run has two words: each is written
 pub record HasNoZz (words : List ℕ) (labels : List (List ℕ)) : Type 0 where

@@ -5,7 +5,8 @@ use Rattle.trigger_codec.specs.Address.{is_zz, byte_read}
 -- how many words the labels write, where `zz` stands for so many
 abbrev pub word_count : ℕ → List (List ℕ) → ℕ
 word_count missing [] = 0
-word_count missing (label ∷ labels) = (if is_zz label then missing else 1) + word_count missing labels
+word_count missing (label ∷ labels) =
+    (if is_zz label then missing else 1) + word_count missing labels
 
 -- the byte that the first of the labels writes
 abbrev pub first_byte : List (List ℕ) → Option ℕ

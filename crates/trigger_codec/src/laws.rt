@@ -20,5 +20,6 @@ pub fn a_trigger_is_read_back()
 /// The words of an address of IP version 6, the highest first, are each written, but for the longest run of
 /// two or more zero words, which `zz` stands for: the first of those that are equally long.
 pub fn zz_stands_for_the_first_longest_run()
-    ensures { (words : List ℕ) → HasZz words (word_labels words) ⊎ HasNoZz words (word_labels words) }
+    ensures { (words : List ℕ) →
+        HasZz words (word_labels words) ⊎ HasNoZz words (word_labels words) }
 {}

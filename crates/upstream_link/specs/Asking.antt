@@ -12,4 +12,5 @@ IfLearned Failed P = ⊤
 
 -- this question was asked at this second in a message of this ID
 abbrev pub AsksAt : ℕ → Question → ℕ → PlainLearned → Type 0
-AsksAt id question now learned = (learned.question ≡ question) × (learned.id ≡ id) × (learned.moment ≡ now)
+AsksAt id question now learned =
+    (learned.question ≡ question) × (learned.id ≡ id) × (learned.moment ≡ now)

@@ -43,18 +43,22 @@ target_in names None = None
 target_in names (Some r) = if_new names (name_in r)
 
 -- the name behind the last one of a chain of these names: the target of its alias, unless the chain has met it
-abbrev pub next_name : List PlainRecord → List (List (List ℕ)) → List (List ℕ) → Option (List (List ℕ))
+abbrev pub next_name : List PlainRecord → List (List (List ℕ)) → List (List ℕ) →
+    Option (List (List ℕ))
 next_name records names last = target_in names (alias_of records last)
 
-abbrev pub chain_with : (List (List (List ℕ)) → List (List ℕ) → Option (List (List (List ℕ)))) → List (List (List ℕ)) → Option (List (List ℕ)) → Option (List (List (List ℕ)))
+abbrev pub chain_with : (List (List (List ℕ)) → List (List ℕ) → Option (List (List (List ℕ)))) →
+    List (List (List ℕ)) → Option (List (List ℕ)) → Option (List (List (List ℕ)))
 chain_with go names None = Some names
 chain_with go names (Some next) = go (names ++ next ∷ []) next
 
 -- the chain that goes on behind these names, of which this is the last, by at most so many names less one; None where it
 -- would be longer
-unfoldable pub chain_from : ℕ → List PlainRecord → List (List (List ℕ)) → List (List ℕ) → Option (List (List (List ℕ)))
+unfoldable pub chain_from : ℕ → List PlainRecord → List (List (List ℕ)) → List (List ℕ) →
+    Option (List (List (List ℕ)))
 chain_from zero records names last = None
-chain_from (suc left) records names last = chain_with (chain_from left records) names (next_name records names last)
+chain_from (suc left) records names last =
+    chain_with (chain_from left records) names (next_name records names last)
 
 -- the alias itself is asked for: the type is CNAME or ANY
 abbrev pub asks_alias : ℕ → Bool

@@ -32,7 +32,8 @@ is_listed lists name = list_any (λ list. has_name list name) lists
 -- the addresses that a fact tells of its name, if the name is listed
 abbrev pub addresses_by : List (List (List (List ℕ))) → PlainKnown → List Addr
 addresses_by lists known =
-    if asks_addresses known.question && is_listed lists known.question.name then addresses_in known.question.name (records_of (Some known.fact)) else []
+    if asks_addresses known.question && is_listed lists known.question.name
+    then addresses_in known.question.name (records_of (Some known.fact)) else []
 
 -- there is an element
 abbrev pub has_some : {X : Type 0} → List X → Bool

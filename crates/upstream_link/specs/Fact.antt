@@ -22,7 +22,9 @@ asks question (Some other) = same_question other question
 
 -- a whole response to the question in a message of this ID (RFC 1035, section 4.1.1)
 abbrev pub answers_to : ℕ → Question → Message → Bool
-answers_to id question m = m.header.id == id && (m.header.qr && (m.header.opcode == 0 && (not m.header.tc && asks question m.question)))
+answers_to id question m =
+    m.header.id == id
+    && (m.header.qr && (m.header.opcode == 0 && (not m.header.tc && asks question m.question)))
 
 -- a SOA record of class IN
 abbrev pub is_soa : PlainRecord → Bool
@@ -31,7 +33,13 @@ is_soa r = r.rtype == 6 && r.class == 1
 -- of the answers those of class IN, and of the authority section the first SOA record of class IN (RFC 2308, section 2); no
 -- time has passed
 abbrev pub answer_in : Message → PlainAnswer
-answer_in m = record { rcode = m.header.rcode; answers = filter (λ r. r.class == 1) m.answer; soa = find is_soa m.authority; age = 0 }
+answer_in m =
+    record {
+      rcode = m.header.rcode;
+      answers = filter (λ r. r.class == 1) m.answer;
+      soa = find is_soa m.authority;
+      age = 0;
+    }
 
 -- the rcode says that there is an answer, or that the name doesn't exist
 abbrev pub is_answer_rcode : ℕ → Bool
@@ -45,10 +53,12 @@ is_failed (Broken (Rcode rcode)) = false
 is_failed (Answer answer) = false
 
 abbrev pub fact_in : Message → Fact
-fact_in m = if is_answer_rcode m.header.rcode then Answer (answer_in m) else Broken (Rcode m.header.rcode)
+fact_in m =
+    if is_answer_rcode m.header.rcode then Answer (answer_in m) else Broken (Rcode m.header.rcode)
 
 abbrev pub fact_by : List ℕ → ℕ → Question → Result Message MessageFault → Fact
-fact_by octets id question (Ok m) = if answers_to id question m then fact_in m else Broken (Unusable octets)
+fact_by octets id question (Ok m) =
+    if answers_to id question m then fact_in m else Broken (Unusable octets)
 fact_by octets id question (Err fault) = Broken (Unusable octets)
 
 -- What the bytes say that came for a question in a message of this ID.

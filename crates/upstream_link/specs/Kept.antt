@@ -12,7 +12,8 @@ pub record PlainAnswer : Type 0 where
   pub age : ℕ
 
 abbrev pub plain_answer : ℕ → List PlainRecord → Option PlainRecord → ℕ → PlainAnswer
-plain_answer rcode answers soa age = record { rcode = rcode; answers = answers; soa = soa; age = age }
+plain_answer rcode answers soa age =
+    record { rcode = rcode; answers = answers; soa = soa; age = age }
 
 -- the same answer at another age
 abbrev pub at_age : ℕ → PlainAnswer → PlainAnswer

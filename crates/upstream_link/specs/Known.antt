@@ -20,7 +20,8 @@ pub record AreInOrder (names : List (List (List ℕ))) : Type 0 where
 
 -- the servers that a fact names: an answer to an NS question, in the records of the name that was asked for
 abbrev pub named_servers : Question → Fact → List (List (List ℕ))
-named_servers question fact = if question.qtype == 2 then servers_in question.name (records_of (Some fact)) else []
+named_servers question fact =
+    if question.qtype == 2 then servers_in question.name (records_of (Some fact)) else []
 
 -- a fact beside its question, with its servers
 pub record PlainKnown : Type 0 where
@@ -34,6 +35,7 @@ pub record HasServers (known : PlainKnown) : Type 0 where
   pub same : HaveSameMembers known.servers (named_servers known.question known.fact)
 
 -- lists of servers, each in order, that together have these names
-pub record AreListsOf (lists : List (List (List (List ℕ)))) (names : List (List (List ℕ))) : Type 0 where
+pub record AreListsOf (lists : List (List (List (List ℕ)))) (names : List (List (List ℕ))) : Type
+    0 where
   pub order : All AreInOrder lists
   pub same : HaveSameMembers (flat_map (λ list. list) lists) names

@@ -7,7 +7,8 @@ use Rattle.upstream_link.specs.Chain.{is_alias}
 use Rattle.upstream_link.specs.Kept.{PlainAnswer}
 
 -- how long it may be kept, how its answers are written, and whether some answer is a CNAME record
-pub record IsPrepared (answer : PlainAnswer) (life : ℕ) (written : PlainWritten) (alias : Bool) : Type 0 where
+pub record IsPrepared (answer : PlainAnswer) (life : ℕ) (written : PlainWritten)
+    (alias : Bool) : Type 0 where
   pub has_life : HasLife answer life
   pub is_written : IsWritten written answer.answers
   pub is_alias : alias ≡ list_any is_alias answer.answers

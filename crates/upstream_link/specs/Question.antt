@@ -19,7 +19,11 @@ main_question query = question_of query.question.name query.question.qtype
 abbrev pub question_message : ℕ → Question → Message
 question_message id question = record {
   header = request_header id true;
-  question = Some (record { name = lowered question.name; qtype = question.qtype; qclass = question.qclass });
+  question = Some (record {
+    name = lowered question.name;
+    qtype = question.qtype;
+    qclass = question.qclass;
+  });
   answer = [];
   authority = [];
   additional = [];

@@ -22,7 +22,8 @@ ancestors name = reverse (longest_first name)
 
 -- the name of a server in lower case, if the record is an NS record of this owner
 abbrev pub server_in : List (List ℕ) → PlainRecord → Option (List (List ℕ))
-server_in owner r = if r.rtype == 2 && same_name r.owner owner then option_map lowered (name_in r) else None
+server_in owner r =
+    if r.rtype == 2 && same_name r.owner owner then option_map lowered (name_in r) else None
 
 -- the names of servers in the NS records of this owner
 abbrev pub servers_in : List (List ℕ) → List PlainRecord → List (List (List ℕ))
@@ -50,4 +51,5 @@ addresses_in owner records = flat_map (λ r. option_to_list (address_of owner r)
 
 -- The addresses of servers, as far as they are known.
 abbrev pub addresses_of : PlainFacts → List (List (List ℕ)) → List Addr
-addresses_of facts names = flat_map (λ server. addresses_in server (address_records facts server)) names
+addresses_of facts names =
+    flat_map (λ server. addresses_in server (address_records facts server)) names

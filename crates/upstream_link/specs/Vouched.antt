@@ -14,7 +14,8 @@ pub record PlainLearned : Type 0 where
   pub moment : ℕ
 
 abbrev pub plain_learned : Question → ℕ → List ℕ → ℕ → PlainLearned
-plain_learned question id bytes moment = record { question = question; id = id; bytes = bytes; moment = moment }
+plain_learned question id bytes moment =
+    record { question = question; id = id; bytes = bytes; moment = moment }
 
 -- what the bytes say
 abbrev pub entry_fact : PlainLearned → Fact
@@ -37,14 +38,16 @@ abbrev pub Tells : ℕ → PlainLearned → Type 0
 Tells now entry = (entry.moment ≡ now) ⊎ (live now entry ≡ true)
 
 -- A link of the kind gave this, and it says the fact.
-pub record IsGiven (gave : List ℕ → List ℕ → ℕ → Type 0) (entry : PlainLearned) (fact : Fact) : Type 0 where
+pub record IsGiven (gave : List ℕ → List ℕ → ℕ → Type 0) (entry : PlainLearned) (fact : Fact) : Type
+    0 where
   pub in_range : entry.id < 2 ^ 16
   pub given : gave (question_bytes entry.id entry.question) entry.bytes entry.moment
   pub said : fact ≡ entry_fact entry
 
 -- A link of the kind gave some bytes for the question: these say the fact, at its age, and its life isn't over, unless they
 -- have come in this second.
-pub record Vouched (gave : List ℕ → List ℕ → ℕ → Type 0) (question : Question) (fact : Fact) (now : ℕ) : Type 0 where
+pub record Vouched (gave : List ℕ → List ℕ → ℕ → Type 0) (question : Question) (fact : Fact)
+    (now : ℕ) : Type 0 where
   pub id : ℕ
   pub bytes : List ℕ
   pub moment : ℕ

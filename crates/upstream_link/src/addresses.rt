@@ -52,8 +52,9 @@ pub(crate) fn push_known(
     lists: &[&Names],
     all: &mut Vec<Addr>,
 ) -> Result<(), AllocError>
-    ensures { OnOk result (All AreInOrder (map (λ list. list.now) lists.now)
-        → all.new.items ≡ all.old.items ++ form.addresses_by (map (λ list. list.now) lists.now) known.now) }
+    ensures { OnOk result (All AreInOrder (map (λ list. list.now) lists.now) →
+        all.new.items ≡ all.old.items
+        ++ form.addresses_by (map (λ list. list.now) lists.now) known.now) }
 {
     let question = known.question();
     if !asks_addresses(question) || !is_listed(lists, &question.name) {

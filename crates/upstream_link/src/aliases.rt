@@ -108,7 +108,8 @@ fn chain_in(
     question: &Question,
     answer: &Answer,
 ) -> Result<Option<Names>, AllocError>
-    ensures exact { IfOk result (λ names. names ≡ form.chain question.now (answers.Answer answer.now)) }
+    ensures exact { IfOk result
+        (λ names. names ≡ form.chain question.now (answers.Answer answer.now)) }
     ensures few { IfOk result (λ names. IfSome names (λ list. length list ≤ CHAIN_LIMIT)) }
 {
     let names = alone(alloc, &question.name)?;
@@ -142,7 +143,8 @@ fn follow(
     name: &Name,
 ) -> Result<Option<Names>, AllocError>
     requires { first ≡ name.now ∷ [] }
-    ensures exact { IfOk result (λ names. names ≡ chain_from CHAIN_LIMIT records.now first name.now) }
+    ensures exact { IfOk result
+        (λ names. names ≡ chain_from CHAIN_LIMIT records.now first name.now) }
     ensures few { IfOk result (λ names. IfSome names (λ list. length list ≤ CHAIN_LIMIT)) }
 {
     let mut names = first;

@@ -47,7 +47,8 @@ impl Model for Answer {
 
     ghost use Rattle.upstream_link.specs.Prepared.{IsPrepared};
 
-    ghost view = { λ a. plain_answer a.kept.value.rcode a.kept.value.answers a.kept.value.soa a.age };
+    ghost view = { λ a. plain_answer a.kept.value.rcode a.kept.value.answers a.kept.value.soa
+        a.age };
 
     ghost invariant = { λ a.
         IsPrepared (plain_answer a.kept.value.rcode a.kept.value.answers a.kept.value.soa a.age)

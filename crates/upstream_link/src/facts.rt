@@ -154,7 +154,8 @@ impl Facts {
     // looked for at this place and the next one first, where that of the next of several names mostly stands.
     pub(crate) fn servers_at(&self, near: usize, owner: &Name) -> Option<&Names>
         ensures { MatchOption result (servers_at self.now owner.now ≡ [])
-            (λ names. AreInOrder names.now × HaveSameMembers names.now (servers_at self.now owner.now)) }
+            (λ names. AreInOrder names.now
+            × HaveSameMembers names.now (servers_at self.now owner.now)) }
     {
         match find_near(&self.facts, near, owner, rtype::NS) {
             Some(known) => Some(known.servers()),
@@ -183,7 +184,8 @@ fn find_known<'k>(all: &'k [Known], name: &Name, qtype: u16) -> Option<&'k Known
 
 // Whether something is kept of the question of the name and type in class IN.
 fn is_among(all: &[Known], name: &Name, qtype: u16) -> bool
-    ensures { result ≡ list_any (λ k. form.same_question k.question (question_of name.now qtype)) all.now }
+    ensures { result
+        ≡ list_any (λ k. form.same_question k.question (question_of name.now qtype)) all.now }
 {
     all.iter()
         .any(|known| is_about(known.question(), name, qtype))
@@ -213,7 +215,8 @@ fn find_near<'k>(all: &'k [Known], near: usize, name: &Name, qtype: u16) -> Opti
 // What is kept at a place, if it is about the question of the name and type in class IN.
 fn found_at<'k>(all: &'k [Known], place: usize, name: &Name, qtype: u16) -> Option<&'k Known>
     requires { AreFacts (entries_of all.now) }
-    ensures { IfSome result (λ known. Some known.now ≡ known_about all.now (question_of name.now qtype)) }
+    ensures { IfSome result
+        (λ known. Some known.now ≡ known_about all.now (question_of name.now qtype)) }
 {
     if place >= all.len() {
         return None;

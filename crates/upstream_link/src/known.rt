@@ -29,7 +29,8 @@ impl Model for Known {
 
     ghost view = { λ k. record { question = k.question; fact = k.fact; servers = k.servers } };
 
-    ghost invariant = { λ k. HasServers (record { question = k.question; fact = k.fact; servers = k.servers }) };
+    ghost invariant = { λ k. HasServers
+        (record { question = k.question; fact = k.fact; servers = k.servers }) };
 }
 
 impl Known {
@@ -98,7 +99,8 @@ pub(crate) fn servers_in_order(
     fact: &Fact,
 ) -> Result<Names, AllocError>
     ensures order { IfOk result AreInOrder }
-    ensures same { IfOk result (λ names. HaveSameMembers names (named_servers question.now fact.now)) }
+    ensures same { IfOk result
+        (λ names. HaveSameMembers names (named_servers question.now fact.now)) }
 {
     let mut names = servers_named(alloc, question, fact)?;
     names.sort();

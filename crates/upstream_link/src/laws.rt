@@ -16,9 +16,11 @@ ghost use Rattle.std.specs.List.{list_all, list_any};
 /// What is known stays known, and stays the same, whatever facts come behind. So do the servers of a name once the NS
 /// questions of the name and of those above it are answered.
 pub fn what_is_known_stays_known()
-    ensures known { (facts more : PlainFacts) (question : Question) (fact : Fact) → Extends facts more →
+    ensures known { (facts more : PlainFacts) (question : Question) (fact : Fact) →
+        Extends facts more →
         fact_about facts question ≡ Some fact → fact_about more question ≡ Some fact }
-    ensures records { (facts more : PlainFacts) (name : List (List ℕ)) (qtype : ℕ) → Extends facts more →
+    ensures records { (facts more : PlainFacts) (name : List (List ℕ)) (qtype : ℕ) →
+        Extends facts more →
         IsTrue (is_known facts (question_of name qtype)) →
         records_about more name qtype ≡ records_about facts name qtype }
     ensures servers { (facts more : PlainFacts) (name : List (List ℕ)) → Extends facts more →
@@ -34,6 +36,7 @@ pub fn bytes_say_that_something_came()
 
 /// An answer without a CNAME record shows no chain but the name that was asked for.
 pub fn an_answer_without_aliases_shows_no_chain()
-    ensures { (question : Question) (answer : PlainAnswer) → list_any is_alias answer.answers ≡ false →
+    ensures { (question : Question) (answer : PlainAnswer) →
+        list_any is_alias answer.answers ≡ false →
         chain question (Answer answer) ≡ Some (question.name ∷ []) }
 {}

@@ -36,7 +36,8 @@ impl<L: Link> Model for Learned<L> {
 
     ghost Value = { PlainLearned };
 
-    ghost view = { λ l. plain_learned l.held.value.question l.held.value.id l.held.value.bytes l.held.value.moment };
+    ghost view = { λ l. plain_learned l.held.value.question l.held.value.id l.held.value.bytes
+        l.held.value.moment };
 
     ghost invariant = { λ l. IsGiven L.gave
         (plain_learned l.held.value.question l.held.value.id l.held.value.bytes l.held.value.moment)

@@ -18,7 +18,8 @@ pub(crate) fn life_by(
     soa: Option<&Record>,
 ) -> Result<u32, AllocError>
     requires { IfSome (option_copied soa) IsSoa }
-    ensures { IfOk result (λ life. life ≡ form.life_by rcode answers.now (option_copied soa.entry)) }
+    ensures { IfOk result
+        (λ life. life ≡ form.life_by rcode answers.now (option_copied soa.entry)) }
 {
     match soa {
         Some(rr) => Ok(least_ttl(soa_limit(alloc, rr)?, answers)),

@@ -60,7 +60,8 @@ fn push_server(
     rr: &Record,
     names: &mut Names,
 ) -> Result<(), AllocError>
-    ensures { OnOk result (names.new ≡ names.old ++ option_to_list (form.server_in owner.now rr.now)) }
+    ensures { OnOk result
+        (names.new ≡ names.old ++ option_to_list (form.server_in owner.now rr.now)) }
 {
     if let Some(name) = server_in(alloc, owner, rr)? {
         names.push(name)?;

@@ -16,7 +16,8 @@ abbrev pub holds_within : PlainPrefix → List (List ℕ) → PlainRecord → Bo
 holds_within prefix owner r = same_name r.owner owner && is_held prefix (address_in r)
 
 -- The entry that comes first of those whose prefix contains some address that the records hold for the name.
-abbrev pub first_about : {V : Type 0} → List (List ℕ) → List PlainRecord → List (PlainPrefix × V) → Option (PlainPrefix × V)
+abbrev pub first_about : {V : Type 0} → List (List ℕ) → List PlainRecord → List (PlainPrefix × V) →
+    Option (PlainPrefix × V)
 first_about owner records entries = find (λ e. list_any (holds_within e.0 owner) records) entries
 
 -- there is an entry

@@ -15,7 +15,9 @@ use Rattle.zone_index.specs.declared.zone.Zone.TheInside.{Inside}
 -- the SOA record of a loaded zone, and its rules
 abbrev pub index_of : List (List ℕ) → Option Content → Option Index
 index_of origin None = None
-index_of origin (Some content) = Some (record { soa_record = soa_record origin content.soa; rules = rules_of origin content.rows })
+index_of origin (Some content) =
+    Some
+    (record { soa_record = soa_record origin content.soa; rules = rules_of origin content.rows })
 
 -- what the live rows of a trigger do in a zone; nothing where nothing is loaded
 abbrev pub content_rule : List (List ℕ) → Option Content → Trigger → Option Action

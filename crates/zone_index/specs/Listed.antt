@@ -45,7 +45,8 @@ abbrev pub zone_rules : List (List ℕ) → List PlainRow → List (Trigger × A
 zone_rules origin rows = flat_map (λ row. row_rule origin rows (live_trigger origin row)) rows
 
 -- the entries of a map of one kind, with their triggers
-abbrev pub with_triggers : {K : Type 0} → (K → Trigger) → List (K × Action) → List (Trigger × Action)
+abbrev pub with_triggers : {K : Type 0} → (K → Trigger) → List (K × Action) →
+    List (Trigger × Action)
 with_triggers kind entries = map (λ e. (kind e.0, e.1)) entries
 
 -- the rules of an index as one list, kind by kind

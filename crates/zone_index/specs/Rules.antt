@@ -21,25 +21,34 @@ some_trigger (Err inert) = None
 
 -- the trigger of a row that is live: its type makes rules, and its owner names a trigger
 abbrev pub live_trigger : List (List ℕ) → PlainRow → Option Trigger
-live_trigger origin row = if is_live_type row.rtype then some_trigger (trigger row.owner origin) else None
+live_trigger origin row =
+    if is_live_type row.rtype then some_trigger (trigger row.owner origin) else None
 
 abbrev pub rows_in : Option (List PlainRow) → List PlainRow
 rows_in None = []
 rows_in (Some rows) = rows
 
 -- the row behind those of its trigger
-abbrev pub with_row : {K : Type 0} → (K → K → Ordering) → List (K × List PlainRow) → K → PlainRow → List (K × List PlainRow)
-with_row order groups key row = insert_entry order (remove_entry (is_at (order key)) groups) key (rows_in (lookup (is_at (order key)) groups) ++ row ∷ [])
+abbrev pub with_row : {K : Type 0} → (K → K → Ordering) → List (K × List PlainRow) → K → PlainRow →
+    List (K × List PlainRow)
+with_row order groups key row =
+    insert_entry order (remove_entry (is_at (order key)) groups) key
+    (rows_in (lookup (is_at (order key)) groups) ++ row ∷ [])
 
 abbrev pub no_groups : PlainGroups
 no_groups = record { client_ip = []; qname = []; response_ip = []; nsdname = []; nsip = [] }
 
 abbrev pub put_row : PlainGroups → PlainRow → Trigger → PlainGroups
-put_row groups row (ClientIp prefix) = record groups { client_ip = with_row prefix_order groups.client_ip prefix row }
-put_row groups row (Qname pattern) = record groups { qname = with_row pattern_order groups.qname pattern row }
-put_row groups row (ResponseIp prefix) = record groups { response_ip = with_row prefix_order groups.response_ip prefix row }
-put_row groups row (NsDname pattern) = record groups { nsdname = with_row pattern_order groups.nsdname pattern row }
-put_row groups row (NsIp prefix) = record groups { nsip = with_row prefix_order groups.nsip prefix row }
+put_row groups row (ClientIp prefix) =
+    record groups { client_ip = with_row prefix_order groups.client_ip prefix row }
+put_row groups row (Qname pattern) =
+    record groups { qname = with_row pattern_order groups.qname pattern row }
+put_row groups row (ResponseIp prefix) =
+    record groups { response_ip = with_row prefix_order groups.response_ip prefix row }
+put_row groups row (NsDname pattern) =
+    record groups { nsdname = with_row pattern_order groups.nsdname pattern row }
+put_row groups row (NsIp prefix) =
+    record groups { nsip = with_row prefix_order groups.nsip prefix row }
 
 abbrev pub put_live : PlainGroups → PlainRow → Option Trigger → PlainGroups
 put_live groups row None = groups
@@ -47,18 +56,22 @@ put_live groups row (Some t) = put_row groups row t
 
 -- the live rows by trigger, those of one trigger in the order of the zone
 abbrev pub groups_of : List (List ℕ) → List PlainRow → PlainGroups
-groups_of origin rows = fold (λ groups row. put_live groups row (live_trigger origin row)) no_groups rows
+groups_of origin rows =
+    fold (λ groups row. put_live groups row (live_trigger origin row)) no_groups rows
 
-abbrev pub put_rule : {K : Type 0} → (K → K → Ordering) → List (K × Action) → K → Option Action → List (K × Action)
+abbrev pub put_rule : {K : Type 0} → (K → K → Ordering) → List (K × Action) → K → Option Action →
+    List (K × Action)
 put_rule order rules key None = rules
 put_rule order rules key (Some action) = insert_entry order rules key action
 
 -- the rule of a group, if it does something; `own` gives the pattern of its own of a rule about names that are asked for
-abbrev pub with_rule : {K : Type 0} → (K → K → Ordering) → (K → Option PlainPattern) → List (K × Action) → K × List PlainRow → List (K × Action)
+abbrev pub with_rule : {K : Type 0} → (K → K → Ordering) → (K → Option PlainPattern) →
+    List (K × Action) → K × List PlainRow → List (K × Action)
 with_rule order own rules group = put_rule order rules group.0 (action_for (own group.0) group.1)
 
 -- the rules of the groups of one kind
-abbrev pub rules_by : {K : Type 0} → (K → K → Ordering) → (K → Option PlainPattern) → List (K × List PlainRow) → List (K × Action)
+abbrev pub rules_by : {K : Type 0} → (K → K → Ordering) → (K → Option PlainPattern) →
+    List (K × List PlainRow) → List (K × Action)
 rules_by order own groups = fold (with_rule order own) [] groups
 
 -- the pattern, if it is the rule's own

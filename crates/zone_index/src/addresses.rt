@@ -40,7 +40,8 @@ pub(crate) fn first_prefix(
 // name.
 #[tactic(auto, using(crate::proofs::FirstRule::by_address))]
 fn about_record(rules: &PrefixMap<Action>, owner: &Name, rr: &Record) -> Option<Prefix>
-    ensures { result ≡ option_map (λ e. e.0) (find (λ e. holds_within e.0 owner.now rr.now) rules.now) }
+    ensures { result
+        ≡ option_map (λ e. e.0) (find (λ e. holds_within e.0 owner.now rr.now) rules.now) }
 {
     if !rr.owner().is_same(owner) {
         return None;

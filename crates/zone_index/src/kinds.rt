@@ -106,7 +106,8 @@ fn put_name_rule(
     group: &Group<'_>,
 ) -> Result<(), AllocError>
     ensures { OnOk result (rules.new
-        ≡ put_rule pattern_order rules.old pattern (rule_action (own_if has_own pattern) group.now)) }
+        ≡ put_rule pattern_order rules.old pattern
+        (rule_action (own_if has_own pattern) group.now)) }
 {
     if let Some(action) = action_for(alloc, own_pattern(has_own, &pattern), group.as_slice())? {
         rules.insert(pattern, action)?;

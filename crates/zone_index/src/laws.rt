@@ -61,7 +61,8 @@ pub fn the_order_of_a_zone_does_not_matter()
 pub fn an_index_has_the_rules_of_its_zone()
     ensures listed { (origin : List (List ℕ)) (rows : List PlainRow) → All IsRow rows →
         (rule : Trigger × Action) →
-        Contains (zone_rules origin rows) rule ↔ Contains (rules_by_kind (rules_of origin rows)) rule }
+        Contains (zone_rules origin rows) rule
+        ↔ Contains (rules_by_kind (rules_of origin rows)) rule }
     ensures by_trigger { (origin : List (List ℕ)) (rows : List PlainRow) → All IsRow rows →
         (t : Trigger) (a b : Action) → Contains (zone_rules origin rows) (t, a) →
         Contains (zone_rules origin rows) (t, b) → a ≡ b }

@@ -147,7 +147,8 @@ fn index_for(
     origin: &Name,
     content: Option<&Content>,
 ) -> Result<Option<Index>, AllocError>
-    ensures index { IfOk result (λ index. index ≡ index_of origin.now (option_copied content.entry)) }
+    ensures index { IfOk result
+        (λ index. index ≡ index_of origin.now (option_copied content.entry)) }
     ensures rows { IfOk result (λ _. HasRows (option_copied content.entry)) }
 {
     match content {

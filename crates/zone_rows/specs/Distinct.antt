@@ -15,7 +15,8 @@ pub record IsFirst (rows : List PlainRow) (row : PlainRow) : Type 0 where
   pub place : ℕ
   pub within : place < length rows
   pub is_row : slice_index_or rows place row ≡ row
-  pub is_new : (earlier : ℕ) → earlier < place → identity (slice_index_or rows earlier row) ≢ identity row
+  pub is_new : (earlier : ℕ) → earlier < place →
+      identity (slice_index_or rows earlier row) ≢ identity row
 
 -- the row stands among the rows, and the other behind it
 pub record Precedes (rows : List PlainRow) (row other : PlainRow) : Type 0 where

@@ -17,7 +17,8 @@ mark_of marks key = lookup (bytes_eq key) marks
 
 -- what is kept of the key is this, and of the others what was
 abbrev pub IsUpdated : Kept → List ℕ → Option Mark → Kept → Type 0
-IsUpdated old key mark new = (other : List ℕ) → new other ≡ cond (bytes_eq key other) mark (old other)
+IsUpdated old key mark new =
+    (other : List ℕ) → new other ≡ cond (bytes_eq key other) mark (old other)
 
 -- the key has a mark
 abbrev pub IsNamed : Kept → List ℕ → Type 0
@@ -36,7 +37,8 @@ SameNames old new = (key : List ℕ) → is_some (new key) ≡ is_some (old key)
 
 -- all marks are those of keys that no row has
 abbrev pub AreFresh : Kept → Type 0
-AreFresh kept = (key : List ℕ) (mark : Mark) → kept key ≡ Some mark → (mark.count ≡ 0) × (mark.cut ≡ 0)
+AreFresh kept =
+    (key : List ℕ) (mark : Mark) → kept key ≡ Some mark → (mark.count ≡ 0) × (mark.cut ≡ 0)
 
 -- the marks are new with those of the rows, and no mark has gone
 pub record HasNamed (old new : Kept) (rows : List PlainRow) : Type 0 where
@@ -55,12 +57,15 @@ cut_of kept row = cut_in (kept (identity row))
 -- the rows that were not taken out, where the first stands at this place
 abbrev pub live_from : Kept → ℕ → List PlainRow → List PlainRow
 live_from kept place [] = []
-live_from kept place (row ∷ rows) = if nat_lt place (cut_of kept row) then live_from kept (place + 1) rows else row ∷ live_from kept (place + 1) rows
+live_from kept place (row ∷ rows) =
+    if nat_lt place (cut_of kept row) then live_from kept (place + 1) rows
+    else row ∷ live_from kept (place + 1) rows
 
 -- how many rows have the identity
 abbrev pub count_key : List ℕ → List PlainRow → ℕ
 count_key key [] = 0
-count_key key (row ∷ rows) = if bytes_eq key (identity row) then count_key key rows + 1 else count_key key rows
+count_key key (row ∷ rows) =
+    if bytes_eq key (identity row) then count_key key rows + 1 else count_key key rows
 
 -- a row more with this mark
 abbrev pub one_more : Mark → Mark
@@ -68,6 +73,7 @@ one_more mark = record { count = mark.count + 1; cut = mark.cut }
 
 -- the marks are those of the rows that were not taken out, and so is the count
 pub record AreMarks (kept : Kept) (slots : List PlainRow) (live : ℕ) : Type 0 where
-  pub counts : (key : List ℕ) (mark : Mark) → kept key ≡ Some mark → mark.count ≡ count_key key (live_from kept 0 slots)
+  pub counts : (key : List ℕ) (mark : Mark) → kept key ≡ Some mark →
+      mark.count ≡ count_key key (live_from kept 0 slots)
   pub cuts : (key : List ℕ) (mark : Mark) → kept key ≡ Some mark → mark.cut ≤ length slots
   pub count : live ≡ length (live_from kept 0 slots)

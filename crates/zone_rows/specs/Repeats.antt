@@ -19,4 +19,5 @@ without_repeats rows = fold with_row [] rows
 
 -- the keys are the identities of the rows
 abbrev pub AreKeysOf : List (List ℕ) → List PlainRow → Type 0
-AreKeysOf keys rows = (key : List ℕ) → has_key keys key ≡ list_any (λ row. bytes_eq key (identity row)) rows
+AreKeysOf keys rows =
+    (key : List ℕ) → has_key keys key ≡ list_any (λ row. bytes_eq key (identity row)) rows

@@ -24,7 +24,9 @@ BeginsAt (Some soa) step = step.old.serial ≡ soa.serial
 -- each step goes forward (RFC 1982, section 3.2), and begins where the one before it ended
 abbrev pub AreStepsFrom : Option Soa → List PlainStep → Type 0
 AreStepsFrom before [] = Unit {0}
-AreStepsFrom before (step ∷ steps) = BeginsAt before step × (is_newer step.old.serial step.new.serial ≡ true) × AreStepsFrom (Some step.new) steps
+AreStepsFrom before (step ∷ steps) =
+    BeginsAt before step × (is_newer step.old.serial step.new.serial ≡ true)
+    × AreStepsFrom (Some step.new) steps
 
 abbrev pub AreSteps : List PlainStep → Type 0
 AreSteps steps = AreStepsFrom None steps
@@ -41,27 +43,35 @@ without_row rows row = filter (λ other. not (bytes_eq (identity row) (identity 
 
 -- the rows without those that a step takes out, one after another; or the first that isn't there. Steps and rows are numbered
 -- from 1 on.
-abbrev pub without_deleted : ℕ → ℕ → List PlainRow → List PlainRow → Result (List PlainRow) ApplyFault
+abbrev pub without_deleted : ℕ → ℕ → List PlainRow → List PlainRow →
+    Result (List PlainRow) ApplyFault
 without_deleted step number rows [] = Ok rows
 without_deleted step number rows (row ∷ others) =
-    if has_row rows row then without_deleted step (number + 1) (without_row rows row) others else Err (DeleteAbsent step number)
+    if has_row rows row then without_deleted step (number + 1) (without_row rows row) others
+    else Err (DeleteAbsent step number)
 
 -- the rows with those that a step puts in at their end, one after another; or the first that is there already, or with which
 -- there are as many as the bound
-abbrev pub with_added : ℕ → ℕ → ℕ → List PlainRow → List PlainRow → Result (List PlainRow) ApplyFault
+abbrev pub with_added : ℕ → ℕ → ℕ → List PlainRow → List PlainRow →
+    Result (List PlainRow) ApplyFault
 with_added bound step number rows [] = Ok rows
 with_added bound step number rows (row ∷ others) =
     if has_row rows row then Err (AddPresent step number)
-    else if nat_lt (length rows + 1) bound then with_added bound step (number + 1) (rows ++ row ∷ []) others else Err (TooManyRows bound)
+    else if nat_lt (length rows + 1) bound
+    then with_added bound step (number + 1) (rows ++ row ∷ []) others else Err (TooManyRows bound)
 
 -- the rows after a step of this number
 abbrev pub rows_after_step : ℕ → ℕ → List PlainRow → PlainStep → Result (List PlainRow) ApplyFault
-rows_after_step bound number rows step = without_deleted number 1 rows step.deleted >>= (λ kept. with_added bound number 1 kept step.added)
+rows_after_step bound number rows step =
+    without_deleted number 1 rows step.deleted
+    >>= (λ kept. with_added bound number 1 kept step.added)
 
 -- what a zone holds after steps that are numbered from this number on
 abbrev pub after_steps : ℕ → ℕ → Soa → List PlainRow → List PlainStep → Result Content ApplyFault
 after_steps bound number soa rows [] = Ok (record { soa = soa; rows = rows })
-after_steps bound number soa rows (step ∷ steps) = rows_after_step bound number rows step >>= (λ after. after_steps bound (number + 1) step.new after steps)
+after_steps bound number soa rows (step ∷ steps) =
+    rows_after_step bound number rows step
+    >>= (λ after. after_steps bound (number + 1) step.new after steps)
 
 -- the serial of the version that the steps begin with, 0 where there are none
 abbrev pub first_serial : List PlainStep → ℕ → ℕ
@@ -74,5 +84,6 @@ abbrev pub steps_outcome : ℕ → Option Content → List PlainStep → Result 
 steps_outcome bound None steps = Err (Gap 0 (first_serial steps 0))
 steps_outcome bound (Some content) [] = Err (Gap content.soa.serial content.soa.serial)
 steps_outcome bound (Some content) (step ∷ steps) =
-    if step.old.serial == content.soa.serial then after_steps bound 1 content.soa content.rows (step ∷ steps)
+    if step.old.serial == content.soa.serial
+    then after_steps bound 1 content.soa content.rows (step ∷ steps)
     else Err (Gap content.soa.serial step.old.serial)

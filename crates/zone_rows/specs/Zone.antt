@@ -19,7 +19,9 @@ use Rattle.dns_record.specs.Row.{PlainRow}
 -- the SOA of a transfer, which is to be newer than that of what is loaded (RFC 1982, section 3.2)
 abbrev pub newer_soa : Option Content → Soa → Result Soa ApplyFault
 newer_soa None soa = Ok soa
-newer_soa (Some content) soa = if is_newer content.soa.serial soa.serial then Ok soa else Err (SerialNotNewer content.soa.serial soa.serial)
+newer_soa (Some content) soa =
+    if is_newer content.soa.serial soa.serial then Ok soa
+    else Err (SerialNotNewer content.soa.serial soa.serial)
 
 -- fewer rows than so many
 abbrev pub fewer_rows : ℕ → List PlainRow → Result (List PlainRow) ApplyFault

@@ -317,7 +317,8 @@ fn keep_added(
     rows: &mut Rows,
 ) -> Result<(), AllocError>
     requires { before < 2 ^ 63 }
-    ensures { OnOk result (rows.new ≡ rows.old ++ live_from (mark_of marks.now) before added.items) }
+    ensures { OnOk result
+        (rows.new ≡ rows.old ++ live_from (mark_of marks.now) before added.items) }
 {
     let mut key = Octets::new(alloc);
     let mut place = before;

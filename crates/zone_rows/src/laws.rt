@@ -37,7 +37,8 @@ pub fn a_step_takes_rows_out_and_puts_rows_in()
     ensures rows { (bound number : ℕ) (rows after : List PlainRow) (step : PlainStep) →
         rows_after_step bound number rows step ≡ Ok after →
         after ≡ filter (λ row. not (has_row step.deleted row)) rows ++ step.added }
-    ensures deleted { (bound number : ℕ) (rows after : List PlainRow) (step : PlainStep) (row : PlainRow) →
+    ensures deleted { (bound number : ℕ) (rows after : List PlainRow) (step : PlainStep)
+        (row : PlainRow) →
         rows_after_step bound number rows step ≡ Ok after →
         Contains step.deleted row → IsTrue (has_row rows row) }
 {}
@@ -45,6 +46,7 @@ pub fn a_step_takes_rows_out_and_puts_rows_in()
 /// A zone that took steps, and then others, is the zone that took all of them at once.
 pub fn steps_are_taken_one_after_another()
     ensures { (zone between after : PlainZone) (first second : List PlainStep) →
-        apply_outcome zone (Steps first) ≡ Ok between → apply_outcome between (Steps second) ≡ Ok after →
+        apply_outcome zone (Steps first) ≡ Ok between →
+        apply_outcome between (Steps second) ≡ Ok after →
         apply_outcome zone (Steps (first ++ second)) ≡ Ok after }
 {}

@@ -50,7 +50,8 @@ impl Marks {
 
     /// Gives the key this mark. An `Err` leaves the marks as they were.
     pub(crate) fn put(&mut self, key: Vec<u8>, mark: Mark) -> Result<(), AllocError>
-        ensures ok { OnOk result (IsUpdated (mark_of self.old) key.items (Some mark) (mark_of self.new)) }
+        ensures ok { OnOk result
+            (IsUpdated (mark_of self.old) key.items (Some mark) (mark_of self.new)) }
         ensures err { OnErr result (self.new ≡ self.old) }
     {
         self.marks.insert(key, mark)?;
