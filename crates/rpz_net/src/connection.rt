@@ -45,6 +45,22 @@ fn share(
     Ok((stream, again, buffer))
 }
 
+// Both sides over a socket, with their limits, of a connection to a server or of this client.
+fn of_parts<R: time::Clock + Copy + Drop>(
+    rt: R,
+    alloc: Global,
+    (stream, again, buffer): (Arc<TcpStream>, Arc<TcpStream>, ReadBuffer),
+    (reads, writes): (TimeLimit, TimeLimit),
+    client: Option<Endpoint>,
+) -> Result<Sides<R>, WireError> {
+    let source = TcpSource::new(rt, alloc, stream, buffer, reads, client);
+    let sink = TcpSink::new(rt, alloc, again, writes, client.is_some());
+    match (source, sink) {
+        (Ok(source), Ok(sink)) => Ok((source, sink)),
+        _ => Err(WireError::OutOfMemory),
+    }
+}
+
 /// Both sides of a connection to a server, whose source reads so many bytes ahead, and whose calls have this limit. `Failed` comes
 /// where the socket takes no option.
 pub(crate) fn sides_of<R: time::Clock + Copy + Drop>(
@@ -61,9 +77,8 @@ pub(crate) fn sides_of<R: time::Clock + Copy + Drop>(
     let Ok((stream, again, buffer)) = share(alloc, stream, ahead) else {
         return Err(WireError::OutOfMemory);
     };
-    let source = TcpSource::new(rt, stream, buffer, TimeLimit::new(span, limit));
-    let sink = TcpSink::new(rt, again, TimeLimit::new(span, limit), false);
-    Ok((source, sink))
+    let limits = (TimeLimit::new(span, limit), TimeLimit::new(span, limit));
+    of_parts(rt, alloc, (stream, again, buffer), limits, None)
 }
 
 /// Both sides of a connection of a client, which may take this time for the rest of a message that is waited for, and for what is
@@ -81,7 +96,9 @@ pub(crate) fn client_sides<R: time::Clock + Copy + Drop>(
     let Ok((stream, again, buffer)) = share(alloc, stream, CLIENT_BUFFER) else {
         return Err(WireError::OutOfMemory);
     };
-    let source = TcpSource::new(rt, stream, buffer, TimeLimit::untold(Span::Frame, limit));
-    let sink = TcpSink::new(rt, again, TimeLimit::untold(Span::Frame, limit), true);
-    Ok((source.of_client(client), sink))
+    let limits = (
+        TimeLimit::untold(Span::Frame, limit),
+        TimeLimit::untold(Span::Frame, limit),
+    );
+    of_parts(rt, alloc, (stream, again, buffer), limits, Some(client))
 }

@@ -11,6 +11,7 @@ mod connection;
 mod frame_gauge;
 pub mod limits;
 mod net_wires;
+mod pace;
 mod random_ids;
 mod read_buffer;
 mod server_replies;

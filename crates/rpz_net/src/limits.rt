@@ -44,6 +44,15 @@ pub const PASSING_ERRORS: u32 = 1_000;
 /// How many datagrams are taken in a row before a connection that waits has its turn.
 pub const DATAGRAM_RUN: u32 = 64;
 
+/// Microseconds between two waits for datagrams below which these come fast: more than 10,000 a second.
+pub const FAST_MICROSECONDS: u64 = 100;
+
+/// Microseconds of a rest while datagrams come fast. The system may let it last longer, on Linux some 50 microseconds more.
+pub const REST_MICROSECONDS: u64 = 50;
+
+/// How many datagrams must have come in a rest, so that another one follows.
+pub const REST_DATAGRAMS: u32 = 2;
+
 /// Milliseconds after which a connection is tried again where the system has no descriptor or no memory left for it, unless something
 /// comes before.
 pub const SHORTAGE_MILLISECONDS: u64 = 10;

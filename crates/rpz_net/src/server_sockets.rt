@@ -4,8 +4,9 @@ use crate::address::{address_of, endpoint_of};
 use crate::connection::{Sides, client_sides};
 use crate::limits::{
     ACCEPT_RUN, DATAGRAM_MAX, DATAGRAM_RUN, EVENTS, LATE_MILLISECONDS, PASSING_ERRORS,
-    RECEIVE_BUFFER, SHORTAGE_MILLISECONDS,
+    RECEIVE_BUFFER, REST_MICROSECONDS, SHORTAGE_MILLISECONDS,
 };
+use crate::pace::Pace;
 use crate::server_replies::ServerReplies;
 use crate::socket_option::ask_receive_buffer;
 use crate::tcp_sink::TcpSink;
@@ -21,7 +22,7 @@ use std::net::{Net, TcpListener, TcpStream, UdpSocket};
 use std::os::fd::AsRawFd;
 use std::sync::{Arc, Wait};
 use std::time::{Duration, Instant};
-use std::{io, time};
+use std::{io, thread, time};
 
 // The numbers of two errors of Linux that the libc of this kit doesn't name.
 const ENFILE: i32 = 23;
@@ -60,6 +61,8 @@ pub(crate) struct ServerSockets<R: time::Clock + Drop> {
     connections_wait: bool,
     // How many datagrams were taken since the system was asked what waits, or connections had their turn.
     run: u32,
+    // How fast datagrams come.
+    pace: Pace,
     // When it is to be looked next which connections have waited too long.
     next_look: Option<Instant>,
 }
@@ -120,6 +123,7 @@ impl<
             waker,
             connections_wait: false,
             run: 0,
+            pace: Pace::new(),
             next_look: None,
         })
     }
@@ -179,7 +183,7 @@ impl<
         }
     }
 
-    // A look at the sockets, datagrams first; after a run of them connections have a turn. Where nothing is there, it waits.
+    // A look at the sockets, datagrams first; after a run of them connections have a turn. Where nothing is there, it rests or waits.
     fn look(&mut self, rt: R, alloc: Global) -> Result<Option<NetArrival<R>>, ArrivalError> {
         if self.run >= DATAGRAM_RUN {
             self.wait(rt, Some(Duration::ZERO))?;
@@ -189,13 +193,25 @@ impl<
         }
         if let Some(datagram) = self.receive(alloc)? {
             self.run = self.run.saturating_add(1);
+            self.pace.count();
             return Ok(Some(datagram));
         }
         if let Some(connection) = self.connection(rt, alloc)? {
             return Ok(Some(connection));
         }
-        self.wait(rt, self.longest_wait())?;
+        self.rest_or_wait(rt)?;
         Ok(None)
+    }
+
+    // Where datagrams come fast, a short rest, in which several of them gather: to wait for each by itself would cost the system more
+    // than to receive it. Else a wait until something new is there.
+    fn rest_or_wait(&mut self, rt: R) -> Result<(), ArrivalError> {
+        if self.pace.is_fast() {
+            self.pace.rested();
+            thread::sleep(&rt, Duration::from_micros(REST_MICROSECONDS));
+            return Ok(());
+        }
+        self.wait(rt, self.longest_wait())
     }
 
     // How long it may wait for something new.
@@ -280,6 +296,7 @@ impl<
         let (Ok(()), Ok(now)) = (polled, Instant::now(&rt)) else {
             return Err(ArrivalError::Socket);
         };
+        self.pace.waited(now);
         for event in self.events.iter() {
             match event.token() {
                 CONNECTIONS => self.connections_wait = true,

@@ -5,6 +5,7 @@ ghost use Rattle.std.specs.Prelude.{◌≡◌, ◌≤◌, None, length, IfOk};
 use crate::frame_gauge::FrameGauge;
 use crate::time_limit::TimeLimit;
 use edge_io::{Sink, SinkError};
+use std::alloc::{AllocError, Global};
 use std::io::IoSlice;
 use std::net::TcpStream;
 use std::sync::Arc;
@@ -18,6 +19,14 @@ use std::{io, time};
 /// system doesn't take at once, a primary server `TRANSFER_SECONDS` for each write, and the upstream the time of the exchange.
 #[derive(Drop)]
 pub struct TcpSink<R: time::Clock + Drop> {
+    // In a place of its own, as the reading side has it.
+    writing: Box<Writing<R>>,
+    faults: u64,
+}
+
+// All of it but the count of faults.
+#[derive(Drop)]
+struct Writing<R: time::Clock + Drop> {
     rt: R,
     stream: Arc<TcpStream>,
     gauge: FrameGauge,
@@ -29,16 +38,21 @@ pub struct TcpSink<R: time::Clock + Drop> {
     of_client: bool,
     // The socket doesn't wait.
     is_quick: bool,
-    faults: u64,
     ghost within: { held_back ≤ 2 },
 }
 
 impl<R: time::Clock + Drop> TcpSink<R> {
     // Writes to a server over a socket whose writes wait as the limit says, or to a client over one that doesn't wait.
-    pub(crate) fn new(rt: R, stream: Arc<TcpStream>, time: TimeLimit, of_client: bool) -> Self
-        ensures no_fault { ⟦<TcpSink<R> as Sink>⟧.faults result ≡ 0 }
+    pub(crate) fn new(
+        rt: R,
+        alloc: Global,
+        stream: Arc<TcpStream>,
+        time: TimeLimit,
+        of_client: bool,
+    ) -> Result<Self, AllocError>
+        ensures no_fault { IfOk result (λ s. ⟦<TcpSink<R> as Sink>⟧.faults s ≡ 0) }
     {
-        TcpSink {
+        let writing = Writing {
             rt,
             stream,
             gauge: FrameGauge::new(),
@@ -47,14 +61,18 @@ impl<R: time::Clock + Drop> TcpSink<R> {
             time,
             of_client,
             is_quick: of_client,
+        };
+        Ok(TcpSink {
+            writing: Box::new(alloc, writing)?,
             faults: 0,
-        }
+        })
     }
+}
 
+impl<R: time::Clock + Drop> Writing<R> {
     // Takes some of a piece, all of it within one length or one message.
     fn take(&mut self, piece: &[u8]) -> io::Result<usize>
         ensures within { IfOk result (λ n. n ≤ length piece.now) }
-        ensures count { self.new.faults ≡ self.old.faults }
     {
         let part = &piece[..piece.len().min(self.gauge.part())];
         let taken = if self.gauge.is_in_message() {
@@ -70,9 +88,7 @@ impl<R: time::Clock + Drop> TcpSink<R> {
         Ok(taken)
     }
 
-    fn hold_back(&mut self, part: &[u8])
-        ensures { self.new.faults ≡ self.old.faults }
-    {
+    fn hold_back(&mut self, part: &[u8]) {
         match part {
             [high, low, ..] => {
                 self.length = [*high, *low];
@@ -91,9 +107,7 @@ impl<R: time::Clock + Drop> TcpSink<R> {
     }
 
     // Sends what is still held back, which is the length of a message of no bytes. The socket of a client doesn't wait then.
-    fn end_frame(&mut self) -> io::Result<()>
-        ensures { self.new.faults ≡ self.old.faults }
-    {
+    fn end_frame(&mut self) -> io::Result<()> {
         if self.held_back > 0 {
             self.send(&[])?;
         }
@@ -108,7 +122,6 @@ impl<R: time::Clock + Drop> TcpSink<R> {
     // Sends all that is held back, and some of the part, where that has any bytes. Says how many of these.
     fn send(&mut self, part: &[u8]) -> io::Result<usize>
         ensures within { IfOk result (λ n. n ≤ length part.now) }
-        ensures count { self.new.faults ≡ self.old.faults }
     {
         for _ in 0..u64::MAX {
             let sent = self.send_once(part)?;
@@ -121,9 +134,7 @@ impl<R: time::Clock + Drop> TcpSink<R> {
     }
 
     // One call of the system: how many bytes went out, of those that are held back and then of the part. A signal lets none go out.
-    fn send_once(&mut self, part: &[u8]) -> io::Result<usize>
-        ensures { self.new.faults ≡ self.old.faults }
-    {
+    fn send_once(&mut self, part: &[u8]) -> io::Result<usize> {
         if !self.is_quick
             && let Some(wait) = self.time.next_wait(&self.rt)?
         {
@@ -145,9 +156,7 @@ impl<R: time::Clock + Drop> TcpSink<R> {
     }
 
     // So many bytes have gone out. Says how many of them were not held back.
-    fn release(&mut self, sent: usize) -> usize
-        ensures { self.new.faults ≡ self.old.faults }
-    {
+    fn release(&mut self, sent: usize) -> usize {
         let gone = sent.min(self.held_back);
         if gone == 1 {
             self.length[0] = self.length[1];
@@ -165,7 +174,7 @@ impl<R: time::Clock + Drop> Sink for TcpSink<R> {
     ghost steady = { λ _. ⊥ };
 
     fn write(&mut self, piece: &[u8]) -> Result<usize, SinkError> {
-        match self.take(piece) {
+        match self.writing.take(piece) {
             Ok(n) if n > 0 => Ok(n),
             _ => {
                 self.faults = self.faults.saturating_add(1);

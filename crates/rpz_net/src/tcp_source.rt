@@ -1,12 +1,13 @@
 //! The reading side of a connection.
 
-ghost use Rattle.std.specs.Prelude.{◌≡◌, None};
+ghost use Rattle.std.specs.Prelude.{◌≡◌, ◌≤◌, None, IfOk, length};
 
 use crate::frame_gauge::FrameGauge;
 use crate::limits::CONNECTION_MESSAGES;
 use crate::read_buffer::ReadBuffer;
 use crate::time_limit::TimeLimit;
 use edge_io::{Endpoint, Failed, Source};
+use std::alloc::{AllocError, Global};
 use std::net::TcpStream;
 use std::sync::Arc;
 use std::{io, time};
@@ -31,6 +32,14 @@ pub(crate) enum Coming {
 /// everything must come within the limit of the exchange.
 #[derive(Drop)]
 pub struct TcpSource<R: time::Clock + Drop> {
+    // In a place of its own, since arrivals are moved several times on their way to a worker, and most of them are datagrams.
+    reading: Box<Reading<R>>,
+    faults: u64,
+}
+
+// All of it but the count of faults.
+#[derive(Drop)]
+struct Reading<R: time::Clock + Drop> {
     rt: R,
     stream: Arc<TcpStream>,
     buffer: ReadBuffer,
@@ -40,7 +49,6 @@ pub struct TcpSource<R: time::Clock + Drop> {
     client: Option<Client>,
     // The socket doesn't wait.
     is_quick: bool,
-    faults: u64,
 }
 
 // A client, and how far its connection has come.
@@ -54,63 +62,75 @@ struct Client {
 }
 
 impl<R: time::Clock + Drop> TcpSource<R> {
-    // Reads from a server over a socket whose reads wait as the limit says.
-    pub(crate) fn new(rt: R, stream: Arc<TcpStream>, buffer: ReadBuffer, time: TimeLimit) -> Self
-        ensures no_fault { ⟦<TcpSource<R> as Source>⟧.faults result ≡ 0 }
+    // Reads from a server over a socket whose reads wait as the limit says, or from this client over one that doesn't wait.
+    pub(crate) fn new(
+        rt: R,
+        alloc: Global,
+        stream: Arc<TcpStream>,
+        buffer: ReadBuffer,
+        time: TimeLimit,
+        client: Option<Endpoint>,
+    ) -> Result<Self, AllocError>
+        ensures no_fault { IfOk result (λ s. ⟦<TcpSource<R> as Source>⟧.faults s ≡ 0) }
     {
-        TcpSource {
+        let reading = Reading {
             rt,
             stream,
             buffer,
             gauge: FrameGauge::new(),
             time,
-            client: None,
-            is_quick: false,
-            faults: 0,
-        }
-    }
-
-    // Reads from this client over a socket that doesn't wait.
-    pub(crate) fn of_client(self, at: Endpoint) -> Self
-        ensures kept { ⟦<TcpSource<R> as Source>⟧.faults result ≡ ⟦<TcpSource<R> as Source>⟧.faults self }
-    {
-        let client = Client {
-            at,
-            messages: 0,
-            coming: Coming::Nothing,
+            client: client.map(Client::new),
+            is_quick: client.is_some(),
         };
-        TcpSource {
-            client: Some(client),
-            is_quick: true,
-            ..self
-        }
+        Ok(TcpSource {
+            reading: Box::new(alloc, reading)?,
+            faults: 0,
+        })
     }
 
     /// The client, where it is a connection of one.
     pub(crate) fn client(&self) -> Option<Endpoint> {
-        self.client.map(|client| client.at)
+        self.reading.client.map(|client| client.at)
     }
 
     /// Whether it is a connection of a client that had no message when it was looked at last, and has not ended.
     pub(crate) fn is_paused(&self) -> bool {
-        self.client
+        self.reading
+            .client
             .is_some_and(|client| client.coming == Coming::Nothing)
     }
 
     /// Whether a part of a message is there.
     pub(crate) fn has_part(&self) -> bool {
-        !self.buffer.is_empty()
+        !self.reading.buffer.is_empty()
     }
 
     /// The socket.
     pub(crate) fn stream(&self) -> &TcpStream {
-        &self.stream
+        &self.reading.stream
     }
 
     /// Looks at what comes next on a connection of a client, between two messages. It doesn't wait.
     pub(crate) fn look(&mut self) -> Coming
         ensures count { self.new.faults ≡ self.old.faults }
     {
+        self.reading.look()
+    }
+}
+
+impl Client {
+    // No message has come from it.
+    fn new(at: Endpoint) -> Self {
+        Client {
+            at,
+            messages: 0,
+            coming: Coming::Nothing,
+        }
+    }
+}
+
+impl<R: time::Clock + Drop> Reading<R> {
+    fn look(&mut self) -> Coming {
         let coming = self.receive_ahead();
         if let Some(client) = &mut self.client {
             client.coming = coming;
@@ -118,9 +138,7 @@ impl<R: time::Clock + Drop> TcpSource<R> {
         coming
     }
 
-    fn receive_ahead(&mut self) -> Coming
-        ensures count { self.new.faults ≡ self.old.faults }
-    {
+    fn receive_ahead(&mut self) -> Coming {
         if self.buffer.has_message() {
             return Coming::Message;
         }
@@ -134,9 +152,7 @@ impl<R: time::Clock + Drop> TcpSource<R> {
     }
 
     // Whether a connection of a client has no message for now, or as many came as are answered. A message that comes is counted.
-    fn ends_here(&mut self) -> bool
-        ensures count { self.new.faults ≡ self.old.faults }
-    {
+    fn ends_here(&mut self) -> bool {
         let Some(mut client) = self.client else {
             return false;
         };
@@ -154,9 +170,7 @@ impl<R: time::Clock + Drop> TcpSource<R> {
     }
 
     // Receives what there is. At the end of the stream the buffer stays empty.
-    fn fill(&mut self) -> io::Result<()>
-        ensures count { self.new.faults ≡ self.old.faults }
-    {
+    fn fill(&mut self) -> io::Result<()> {
         for _ in 0..u64::MAX {
             if !self.is_quick
                 && let Some(wait) = self.time.next_wait(&self.rt)?
@@ -176,13 +190,31 @@ impl<R: time::Clock + Drop> TcpSource<R> {
     }
 
     // A frame was read to its end. The socket of a client doesn't wait then.
-    fn end_frame(&mut self)
-        ensures count { self.new.faults ≡ self.old.faults }
-    {
+    fn end_frame(&mut self) {
         self.time.end_frame();
         if self.client.is_some() && !self.is_quick {
             self.is_quick = self.stream.set_nonblocking(true).is_ok();
         }
+    }
+
+    // The next bytes, at most those of one length or one message; none where the connection ends here.
+    fn read(&mut self, into: &mut [u8]) -> io::Result<usize>
+        ensures within { IfOk result (λ n. n ≤ length into.old) }
+        ensures same { length into.new ≡ length into.old }
+    {
+        if self.gauge.is_between_frames() && self.ends_here() {
+            return Ok(0);
+        }
+        if self.buffer.is_empty() {
+            self.fill()?;
+        }
+        let most = into.len().min(self.gauge.part());
+        let n = self.buffer.take(&mut into[..most]);
+        self.gauge.pass(&into[..n]);
+        if self.gauge.is_between_frames() {
+            self.end_frame();
+        }
+        Ok(n)
     }
 }
 
@@ -194,19 +226,12 @@ impl<R: time::Clock + Drop> Source for TcpSource<R> {
     ghost steady = { λ _. ⊥ };
 
     fn read(&mut self, into: &mut [u8]) -> Result<usize, Failed> {
-        if self.gauge.is_between_frames() && self.ends_here() {
-            return Ok(0);
+        match self.reading.read(into) {
+            Ok(n) => Ok(n),
+            Err(_) => {
+                self.faults = self.faults.saturating_add(1);
+                Err(Failed)
+            }
         }
-        if self.buffer.is_empty() && self.fill().is_err() {
-            self.faults = self.faults.saturating_add(1);
-            return Err(Failed);
-        }
-        let most = into.len().min(self.gauge.part());
-        let n = self.buffer.take(&mut into[..most]);
-        self.gauge.pass(&into[..n]);
-        if self.gauge.is_between_frames() {
-            self.end_frame();
-        }
-        Ok(n)
     }
 }
