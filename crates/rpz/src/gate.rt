@@ -1,9 +1,9 @@
-//! Two workers of a server, of which the first can't answer before the second has.
+//! Two workers of a server, of which the one that asks first can't answer before the other has.
 
 use crate::cases::{CASES, NEVER};
-use crate::outside::{Flag, Upstream};
-use crate::runs::{Memory, assert_replies, datagram, fetches, flag, posts, run_line};
-use crossbeam_channel::{Sender, unbounded};
+use crate::outside::{Flag, Meeting, Upstream};
+use crate::runs::{Memory, datagram, fetches, flag, posts, run_line};
+use crossbeam_channel::{Receiver, Sender, unbounded};
 use dns_name::Octets;
 use edge_io::ListWires;
 use rpz_program::status::Status;
@@ -33,34 +33,54 @@ const FIRST_REPLY: &[u8] = b"\0\x01\x81\x80\0\x01\0\x01\0\0\0\0\x01x\x07example\
 const SECOND_REPLY: &[u8] = b"\0\x02\x81\x80\0\x01\0\x01\0\0\0\0\x01x\x07example\0\0\x01\0\x01\
     \x01x\x07example\0\0\x01\0\x01\0\0\0<\0\x04\xc0\0\x02\x09";
 
-fn upstream<R: Clock + Drop>(rt: R, awaited: Option<Flag>) -> Upstream<R> {
-    Upstream {
+fn upstream<R: Clock + Drop>(rt: R, asked: &Flag, replied: &Flag) -> Result<Upstream<R>, Fail> {
+    let meeting = Meeting {
+        asked: Arc::try_clone(asked)?,
+        replied: Arc::try_clone(replied)?,
+    };
+    Ok(Upstream {
         rt,
         messages: &[GIVEN],
         given: 0,
-        awaited,
+        meeting: Some(meeting),
         faults: 0,
-    }
+    })
 }
 
-// The link of the first worker waits for the reply of the second one.
+// The question that comes first waits for a reply, which only the other worker can send.
 fn wires<R: Threads + Wait + Clock + Copy + Drop + Send + Sync + 'static>(
     rt: R,
     alloc: Global,
     sender: &Sender<Octets>,
 ) -> Result<Memory<R>, Fail> {
-    let (replied, unused) = (flag(alloc)?, flag(alloc)?);
+    let (asked, replied) = (flag(alloc)?, flag(alloc)?);
     let mut links = VecDeque::new(alloc);
-    links.push_back(upstream(rt, Some(Arc::try_clone(&replied)?)))?;
-    links.push_back(upstream(rt, None))?;
+    links.push_back(upstream(rt, &asked, &replied)?)?;
+    links.push_back(upstream(rt, &asked, &replied)?)?;
     let mut backs = VecDeque::new(alloc);
-    backs.push_back(posts(rt, alloc, sender, &unused)?)?;
+    backs.push_back(posts(rt, alloc, sender, &replied)?)?;
     backs.push_back(posts(rt, alloc, sender, &replied)?)?;
     let mut arrivals = VecDeque::new(alloc);
     arrivals.push_back(datagram(alloc, FIRST)?)?;
     arrivals.push_back(datagram(alloc, SECOND)?)?;
     let fetched = fetches(alloc, CASES[0].streams)?;
     Ok(ListWires::new(alloc, arrivals, fetched, links, backs, Vec::new(alloc)))
+}
+
+// Both replies were sent, in either order.
+fn assert_both<R: Wait + Abort>(rt: &R, replies: &Receiver<Octets>) -> Result<(), Fail> {
+    let (Ok(one), Ok(other)) = (replies.try_recv(rt), replies.try_recv(rt)) else {
+        return Err("two replies".into());
+    };
+    let (first, second) = if one.as_slice() == FIRST_REPLY {
+        (one, other)
+    } else {
+        (other, one)
+    };
+    assert_eq!(rt; first.as_slice(), FIRST_REPLY);
+    assert_eq!(rt; second.as_slice(), SECOND_REPLY);
+    assert!(rt; replies.try_recv(rt).is_err());
+    Ok(())
 }
 
 fn meet<R: Threads + Wait + Abort + Clock + Copy + Drop + Send + Sync + 'static>(
@@ -71,8 +91,7 @@ fn meet<R: Threads + Wait + Abort + Clock + Copy + Drop + Send + Sync + 'static>
     let mut wires = wires(rt, alloc, &sender)?;
     let (status, _written) = run_line(rt, alloc, TWO_WORKERS, &mut wires, NEVER, NEVER)?;
     assert_eq!(rt; status, Status::Done);
-    assert_replies(&rt, &replies, &[SECOND_REPLY, FIRST_REPLY], "a gate");
-    Ok(())
+    assert_both(&rt, &replies)
 }
 
 #[test]

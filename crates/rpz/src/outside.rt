@@ -50,24 +50,35 @@ impl<R: Wait + Drop> Replies<ListSource, ListSink> for Posts<R> {
     fn close(&mut self, _source: ListSource, _sink: ListSink, _end: StreamEnd) {}
 }
 
-/// A link that gives the messages in turn, and fails behind the last. Before each it waits, if there is something to wait for.
+/// What the first question of several links waits for: that a reply was sent.
+#[derive(Drop)]
+pub struct Meeting {
+    pub asked: Flag,
+    pub replied: Flag,
+}
+
+/// A link that gives the messages in turn, and fails behind the last. Where it has a meeting, the first question of all its links
+/// waits.
 #[derive(Drop)]
 pub struct Upstream<R: Clock + Drop> {
     pub rt: R,
     pub messages: &'static [&'static [u8]],
     pub given: usize,
-    pub awaited: Option<Flag>,
+    pub meeting: Option<Meeting>,
     pub faults: u64,
 }
 
 impl<R: Clock + Drop> Upstream<R> {
-    // Whether what it waits for was done in time.
+    // Whether what it waits for, if it does, was done in time.
     fn waits(&self) -> bool {
-        let Some(awaited) = &self.awaited else {
+        let Some(meeting) = &self.meeting else {
             return true;
         };
+        if meeting.asked.swap(true, Ordering::SeqCst) {
+            return true;
+        }
         for _ in 0..MOST_TURNS {
-            if awaited.load(Ordering::SeqCst) {
+            if meeting.replied.load(Ordering::SeqCst) {
                 return true;
             }
             thread::sleep(&self.rt, Duration::from_millis(1));

@@ -120,7 +120,7 @@ fn wires<R: Threads + Wait + Clock + Copy + Drop + Send + Sync + 'static>(
             rt,
             messages: case.upstream,
             given: 0,
-            awaited: None,
+            meeting: None,
             faults: 0,
         })?;
         backs.push_back(posts(rt, alloc, sender, &unused)?)?;

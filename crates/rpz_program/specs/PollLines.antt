@@ -26,7 +26,8 @@ outcome_of (Err feed_error.OutOfMemory) = None
 -- what is shown of a poll of the zone of a number
 abbrev pub shown_poll : ℕ → Result Polled ZoneFault → Shown
 shown_poll number (Ok (polled.Current theirs)) = shown.Current number theirs
-shown_poll number (Ok (polled.New publication)) = shown.Taken number publication.serial publication.rows
+shown_poll number (Ok (polled.New publication)) =
+    shown.Taken number publication.serial publication.rows
 shown_poll number (Err fault) = shown.Refused number fault
 
 -- the line of a poll, which is that of a transfer in a transcript
@@ -36,4 +37,11 @@ poll_line number outcome = shown_line (shown_poll number outcome)
 -- the line that ends a server's run: how many arrivals were taken, and what became of the jobs among them
 unfoldable pub served_line : ℕ → ℕ → ℕ → ℕ → ℕ → List ℕ
 served_line turns replies silent memory failed =
-    codes "served " ++ (decimal turns ++ (codes " reply " ++ (decimal replies ++ (codes " silent " ++ (decimal silent ++ (codes " memory " ++ (decimal memory ++ (codes " failed " ++ (decimal failed ++ codes "\n")))))))))
+    codes "served "
+    ++ (decimal turns
+    ++ (codes " reply "
+    ++ (decimal replies
+    ++ (codes " silent "
+    ++ (decimal silent
+    ++ (codes " memory "
+    ++ (decimal memory ++ (codes " failed " ++ (decimal failed ++ codes "\n")))))))))

@@ -26,8 +26,10 @@ pub record ConnectionViews (S K : Type 0) : Type 1 where
   pub held : K → Option (List ℕ)
   pub sink_steady : K → Type 0
 
-abbrev pub connection_views : {S K : Type 0} → (S → Option (List ℕ)) → (S → Type 0) → (K → Option (List ℕ)) → (K → Type 0) → ConnectionViews S K
-connection_views left source_steady held sink_steady = record { left = left; source_steady = source_steady; held = held; sink_steady = sink_steady }
+abbrev pub connection_views : {S K : Type 0} → (S → Option (List ℕ)) → (S → Type 0) →
+    (K → Option (List ℕ)) → (K → Type 0) → ConnectionViews S K
+connection_views left source_steady held sink_steady =
+    record { left = left; source_steady = source_steady; held = held; sink_steady = sink_steady }
 
 -- what contracts see between two polls: what is published; of the wires, the connections that `fetch` is still to give and the
 -- endpoints that it was given, where known, and how often it has failed; the IDs that are still to come and the bytes that
@@ -40,8 +42,17 @@ pub record FeedState (S K : Type 0) : Type 0 where
   pub ids : Option (List ℕ)
   pub held : Option (List ℕ)
 
-abbrev pub feed_state : {S K : Type 0} → Published → Option (List (Option (S × K))) → Option (List Endpoint) → ℕ → Option (List ℕ) → Option (List ℕ) → FeedState S K
-feed_state published fetches fetched fetch_faults ids held = record { published = published; fetches = fetches; fetched = fetched; fetch_faults = fetch_faults; ids = ids; held = held }
+abbrev pub feed_state : {S K : Type 0} → Published → Option (List (Option (S × K))) →
+    Option (List Endpoint) → ℕ → Option (List ℕ) → Option (List ℕ) → FeedState S K
+feed_state published fetches fetched fetch_faults ids held =
+    record {
+      published = published;
+      fetches = fetches;
+      fetched = fetched;
+      fetch_faults = fetch_faults;
+      ids = ids;
+      held = held;
+    }
 
 -- a zone that was polled, and what that gave: that it is current, what was published, or why nothing was
 pub record ZonePoll : Type 0 where
@@ -50,7 +61,8 @@ pub record ZonePoll : Type 0 where
 
 -- A zone is polled over a connection, in a message of the ID that comes next. A fault of reading or of writing comes only where the
 -- connection isn't known to be steady.
-pub record PollsOver {S K : Type 0} (views : ConnectionViews S K) (poll : ZonePoll) (stream : S × K) (old new : Published) (ids ids_then : Option (List ℕ)) : Type 0 where
+pub record PollsOver {S K : Type 0} (views : ConnectionViews S K) (poll : ZonePoll) (stream : S × K)
+    (old new : Published) (ids ids_then : Option (List ℕ)) : Type 0 where
   pub id : ℕ
   pub next : ComesNext ids id ids_then
   pub plain : PlainZone
@@ -66,13 +78,17 @@ pub record PollsOver {S K : Type 0} (views : ConnectionViews S K) (poll : ZonePo
   pub writes : poll.outcome ≡ Err zone_fault.Write → views.sink_steady stream.1 → ⊥
 
 -- what a poll gives by what `fetch` gave: without a connection nothing is asked, and nothing changes
-abbrev pub PollsFetched : {S K : Type 0} → ConnectionViews S K → ZonePoll → Result (S × K) WireError → Published → Published → Option (List ℕ) → Option (List ℕ) → Type 0
-PollsFetched views poll (Ok stream) old new ids ids_then = PollsOver views poll stream old new ids ids_then
-PollsFetched views poll (Err wire.Failed) old new ids ids_then = (poll.outcome ≡ Err zone_fault.Fetch) × (new ≡ old) × (ids_then ≡ ids)
+abbrev pub PollsFetched : {S K : Type 0} → ConnectionViews S K → ZonePoll →
+    Result (S × K) WireError → Published → Published → Option (List ℕ) → Option (List ℕ) → Type 0
+PollsFetched views poll (Ok stream) old new ids ids_then =
+    PollsOver views poll stream old new ids ids_then
+PollsFetched views poll (Err wire.Failed) old new ids ids_then =
+    (poll.outcome ≡ Err zone_fault.Fetch) × (new ≡ old) × (ids_then ≡ ids)
 PollsFetched views poll (Err wire.OutOfMemory) old new ids ids_then = ⊥
 
 -- A connection to the zone's primary is fetched, the zone is polled over it, and these bytes are written.
-pub record WritesPoll {S K : Type 0} (views : ConnectionViews S K) (before : FeedState S K) (poll : ZonePoll) (written : List ℕ) (after : FeedState S K) : Type 0 where
+pub record WritesPoll {S K : Type 0} (views : ConnectionViews S K) (before : FeedState S K)
+    (poll : ZonePoll) (written : List ℕ) (after : FeedState S K) : Type 0 where
   pub stream : Result (S × K) WireError
   pub takes : TakesEndpoint before.fetched poll.zone.primary stream after.fetched
   pub gives : HandsOut before.fetches stream after.fetches
@@ -82,12 +98,17 @@ pub record WritesPoll {S K : Type 0} (views : ConnectionViews S K) (before : Fee
   pub written_is : after.held ≡ appended before.held written
 
 -- a zone is polled, and its line is written
-abbrev pub PollsZone : {S K : Type 0} → ConnectionViews S K → FeedState S K → ZonePoll → FeedState S K → Type 0
-PollsZone views before poll after = WritesPoll views before poll (poll_line poll.zone.number poll.outcome) after
+abbrev pub PollsZone : {S K : Type 0} → ConnectionViews S K → FeedState S K → ZonePoll →
+    FeedState S K → Type 0
+PollsZone views before poll after =
+    WritesPoll views before poll (poll_line poll.zone.number poll.outcome) after
 
 -- a zone is polled, and the first bytes of its line are written, from none to all
-abbrev pub BeginsPoll : {S K : Type 0} → ConnectionViews S K → FeedState S K → FeedState S K → Type 0
-BeginsPoll views before after = (poll : ZonePoll) × (n : ℕ) × WritesPoll views before poll (take n (poll_line poll.zone.number poll.outcome)) after
+abbrev pub BeginsPoll : {S K : Type 0} → ConnectionViews S K → FeedState S K → FeedState S K →
+    Type 0
+BeginsPoll views before after =
+    (poll : ZonePoll) × (n : ℕ)
+    × WritesPoll views before poll (take n (poll_line poll.zone.number poll.outcome)) after
 
 -- the zones that were polled, in order; the last stands first in the stages
 abbrev pub zones_of : {S K : Type 0} → List (Stage (FeedState S K) ZonePoll) → List ZoneSource
@@ -95,7 +116,8 @@ zones_of [] = []
 zones_of (stage ∷ stages) = zones_of stages ++ stage.turn.zone ∷ []
 
 -- these zones are polled one after another, and the line of each is written
-pub record PollsZones {S K : Type 0} (views : ConnectionViews S K) (before : FeedState S K) (zones : List ZoneSource) (after : FeedState S K) : Type 0 where
+pub record PollsZones {S K : Type 0} (views : ConnectionViews S K) (before : FeedState S K)
+    (zones : List ZoneSource) (after : FeedState S K) : Type 0 where
   pub stages : List (Stage (FeedState S K) ZonePoll)
   pub chain : Chain (PollsZone views) before stages after
   pub zones_are : zones_of stages ≡ zones
@@ -116,4 +138,5 @@ IsNumbered count zone = (1 ≤ zone.number) × (zone.number ≤ count)
 -- the zones of these primaries, numbered from this one on
 abbrev pub sources_from : ℕ → List Endpoint → List ZoneSource
 sources_from number [] = []
-sources_from number (primary ∷ primaries) = record { number = number; primary = primary } ∷ sources_from (number + 1) primaries
+sources_from number (primary ∷ primaries) =
+    record { number = number; primary = primary } ∷ sources_from (number + 1) primaries

@@ -29,22 +29,29 @@ abbrev pub AreTaken : List (String Global) → Type 0
 AreTaken words = takes rpz_app (argv words) ≡ true
 
 -- a server's run that ended early: its status says why
-pub record StopsBy {S K : Type 0} (status : Status) (views : ConnectionViews S K) (before : FeedState S K) (turns : ℕ) (zones : List ZoneSource) (held : Option (List ℕ)) : Type 0 where
+pub record StopsBy {S K : Type 0} (status : Status) (views : ConnectionViews S K)
+    (before : FeedState S K) (turns : ℕ) (zones : List ZoneSource) (held : Option (List ℕ)) : Type
+    0 where
   pub why : ServeError
   pub status_is : status ≡ status_of_error why
   pub stops : StopsServing views why before turns zones held
 
 -- The script was read to its end, each line is of the form, and its transcript was written.
 abbrev pub IsWholeScript : List ℕ → Option (List ℕ) → Option (List ℕ) → Option (List ℕ) → Type 0
-IsWholeScript script left held_before held_after = (left ≡ Some []) × IsOk (verdict script) × (held_after ≡ appended held_before (transcript script))
+IsWholeScript script left held_before held_after =
+    (left ≡ Some []) × IsOk (verdict script)
+    × (held_after ≡ appended held_before (transcript script))
 
 -- The line is the first that is refused, and what the lines before it output was written.
 abbrev pub IsFirstBadLine : List ℕ → ℕ → LineFault → Option (List ℕ) → Option (List ℕ) → Type 0
-IsFirstBadLine script line why held_before held_after = (verdict script ≡ Err (line, why)) × (held_after ≡ appended held_before (transcript script))
+IsFirstBadLine script line why held_before held_after =
+    (verdict script ≡ Err (line, why)) × (held_after ≡ appended held_before (transcript script))
 
 -- each line whose line feed was read is of the form, and what these lines output was written
 abbrev pub AnswersWholeLines : List ℕ → List ℕ → Type 0
-AnswersWholeLines read written = (end : ℕ × ScriptWorld) × (run_of too_many too_long step (1, start) (whole_lines read) ≡ (written, Ok end))
+AnswersWholeLines read written =
+    (end : ℕ × ScriptWorld)
+    × (run_of too_many too_long step (1, start) (whole_lines read) ≡ (written, Ok end))
 
 -- what was written begins the transcript of what was read
 abbrev pub BeginsTranscript : List ℕ → List ℕ → Type 0
@@ -56,9 +63,13 @@ IsVerdict (Ok end) status = status ≡ Done
 IsVerdict (Err bad) status = status ≡ BadLine bad.0 bad.1
 
 -- how a replay ends
-abbrev pub Ends : Result (Unit {0}) (Stop LineFault) → Option (List ℕ) → Option (List ℕ) → Option (List ℕ) → Option (List ℕ) → Type 0
-Ends (Ok u) left_before left_after held_before held_after = IfSome left_before (λ script. IsWholeScript script left_after held_before held_after)
-Ends (Err (stop.BadLine line why)) left_before left_after held_before held_after = IfSome left_before (λ script. IsFirstBadLine script line why held_before held_after)
-Ends (Err stop.ReadFault) left_before left_after held_before held_after = Moves left_before left_after held_before held_after AnswersWholeLines
+abbrev pub Ends : Result (Unit {0}) (Stop LineFault) → Option (List ℕ) → Option (List ℕ) →
+    Option (List ℕ) → Option (List ℕ) → Type 0
+Ends (Ok u) left_before left_after held_before held_after =
+    IfSome left_before (λ script. IsWholeScript script left_after held_before held_after)
+Ends (Err (stop.BadLine line why)) left_before left_after held_before held_after =
+    IfSome left_before (λ script. IsFirstBadLine script line why held_before held_after)
+Ends (Err stop.ReadFault) left_before left_after held_before held_after =
+    Moves left_before left_after held_before held_after AnswersWholeLines
 Ends (Err stop.WriteFault) left_before left_after held_before held_after = ⊤
 Ends (Err stop.OutOfMemory) left_before left_after held_before held_after = ⊤

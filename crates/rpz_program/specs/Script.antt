@@ -47,7 +47,8 @@ abbrev pub event_of : Line → Option Event
 event_of (Zone origin) = None
 event_of (Transfer zone stream) = Some (event.Transfer zone stream)
 event_of (Full zone) = Some (event.Full zone)
-event_of (Query worker transport client message) = Some (event.Query worker transport client message)
+event_of (Query worker transport client message) =
+    Some (event.Query worker transport client message)
 event_of (Give worker message) = Some (event.Give worker message)
 event_of (Fail worker) = Some (event.Fail worker)
 event_of (Clock seconds) = Some (event.Clock seconds)
@@ -78,7 +79,8 @@ shown_octets None = []
 shown_octets (Some s) = shown_line s
 
 -- a step of the core as a line of the transcript, or why its line is refused
-abbrev pub shown_outcome : {S : Type 0} → Result (S × Output) CoreFault → Result (S × List ℕ) LineFault
+abbrev pub shown_outcome : {S : Type 0} → Result (S × Output) CoreFault →
+    Result (S × List ℕ) LineFault
 shown_outcome (Ok next) = Ok (next.0, shown_octets (shown_of next.1))
 shown_outcome (Err fault) = Err (why_of fault)
 
@@ -89,20 +91,23 @@ zone_outcome (running world) origin = Err why.Late
 
 -- any other line is an event of the core
 abbrev pub event_outcome : ScriptWorld → Event → Result (ScriptWorld × List ℕ) LineFault
-event_outcome world event = outcome_along running (shown_outcome (world_step (world_in world) event))
+event_outcome world event =
+    outcome_along running (shown_outcome (world_step (world_in world) event))
 
 -- the world after a line, and what the line writes; or why it is refused
 unfoldable pub line_outcome : ScriptWorld → Line → Result (ScriptWorld × List ℕ) LineFault
 line_outcome world (Zone origin) = zone_outcome world origin
 line_outcome world (Transfer zone stream) = event_outcome world (event.Transfer zone stream)
 line_outcome world (Full zone) = event_outcome world (event.Full zone)
-line_outcome world (Query worker transport client message) = event_outcome world (event.Query worker transport client message)
+line_outcome world (Query worker transport client message) =
+    event_outcome world (event.Query worker transport client message)
 line_outcome world (Give worker message) = event_outcome world (event.Give worker message)
 line_outcome world (Fail worker) = event_outcome world (event.Fail worker)
 line_outcome world (Clock seconds) = event_outcome world (event.Clock seconds)
 
 -- the same of the bytes of a line: nothing where it is skipped
-abbrev pub text_outcome : ScriptWorld → Result (Option Line) LineFault → Result (ScriptWorld × List ℕ) LineFault
+abbrev pub text_outcome : ScriptWorld → Result (Option Line) LineFault →
+    Result (ScriptWorld × List ℕ) LineFault
 text_outcome world (Err why) = Err why
 text_outcome world (Ok None) = Ok (world, [])
 text_outcome world (Ok (Some line)) = line_outcome world line
@@ -128,4 +133,5 @@ verdict script = fold.verdict too_many too_long step start script
 -- The worlds that scripts reach.
 pub data IsReached : ScriptWorld → Type 0 where
   at_start : IsReached start
-  after_line : (world next : ScriptWorld) (text out : List ℕ) → IsReached world → step world text ≡ Ok (next, out) → IsReached next
+  after_line : (world next : ScriptWorld) (text out : List ℕ) → IsReached world →
+      step world text ≡ Ok (next, out) → IsReached next

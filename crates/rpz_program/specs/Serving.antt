@@ -39,9 +39,11 @@ linked_with linked at (suc n) = one_more (linked_with linked at n) at
 
 -- what was written of the line of the poll that ended early: its first bytes where the output has failed or took no more, else
 -- nothing
-abbrev pub EndsPolls : {S K : Type 0} → ConnectionViews S K → ServeError → FeedState S K → FeedState S K → Type 0
+abbrev pub EndsPolls : {S K : Type 0} → ConnectionViews S K → ServeError → FeedState S K →
+    FeedState S K → Type 0
 EndsPolls views error.WriteFault before after = BeginsPoll views before after
-EndsPolls views error.OutOfMemory before after = (after.held ≡ before.held) ⊎ BeginsPoll views before after
+EndsPolls views error.OutOfMemory before after =
+    (after.held ≡ before.held) ⊎ BeginsPoll views before after
 EndsPolls views why before after = after.held ≡ before.held
 
 -- why a poll may end a run: a failed write of its line, or out of memory
@@ -51,14 +53,17 @@ IsOfPolls error.OutOfMemory = ⊤
 IsOfPolls why = ⊥
 
 -- Polls that ended early: the first of these zones were polled.
-pub record StopsPolls {S K : Type 0} (views : ConnectionViews S K) (why : ServeError) (before : FeedState S K) (zones : List ZoneSource) (after : FeedState S K) : Type 0 where
+pub record StopsPolls {S K : Type 0} (views : ConnectionViews S K) (why : ServeError)
+    (before : FeedState S K) (zones : List ZoneSource) (after : FeedState S K) : Type 0 where
   pub count : ℕ
   pub middle : FeedState S K
   pub polled : PollsZones views before (take count zones) middle
   pub ends : EndsPolls views why middle after
 
 -- Turns that ended early: so many whole rounds of polls were done, and the first zones of one more were polled.
-pub record StopsTurns {S K : Type 0} (views : ConnectionViews S K) (why : ServeError) (before : FeedState S K) (turns : ℕ) (zones : List ZoneSource) (after : FeedState S K) : Type 0 where
+pub record StopsTurns {S K : Type 0} (views : ConnectionViews S K) (why : ServeError)
+    (before : FeedState S K) (turns : ℕ) (zones : List ZoneSource) (after : FeedState S K) : Type
+    0 where
   pub whole : ℕ
   pub at_most : whole ≤ round_count turns
   pub count : ℕ
@@ -68,10 +73,14 @@ pub record StopsTurns {S K : Type 0} (views : ConnectionViews S K) (why : ServeE
 
 -- the first bytes of the last line were written, from none to all
 abbrev pub BeginsServed : ℕ → Option (List ℕ) → Option (List ℕ) → Type 0
-BeginsServed turns before after = (sums : Sums) × WritesPrefix (served_line turns sums.replies sums.silent sums.memory sums.failed) before after
+BeginsServed turns before after =
+    (sums : Sums)
+    × WritesPrefix (served_line turns sums.replies sums.silent sums.memory sums.failed) before after
 
 -- A run that ended early: what was written begins the lines of so many rounds of polls, with the last line behind them.
-pub record StopsServing {S K : Type 0} (views : ConnectionViews S K) (why : ServeError) (before : FeedState S K) (turns : ℕ) (zones : List ZoneSource) (held : Option (List ℕ)) : Type 0 where
+pub record StopsServing {S K : Type 0} (views : ConnectionViews S K) (why : ServeError)
+    (before : FeedState S K) (turns : ℕ) (zones : List ZoneSource) (held : Option (List ℕ)) : Type
+    0 where
   pub whole : ℕ
   pub at_most : whole ≤ round_count turns
   pub count : ℕ
@@ -82,12 +91,16 @@ pub record StopsServing {S K : Type 0} (views : ConnectionViews S K) (why : Serv
   pub held_is : held ≡ after.held
 
 -- A whole run: all zones were polled at its start and after each 64th arrival, the reports of all workers were gathered, and the
--- line of their sums was written. Arrivals that came back from a worker's channel count as those for which memory ran out.
-pub record ServesWhole {S K : Type 0} (views : ConnectionViews S K) (before : FeedState S K) (turns : ℕ) (zones : List ZoneSource) (workers : ℕ) (gathered gathered_then : Option (List Report)) (held : Option (List ℕ)) : Type 0 where
+-- line of their sums was written. Arrivals that came back from the queue count as those for which memory ran out.
+pub record ServesWhole {S K : Type 0} (views : ConnectionViews S K) (before : FeedState S K)
+    (turns : ℕ) (zones : List ZoneSource) (workers : ℕ)
+    (gathered gathered_then : Option (List Report)) (held : Option (List ℕ)) : Type 0 where
   pub middle : FeedState S K
   pub polled : PollsZones views before (rounds (round_count turns) zones) middle
   pub sums : Sums
   pub gathers : GathersAll workers gathered gathered_then sums
   pub returned : ℕ
   pub at_most : returned ≤ turns
-  pub written : held ≡ appended middle.held (served_line turns sums.replies sums.silent (saturated sums.memory returned) sums.failed)
+  pub written : held
+      ≡ appended middle.held
+      (served_line turns sums.replies sums.silent (saturated sums.memory returned) sums.failed)

@@ -25,7 +25,8 @@ stage_of (running world) = Running (state_of world)
 
 abbrev pub state_in : Stage → PlainState
 state_in (Opening origins) = state.opening origins
-state_in (Running core) = state.running (length core.policy.zones) (map is_some core.sessions.workers)
+state_in (Running core) =
+    state.running (length core.policy.zones) (map is_some core.sessions.workers)
 
 abbrev pub core_in : Stage → CoreState
 core_in (Opening origins) = new_core origins
@@ -42,7 +43,8 @@ unfoldable pub stage_line : Stage → Line → Result (Stage × List ℕ) LineFa
 stage_line stage (Zone origin) = stage_zone stage origin
 stage_line stage (Transfer zone stream) = stage_event stage (event.Transfer zone stream)
 stage_line stage (Full zone) = stage_event stage (event.Full zone)
-stage_line stage (Query worker transport client message) = stage_event stage (event.Query worker transport client message)
+stage_line stage (Query worker transport client message) =
+    stage_event stage (event.Query worker transport client message)
 stage_line stage (Give worker message) = stage_event stage (event.Give worker message)
 stage_line stage (Fail worker) = stage_event stage (event.Fail worker)
 stage_line stage (Clock seconds) = stage_event stage (event.Clock seconds)

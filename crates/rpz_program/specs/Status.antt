@@ -25,7 +25,8 @@ code_of OutOfMemory = 9
 abbrev pub text_of : Status → Option (List ℕ)
 text_of Done = None
 text_of Usage = Some (codes "rpz: usage")
-text_of (BadLine number why) = Some (codes "rpz: line " ++ (decimal number ++ (codes ": " ++ why_text why)))
+text_of (BadLine number why) =
+    Some (codes "rpz: line " ++ (decimal number ++ (codes ": " ++ why_text why)))
 text_of ReadFault = Some (codes "rpz: read fault")
 text_of WriteFault = Some (codes "rpz: write fault")
 text_of SocketFault = Some (codes "rpz: socket fault")

@@ -30,7 +30,8 @@ gathered_with gathered [] = gathered
 gathered_with gathered (report ∷ reports) = one_more (gathered_with gathered reports) report
 
 -- All workers that were waited for were gathered, and these are the sums of their reports.
-pub record GathersAll (waiting : ℕ) (before after : Option (List Report)) (sums : Sums) : Type 0 where
+pub record GathersAll (waiting : ℕ) (before after : Option (List Report)) (sums : Sums) : Type
+    0 where
   pub reports : List Report
   pub all : length reports ≡ waiting
   pub gathered : after ≡ gathered_with before reports

@@ -37,8 +37,10 @@ pub(crate) fn load<R: Threads + Sync, K: Sink>(
 ) -> Result<(), LoadError>
     requires { IsLoadable settings }
     ensures ok { OnOk result (K.held out.new ≡ appended (K.held out.old) (load_line settings)) }
-    ensures err { OnErr result (WritesPrefix (load_line settings) (K.held out.old) (K.held out.new)) }
-    ensures failed { result ≡ Err LoadError.WriteFault → Rose (K.faults out.old) (K.faults out.new) }
+    ensures err { OnErr result
+        (WritesPrefix (load_line settings) (K.held out.old) (K.held out.new)) }
+    ensures failed { result ≡ Err LoadError.WriteFault →
+        Rose (K.faults out.old) (K.faults out.new) }
 {
     let line = line_of(rt, alloc, settings)?;
     match write_all(out, line.as_slice()) {

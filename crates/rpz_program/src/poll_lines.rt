@@ -72,7 +72,8 @@ pub(crate) fn served_text(
     memory: u64,
     failed: u64,
 ) -> Result<String, AllocError>
-    ensures { IfOk result (λ text. string_bytes text ≡ served_line turns replies silent memory failed) }
+    ensures { IfOk result
+        (λ text. string_bytes text ≡ served_line turns replies silent memory failed) }
 {
     format!(in alloc;
         "served {turns} reply {replies} silent {silent} memory {memory} failed {failed}\n"

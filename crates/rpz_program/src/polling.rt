@@ -9,13 +9,11 @@ ghost use Rattle.rpz_program.specs.Wires.{OnlyFetches};
 
 use crate::poll_lines::{PollOutcome, outcome_of, poll_text};
 use crate::serve_error::ServeError;
-use crate::telling::tell_new;
+use crate::telling::Queues;
 use crate::zone_source::ZoneSource;
-use crossbeam_channel::Sender;
 use edge_io::{Ids, Sink, SinkError, WireError, Wires, write_all};
 use policy_feed::poll_zone;
 use policy_publish::{Publisher, StoreName};
-use rpz_workers::Item;
 use script_codec::ZoneFault;
 use std::alloc::{AllocError, Global};
 use std::sync::Wait;
@@ -61,11 +59,14 @@ fn write_line<K: Sink>(
     outcome: PollOutcome,
     out: &mut K,
 ) -> Result<(), ServeError>
-    ensures ok { OnOk result (K.held out.new ≡ appended (K.held out.old) (poll_line number outcome)) }
-    ensures err { OnErr result (WritesPrefix (poll_line number outcome) (K.held out.old) (K.held out.new)) }
+    ensures ok { OnOk result
+        (K.held out.new ≡ appended (K.held out.old) (poll_line number outcome)) }
+    ensures err { OnErr result
+        (WritesPrefix (poll_line number outcome) (K.held out.old) (K.held out.new)) }
     ensures only { IfErr result IsOfPolls }
     ensures count { K.faults out.old ≤ K.faults out.new }
-    ensures failed { result ≡ Err ServeError.WriteFault → Rose (K.faults out.old) (K.faults out.new) }
+    ensures failed { result ≡ Err ServeError.WriteFault →
+        Rose (K.faults out.old) (K.faults out.new) }
 {
     let text = poll_text(alloc, number, outcome)?;
     match write_all(out, text.as_slice()) {
@@ -103,7 +104,8 @@ fn poll_one<N: StoreName, W: Wires, I: Ids, K: Sink, R: Wait>(
     ensures kept { OnlyFetches W.faults W.bound W.linked wires.old wires.new }
     ensures only { IfErr result IsOfPolls }
     ensures count { K.faults out.old ≤ K.faults out.new }
-    ensures failed { result ≡ Err ServeError.WriteFault → Rose (K.faults out.old) (K.faults out.new) }
+    ensures failed { result ≡ Err ServeError.WriteFault →
+        Rose (K.faults out.old) (K.faults out.new) }
 {
     let fetched = wires.fetch(zone.primary);
     let outcome = poll_fetched::<N, W, I, R>(rt, alloc, publisher, zone, fetched, ids)?;
@@ -120,7 +122,7 @@ pub(crate) fn poll_all<N: StoreName, W: Wires, I: Ids, K: Sink, R: Wait>(
     wires: &mut W,
     ids: &mut I,
     out: &mut K,
-    workers: &[Sender<Item<N, W::In, W::Out>>],
+    queues: &Queues<N, W::In, W::Out>,
 ) -> Result<(), ServeError>
     requires { All (IsNumbered (length publisher.old.version.zones)) zones.now }
     ensures ok { OnOk result (PollsZones
@@ -141,11 +143,12 @@ pub(crate) fn poll_all<N: StoreName, W: Wires, I: Ids, K: Sink, R: Wait>(
     ensures kept { OnlyFetches W.faults W.bound W.linked wires.old wires.new }
     ensures only { IfErr result IsOfPolls }
     ensures count { K.faults out.old ≤ K.faults out.new }
-    ensures failed { result ≡ Err ServeError.WriteFault → Rose (K.faults out.old) (K.faults out.new) }
+    ensures failed { result ≡ Err ServeError.WriteFault →
+        Rose (K.faults out.old) (K.faults out.new) }
 {
     for zone in zones {
         let outcome = poll_one(rt, alloc, publisher, zone, wires, ids, out)?;
-        tell_new(rt, publisher, outcome, workers);
+        queues.tell_new(rt, publisher, outcome);
     }
     Ok(())
 }

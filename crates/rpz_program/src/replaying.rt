@@ -20,12 +20,15 @@ pub(crate) fn replay_script<S: Source, K: Sink>(
     script: &mut S,
     out: &mut K,
 ) -> Result<(), Stop<LineFault>>
-    ensures ends { Ends result (S.left script.old) (S.left script.new) (K.held out.old) (K.held out.new) }
+    ensures ends { Ends result (S.left script.old) (S.left script.new) (K.held out.old)
+        (K.held out.new) }
     ensures no_further { (line : ℕ) (why : LineFault) → result ≡ Err (Stop.BadLine line why) →
         ReadsNoFurther line (S.left script.old) (S.left script.new) }
-    ensures prefix { Moves (S.left script.old) (S.left script.new) (K.held out.old) (K.held out.new) BeginsTranscript }
+    ensures prefix { Moves (S.left script.old) (S.left script.new) (K.held out.old) (K.held out.new)
+        BeginsTranscript }
     ensures fault { IfErr result
-        (λ stop. Blames stop (Rose (S.faults script.old) (S.faults script.new)) (Rose (K.faults out.old) (K.faults out.new))) }
+        (λ stop. Blames stop (Rose (S.faults script.old) (S.faults script.new))
+        (Rose (K.faults out.old) (K.faults out.new))) }
 {
     let mut stage = Stage::new(alloc);
     replay(alloc, &mut stage, script, out)

@@ -51,15 +51,19 @@ pub fn run<
 ) -> Status
     // The words are refused only where they are none of the command set, and then nothing is touched.
     ensures usage { result ≡ Status.Usage → AreTaken words.now → command_in words.now ≡ None }
-    ensures command { result ≢ Status.Usage → result ≢ Status.OutOfMemory → IsSome (command_in words.now) }
-    ensures untouched { result ≡ Status.Usage → (S.left script.new ≡ S.left script.old) × (K.held out.new ≡ K.held out.old) }
+    ensures command { result ≢ Status.Usage → result ≢ Status.OutOfMemory →
+        IsSome (command_in words.now) }
+    ensures untouched { result ≡ Status.Usage →
+        (S.left script.new ≡ S.left script.old) × (K.held out.new ≡ K.held out.old) }
 
     // The whole script was read, and its transcript written.
-    ensures done { result ≡ Status.Done → command_in words.now ≡ Some Replay → IfSome (S.left script.old) (λ bytes.
+    ensures done { result ≡ Status.Done → command_in words.now ≡ Some Replay →
+        IfSome (S.left script.old) (λ bytes.
         IsWholeScript bytes (S.left script.new) (K.held out.old) (K.held out.new)) }
 
     // The line is the first that is refused, and the transcript up to it was written.
-    ensures bad_line { (line : ℕ) (why : _) → result ≡ Status.BadLine line why → IfSome (S.left script.old) (λ bytes.
+    ensures bad_line { (line : ℕ) (why : _) → result ≡ Status.BadLine line why →
+        IfSome (S.left script.old) (λ bytes.
         IsFirstBadLine bytes line why (K.held out.old) (K.held out.new)) }
 
     // No more was read than the chunk of 8,192 bytes in which that line ends.
@@ -68,32 +72,42 @@ pub fn run<
 
     // After a fault of the source, each line whose line feed was read is answered.
     ensures read_fault { result ≡ Status.ReadFault →
-        Moves (S.left script.old) (S.left script.new) (K.held out.old) (K.held out.new) AnswersWholeLines }
+        Moves (S.left script.old) (S.left script.new) (K.held out.old) (K.held out.new)
+        AnswersWholeLines }
 
     // Whatever happens, what was written begins the transcript of what was read; nothing is polled or served.
     ensures prefix { command_in words.now ≡ Some Replay →
-        Moves (S.left script.old) (S.left script.new) (K.held out.old) (K.held out.new) BeginsTranscript }
-    ensures alone { command_in words.now ≡ Some Replay → (wires.new ≡ wires.old) × (spawner.new ≡ spawner.old) }
+        Moves (S.left script.old) (S.left script.new) (K.held out.old) (K.held out.new)
+        BeginsTranscript }
+    ensures alone { command_in words.now ≡ Some Replay →
+        (wires.new ≡ wires.old) × (spawner.new ≡ spawner.old) }
 
     // With no fault and with memory, a script of the grammar is done, and another is refused at its first bad line.
     ensures complete { command_in words.now ≡ Some Replay → AreTaken words.now →
-        (Rose (S.faults script.old) (S.faults script.new) → ⊥) → (Rose (K.faults out.old) (K.faults out.new) → ⊥) →
-        result ≢ Status.OutOfMemory → IfSome (S.left script.old) (λ bytes. IsVerdict (verdict bytes) result) }
+        (Rose (S.faults script.old) (S.faults script.new) → ⊥) →
+        (Rose (K.faults out.old) (K.faults out.new) → ⊥) →
+        result ≢ Status.OutOfMemory →
+        IfSome (S.left script.old) (λ bytes. IsVerdict (verdict bytes) result) }
 
     // All zones were polled at the start and after each 64th arrival, the workers were gathered, and the line of their sums was written.
-    ensures served { result ≡ Status.Done → (settings : Settings) → command_in words.now ≡ Some (Serve settings) →
+    ensures served { result ≡ Status.Done → (settings : Settings) →
+        command_in words.now ≡ Some (Serve settings) →
         ServesWhole (connection_views W.In.left W.In.steady W.Out.held W.Out.steady)
         (feed_state (opening (origins_in settings)) (W.fetches wires.old) (W.fetched wires.old)
         (W.fetch_faults wires.old) (I.ids ids.old) (K.held out.old))
-        settings.turns (sources_from 1 (primaries_in settings)) (P.waiting spawner.old + settings.workers)
+        settings.turns (sources_from 1 (primaries_in settings))
+        (P.waiting spawner.old + settings.workers)
         (P.gathered spawner.old) (P.gathered spawner.new) (K.held out.new) }
-    ensures bound { result ≡ Status.Done → (settings : Settings) → command_in words.now ≡ Some (Serve settings) →
+    ensures bound { result ≡ Status.Done → (settings : Settings) →
+        command_in words.now ≡ Some (Serve settings) →
         W.bound wires.new ≡ one_more (W.bound wires.old) settings.listen }
-    ensures linked { result ≡ Status.Done → (settings : Settings) → command_in words.now ≡ Some (Serve settings) →
+    ensures linked { result ≡ Status.Done → (settings : Settings) →
+        command_in words.now ≡ Some (Serve settings) →
         W.linked wires.new ≡ linked_with (W.linked wires.old) settings.upstream settings.workers }
 
     // However a server ends, what was written begins such lines, and no worker that it started is left.
-    ensures stopped { result ≢ Status.Done → result ≢ Status.Usage → (settings : Settings) → command_in words.now ≡ Some (Serve settings) →
+    ensures stopped { result ≢ Status.Done → result ≢ Status.Usage → (settings : Settings) →
+        command_in words.now ≡ Some (Serve settings) →
         StopsBy result (connection_views W.In.left W.In.steady W.Out.held W.Out.steady)
         (feed_state (opening (origins_in settings)) (W.fetches wires.old) (W.fetched wires.old)
         (W.fetch_faults wires.old) (I.ids ids.old) (K.held out.old))
@@ -101,18 +115,25 @@ pub fn run<
     ensures gathered { P.waiting spawner.new ≤ P.waiting spawner.old }
 
     // It blames the source, the sink, a socket or a thread only where a call on it failed.
-    ensures source_failed { result ≡ Status.ReadFault → Rose (S.faults script.old) (S.faults script.new) }
+    ensures source_failed { result ≡ Status.ReadFault →
+        Rose (S.faults script.old) (S.faults script.new) }
     ensures sink_failed { result ≡ Status.WriteFault → Rose (K.faults out.old) (K.faults out.new) }
-    ensures socket_failed { result ≡ Status.SocketFault → Rose (W.faults wires.old) (W.faults wires.new) }
-    ensures start_failed { result ≡ Status.StartFault → Rose (P.faults spawner.old) (P.faults spawner.new) }
+    ensures socket_failed { result ≡ Status.SocketFault →
+        Rose (W.faults wires.old) (W.faults wires.new) }
+    ensures start_failed { result ≡ Status.StartFault →
+        Rose (P.faults spawner.old) (P.faults spawner.new) }
 
     // With no fault but of fetches, and with memory, a server is done.
-    ensures complete_server { (settings : Settings) → command_in words.now ≡ Some (Serve settings) → AreTaken words.now →
-        (Rose (K.faults out.old) (K.faults out.new) → ⊥) → (Rose (W.faults wires.old) (W.faults wires.new) → ⊥) →
-        (Rose (P.faults spawner.old) (P.faults spawner.new) → ⊥) → result ≢ Status.OutOfMemory → result ≡ Status.Done }
+    ensures complete_server { (settings : Settings) → command_in words.now ≡ Some (Serve settings) →
+        AreTaken words.now →
+        (Rose (K.faults out.old) (K.faults out.new) → ⊥) →
+        (Rose (W.faults wires.old) (W.faults wires.new) → ⊥) →
+        (Rose (P.faults spawner.old) (P.faults spawner.new) → ⊥) → result ≢ Status.OutOfMemory →
+        result ≡ Status.Done }
 
     // The line of a load run was written, which knows nothing of the number of workers.
-    ensures loaded { result ≡ Status.Done → (settings : LoadSettings) → command_in words.now ≡ Some (Load settings) →
+    ensures loaded { result ≡ Status.Done → (settings : LoadSettings) →
+        command_in words.now ≡ Some (Load settings) →
         K.held out.new ≡ appended (K.held out.old) (load_line settings) }
 
     // However a load run ends, what was written begins that line; nothing is read, opened or started.
@@ -120,11 +141,14 @@ pub fn run<
         WritesPrefix (load_line settings) (K.held out.old) (K.held out.new) }
     ensures load_alone { (settings : LoadSettings) → command_in words.now ≡ Some (Load settings) →
         (script.new ≡ script.old) × (wires.new ≡ wires.old) × (spawner.new ≡ spawner.old) }
-    ensures ends_load { (settings : LoadSettings) → command_in words.now ≡ Some (Load settings) → EndsLoad result }
+    ensures ends_load { (settings : LoadSettings) → command_in words.now ≡ Some (Load settings) →
+        EndsLoad result }
 
     // With no fault and with memory, a load run is done.
-    ensures complete_load { (settings : LoadSettings) → command_in words.now ≡ Some (Load settings) → AreTaken words.now →
-        (Rose (K.faults out.old) (K.faults out.new) → ⊥) → result ≢ Status.OutOfMemory → result ≡ Status.Done }
+    ensures complete_load { (settings : LoadSettings) →
+        command_in words.now ≡ Some (Load settings) → AreTaken words.now →
+        (Rose (K.faults out.old) (K.faults out.new) → ⊥) → result ≢ Status.OutOfMemory →
+        result ≡ Status.Done }
 {
     match read_words(alloc, words) {
         Ok(Command::Replay) => Status::of_replay(replay_script(alloc, script, out)),

@@ -43,20 +43,25 @@ pub fn serve<
         (connection_views W.In.left W.In.steady W.Out.held W.Out.steady)
         (feed_state (opening (origins_in settings.now)) (W.fetches wires.old) (W.fetched wires.old)
         (W.fetch_faults wires.old) (I.ids ids.old) (K.held out.old))
-        settings.now.turns (sources_from 1 (primaries_in settings.now)) (P.waiting spawner.old + settings.now.workers)
+        settings.now.turns (sources_from 1 (primaries_in settings.now))
+        (P.waiting spawner.old + settings.now.workers)
         (P.gathered spawner.old) (P.gathered spawner.new) (K.held out.new)) }
     ensures err { IfErr result (λ why. StopsServing
         (connection_views W.In.left W.In.steady W.Out.held W.Out.steady) why
         (feed_state (opening (origins_in settings.now)) (W.fetches wires.old) (W.fetched wires.old)
         (W.fetch_faults wires.old) (I.ids ids.old) (K.held out.old))
         settings.now.turns (sources_from 1 (primaries_in settings.now)) (K.held out.new)) }
-    ensures bound { OnOk result (W.bound wires.new ≡ one_more (W.bound wires.old) settings.now.listen) }
+    ensures bound { OnOk result
+        (W.bound wires.new ≡ one_more (W.bound wires.old) settings.now.listen) }
     ensures linked { OnOk result (W.linked wires.new
         ≡ linked_with (W.linked wires.old) settings.now.upstream settings.now.workers) }
     ensures waiting { P.waiting spawner.new ≤ P.waiting spawner.old }
-    ensures socket { result ≡ Err ServeError.SocketFault → Rose (W.faults wires.old) (W.faults wires.new) }
-    ensures start { result ≡ Err ServeError.StartFault → Rose (P.faults spawner.old) (P.faults spawner.new) }
-    ensures failed { result ≡ Err ServeError.WriteFault → Rose (K.faults out.old) (K.faults out.new) }
+    ensures socket { result ≡ Err ServeError.SocketFault →
+        Rose (W.faults wires.old) (W.faults wires.new) }
+    ensures start { result ≡ Err ServeError.StartFault →
+        Rose (P.faults spawner.old) (P.faults spawner.new) }
+    ensures failed { result ≡ Err ServeError.WriteFault →
+        Rose (K.faults out.old) (K.faults out.new) }
 {
     let origins = settings.zones.origins(alloc)?;
     let plan = Plan {

@@ -11,13 +11,12 @@ use crate::poll_lines::served_text;
 use crate::serve_error::ServeError;
 use crate::starting::start_all;
 use crate::sums::{Sums, gather_all};
-use crate::telling::stop_all;
+use crate::telling::Queues;
 use crate::turns::take_all;
 use crate::zone_source::ZoneSource;
-use crossbeam_channel::Sender;
 use edge_io::{Clock, Endpoint, Ids, Sink, SinkError, Spawner, Wires, write_all};
 use policy_publish::{Parts, PolicyReader, Publisher, StoreName};
-use rpz_workers::{Item, Report};
+use rpz_workers::Report;
 use std::alloc::Global;
 use std::sync::Wait;
 use std::thread::Threads;
@@ -46,7 +45,8 @@ fn write_served<K: Sink>(
     ensures err { OnErr result (BeginsServed turns (K.held out.old) (K.held out.new)) }
     ensures only { IfErr result IsOfPolls }
     ensures count { K.faults out.old ≤ K.faults out.new }
-    ensures failed { result ≡ Err ServeError.WriteFault → Rose (K.faults out.old) (K.faults out.new) }
+    ensures failed { result ≡ Err ServeError.WriteFault →
+        Rose (K.faults out.old) (K.faults out.new) }
 {
     let memory = sums.memory.saturating_add(u64::from(returned));
     let text = served_text(alloc, turns, sums.replies, sums.silent, memory, sums.failed)?;
@@ -77,14 +77,15 @@ fn run_turns<
     clock: &mut C,
     ids: &mut I,
     out: &mut K,
-    workers: &mut Vec<Sender<Item<N, W::In, W::Out>>>,
+    queues: &mut Queues<N, W::In, W::Out>,
 ) -> Result<u32, ServeError>
     requires { All (IsNumbered (length publisher.old.version.zones)) plan.now.zones.items }
     ensures ok { OnOk result ((middle : _) × PollsZones
         (connection_views W.In.left W.In.steady W.Out.held W.Out.steady)
         (feed_state publisher.old (W.fetches wires.old) (W.fetched wires.old)
         (W.fetch_faults wires.old) (I.ids ids.old) (K.held out.old))
-        (rounds (round_count plan.now.turns) plan.now.zones.items) middle × (middle.held ≡ K.held out.new)) }
+        (rounds (round_count plan.now.turns) plan.now.zones.items) middle
+        × (middle.held ≡ K.held out.new)) }
     ensures returned { IfOk result (λ returned. returned ≤ plan.now.turns) }
     ensures err { IfErr result (λ why. StopsServing
         (connection_views W.In.left W.In.steady W.Out.held W.Out.steady) why
@@ -92,15 +93,20 @@ fn run_turns<
         (W.fetch_faults wires.old) (I.ids ids.old) (K.held out.old))
         plan.now.turns plan.now.zones.items (K.held out.new)) }
     ensures bound { W.bound wires.new ≡ W.bound wires.old }
-    ensures linked { OnOk result (W.linked wires.new ≡ linked_with (W.linked wires.old) plan.now.upstream (vec_len readers)) }
-    ensures waiting { OnOk result (P.waiting spawner.new ≡ P.waiting spawner.old + vec_len readers) }
+    ensures linked { OnOk result (W.linked wires.new
+        ≡ linked_with (W.linked wires.old) plan.now.upstream (vec_len readers)) }
+    ensures waiting { OnOk result
+        (P.waiting spawner.new ≡ P.waiting spawner.old + vec_len readers) }
     ensures gathered { P.gathered spawner.new ≡ P.gathered spawner.old }
     ensures wire_count { W.faults wires.old ≤ W.faults wires.new }
     ensures start_count { P.faults spawner.old ≤ P.faults spawner.new }
     ensures count { K.faults out.old ≤ K.faults out.new }
-    ensures socket { result ≡ Err ServeError.SocketFault → Rose (W.faults wires.old) (W.faults wires.new) }
-    ensures start { result ≡ Err ServeError.StartFault → Rose (P.faults spawner.old) (P.faults spawner.new) }
-    ensures failed { result ≡ Err ServeError.WriteFault → Rose (K.faults out.old) (K.faults out.new) }
+    ensures socket { result ≡ Err ServeError.SocketFault →
+        Rose (W.faults wires.old) (W.faults wires.new) }
+    ensures start { result ≡ Err ServeError.StartFault →
+        Rose (P.faults spawner.old) (P.faults spawner.new) }
+    ensures failed { result ≡ Err ServeError.WriteFault →
+        Rose (K.faults out.old) (K.faults out.new) }
 {
     start_all(
         rt,
@@ -111,7 +117,7 @@ fn run_turns<
         spawner,
         clock,
         ids,
-        workers,
+        queues,
     )?;
     take_all(
         rt,
@@ -122,7 +128,7 @@ fn run_turns<
         wires,
         ids,
         out,
-        workers,
+        queues,
     )
 }
 
@@ -160,14 +166,18 @@ fn serve_open<
         (W.fetch_faults wires.old) (I.ids ids.old) (K.held out.old))
         plan.now.turns plan.now.zones.items (K.held out.new)) }
     ensures bound { W.bound wires.new ≡ W.bound wires.old }
-    ensures linked { OnOk result (W.linked wires.new ≡ linked_with (W.linked wires.old) plan.now.upstream (vec_len readers)) }
+    ensures linked { OnOk result (W.linked wires.new
+        ≡ linked_with (W.linked wires.old) plan.now.upstream (vec_len readers)) }
     ensures waiting { P.waiting spawner.new ≡ 0 }
     ensures wire_count { W.faults wires.old ≤ W.faults wires.new }
-    ensures socket { result ≡ Err ServeError.SocketFault → Rose (W.faults wires.old) (W.faults wires.new) }
-    ensures start { result ≡ Err ServeError.StartFault → Rose (P.faults spawner.old) (P.faults spawner.new) }
-    ensures failed { result ≡ Err ServeError.WriteFault → Rose (K.faults out.old) (K.faults out.new) }
+    ensures socket { result ≡ Err ServeError.SocketFault →
+        Rose (W.faults wires.old) (W.faults wires.new) }
+    ensures start { result ≡ Err ServeError.StartFault →
+        Rose (P.faults spawner.old) (P.faults spawner.new) }
+    ensures failed { result ≡ Err ServeError.WriteFault →
+        Rose (K.faults out.old) (K.faults out.new) }
 {
-    let mut workers = Vec::new(alloc);
+    let mut queues = Queues::new(alloc);
     let ran = run_turns(
         rt,
         alloc,
@@ -179,10 +189,10 @@ fn serve_open<
         clock,
         ids,
         out,
-        &mut workers,
+        &mut queues,
     );
-    stop_all(rt, &workers);
-    drop(workers);
+    queues.stop_all(rt);
+    drop(queues);
     let sums = gather_all(spawner);
     match ran {
         Ok(returned) => write_served(alloc, plan.turns, sums, returned, out),
@@ -224,12 +234,16 @@ pub(crate) fn serve_over<
         (W.fetch_faults wires.old) (I.ids ids.old) (K.held out.old))
         plan.now.turns plan.now.zones.items (K.held out.new)) }
     ensures bound { W.bound wires.new ≡ W.bound wires.old }
-    ensures linked { OnOk result (W.linked wires.new ≡ linked_with (W.linked wires.old) plan.now.upstream parts.readers) }
+    ensures linked { OnOk result
+        (W.linked wires.new ≡ linked_with (W.linked wires.old) plan.now.upstream parts.readers) }
     ensures waiting { P.waiting spawner.new ≤ P.waiting spawner.old }
     ensures wire_count { W.faults wires.old ≤ W.faults wires.new }
-    ensures socket { result ≡ Err ServeError.SocketFault → Rose (W.faults wires.old) (W.faults wires.new) }
-    ensures start { result ≡ Err ServeError.StartFault → Rose (P.faults spawner.old) (P.faults spawner.new) }
-    ensures failed { result ≡ Err ServeError.WriteFault → Rose (K.faults out.old) (K.faults out.new) }
+    ensures socket { result ≡ Err ServeError.SocketFault →
+        Rose (W.faults wires.old) (W.faults wires.new) }
+    ensures start { result ≡ Err ServeError.StartFault →
+        Rose (P.faults spawner.old) (P.faults spawner.new) }
+    ensures failed { result ≡ Err ServeError.WriteFault →
+        Rose (K.faults out.old) (K.faults out.new) }
 {
     let (mut publisher, readers) = parts.open::<N, R>(rt, alloc)?;
     let served = serve_open(

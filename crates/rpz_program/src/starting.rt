@@ -7,10 +7,11 @@ ghost use Rattle.rpz_program.specs.Serving.{linked_with};
 ghost use Rattle.rpz_program.specs.Wires.{FetchesNothing};
 
 use crate::serve_error::ServeError;
+use crate::telling::Queues;
 use answer_cache::{AnswerCache, MOST_ENTRIES};
-use crossbeam_channel::{Sender, unbounded};
+use crossbeam_channel::{Receiver, Sender, unbounded};
 use edge_io::{Clock, Endpoint, Ids, Spawner, StartError, WireError, Wires};
-use policy_publish::{PolicyReader, StoreName};
+use policy_publish::{PolicyReader, StoreName, Told};
 use rpz_workers::{ChannelItems, Item, NoGate, Report, ServeTask, Worker};
 use std::alloc::Global;
 use std::hash::{BuildHasherDefault, FoldHasher};
@@ -23,7 +24,8 @@ fn wire_worker<W: Wires>(wires: &mut W, upstream: Endpoint) -> Result<(W::Up, W:
     ensures bound { W.bound wires.new ≡ W.bound wires.old }
     ensures fetches { FetchesNothing W.fetches W.fetched W.fetch_faults wires.old wires.new }
     ensures count { W.faults wires.old ≤ W.faults wires.new }
-    ensures failed { result ≡ Err ServeError.SocketFault → Rose (W.faults wires.old) (W.faults wires.new) }
+    ensures failed { result ≡ Err ServeError.SocketFault →
+        Rose (W.faults wires.old) (W.faults wires.new) }
     ensures not_start { result ≢ Err ServeError.StartFault }
     ensures not_write { result ≢ Err ServeError.WriteFault }
 {
@@ -39,7 +41,7 @@ fn wire_worker<W: Wires>(wires: &mut W, upstream: Endpoint) -> Result<(W::Up, W:
     }
 }
 
-// Starts a worker over a channel of its own, with an empty cache.
+// Starts a worker that takes from the queue, with an empty cache.
 fn start_worker<
     N: StoreName + Send + Sync + 'static,
     W: Wires,
@@ -56,22 +58,25 @@ fn start_worker<
     spawner: &mut P,
     clock: C,
     ids: I,
-    workers: &mut Vec<Sender<Item<N, W::In, W::Out>>>,
+    items: &Receiver<Item<N, W::In, W::Out>>,
+    told: &mut Vec<Sender<Told<N>>>,
 ) -> Result<(), ServeError>
     ensures ok { OnOk result (P.waiting spawner.new ≡ P.waiting spawner.old + 1) }
     ensures err { OnErr result (P.waiting spawner.new ≡ P.waiting spawner.old) }
     ensures gathered { P.gathered spawner.new ≡ P.gathered spawner.old }
     ensures count { P.faults spawner.old ≤ P.faults spawner.new }
-    ensures failed { result ≡ Err ServeError.StartFault → Rose (P.faults spawner.old) (P.faults spawner.new) }
+    ensures failed { result ≡ Err ServeError.StartFault →
+        Rose (P.faults spawner.old) (P.faults spawner.new) }
     ensures not_socket { result ≢ Err ServeError.SocketFault }
     ensures not_write { result ≢ Err ServeError.WriteFault }
 {
     let hashers: BuildHasherDefault<FoldHasher> = BuildHasherDefault::new();
     let cache = AnswerCache::open(alloc, MOST_ENTRIES, hashers)?;
     let (sender, receiver) = unbounded(alloc)?;
-    workers.push(sender)?;
+    told.push(sender)?;
+    let items = items.clone()?;
     let worker = Worker::new(alloc, reader, cache, link, ids, NoGate);
-    let items = ChannelItems::new(*rt, receiver);
+    let items = ChannelItems::new(*rt, items, receiver);
     match spawner.start(rt, ServeTask::new(*rt, worker, items, replies, clock)) {
         Ok(()) => Ok(()),
         Err(StartError::Failed) => Err(ServeError::StartFault),
@@ -79,7 +84,7 @@ fn start_worker<
     }
 }
 
-/// Starts a worker for each reader, with a clock and IDs of its own.
+/// Opens the queue, and starts a worker for each reader, with a clock and IDs of its own.
 pub(crate) fn start_all<
     N: StoreName + Send + Sync + 'static,
     W: Wires,
@@ -96,20 +101,26 @@ pub(crate) fn start_all<
     spawner: &mut P,
     clock: &mut C,
     ids: &mut I,
-    workers: &mut Vec<Sender<Item<N, W::In, W::Out>>>,
+    queues: &mut Queues<N, W::In, W::Out>,
 ) -> Result<(), ServeError>
-    ensures linked { OnOk result (W.linked wires.new ≡ linked_with (W.linked wires.old) upstream (vec_len readers)) }
-    ensures waiting { OnOk result (P.waiting spawner.new ≡ P.waiting spawner.old + vec_len readers) }
+    ensures linked { OnOk result
+        (W.linked wires.new ≡ linked_with (W.linked wires.old) upstream (vec_len readers)) }
+    ensures waiting { OnOk result
+        (P.waiting spawner.new ≡ P.waiting spawner.old + vec_len readers) }
     ensures bound { W.bound wires.new ≡ W.bound wires.old }
     ensures fetches { FetchesNothing W.fetches W.fetched W.fetch_faults wires.old wires.new }
     ensures ids { I.ids ids.new ≡ I.ids ids.old }
     ensures gathered { P.gathered spawner.new ≡ P.gathered spawner.old }
     ensures wire_count { W.faults wires.old ≤ W.faults wires.new }
     ensures start_count { P.faults spawner.old ≤ P.faults spawner.new }
-    ensures socket { result ≡ Err ServeError.SocketFault → Rose (W.faults wires.old) (W.faults wires.new) }
-    ensures start { result ≡ Err ServeError.StartFault → Rose (P.faults spawner.old) (P.faults spawner.new) }
+    ensures socket { result ≡ Err ServeError.SocketFault →
+        Rose (W.faults wires.old) (W.faults wires.new) }
+    ensures start { result ≡ Err ServeError.StartFault →
+        Rose (P.faults spawner.old) (P.faults spawner.new) }
     ensures not_write { result ≢ Err ServeError.WriteFault }
 {
+    let (sender, items) = unbounded(alloc)?;
+    queues.items = Some(sender);
     let mut readers = readers;
     for _ in 0..readers.len() {
         let Some(reader) = readers.pop() else {
@@ -118,7 +129,16 @@ pub(crate) fn start_all<
         let (link, replies) = wire_worker(wires, upstream)?;
         let (own_clock, own_ids) = (clock.another(), ids.another());
         start_worker::<N, W, P, C, I, R>(
-            rt, alloc, reader, link, replies, spawner, own_clock, own_ids, workers,
+            rt,
+            alloc,
+            reader,
+            link,
+            replies,
+            spawner,
+            own_clock,
+            own_ids,
+            &items,
+            &mut queues.told,
         )?;
     }
     Ok(())

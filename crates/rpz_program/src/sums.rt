@@ -39,7 +39,8 @@ fn add(sums: Sums, report: Report) -> Sums
 
 /// Waits for all that was started, and adds up what they report.
 pub(crate) fn gather_all<P: Spawner<Report>>(spawner: &mut P) -> Sums
-    ensures gathers { GathersAll (P.waiting spawner.old) (P.gathered spawner.old) (P.gathered spawner.new) result }
+    ensures gathers { GathersAll (P.waiting spawner.old) (P.gathered spawner.old)
+        (P.gathered spawner.new) result }
     ensures waiting { P.waiting spawner.new ≡ 0 }
     ensures count { P.faults spawner.new ≡ P.faults spawner.old }
 {

@@ -8,9 +8,8 @@ ghost use Rattle.rpz_program.specs.Wires.{FetchesNothing, OnlyFetches, OnlyServe
 
 use crate::polling::poll_all;
 use crate::serve_error::ServeError;
-use crate::telling::hand_over;
+use crate::telling::Queues;
 use crate::zone_source::ZoneSource;
-use crossbeam_channel::Sender;
 use edge_io::{Arrival, Ids, Sink, Source, WireError, Wires};
 use ip_prefix::Transport;
 use policy_publish::{Publisher, StoreName};
@@ -42,21 +41,21 @@ fn item_of<N: StoreName, S: Source + Drop, K: Sink + Drop>(
     }
 }
 
-// Takes an arrival, hands it to the worker whose turn it is, and says whether it came back.
+// Takes an arrival, puts it into the queue of the workers, and says whether it came back.
 fn take_arrival<N: StoreName, W: Wires, R: Wait>(
     rt: &R,
-    turn: u32,
     wires: &mut W,
-    workers: &[Sender<Item<N, W::In, W::Out>>],
+    queues: &Queues<N, W::In, W::Out>,
 ) -> Result<bool, ServeError>
     ensures serves { OnlyServes W.faults W.bound W.linked wires.old wires.new }
     ensures fetches { FetchesNothing W.fetches W.fetched W.fetch_faults wires.old wires.new }
-    ensures failed { result ≡ Err ServeError.SocketFault → Rose (W.faults wires.old) (W.faults wires.new) }
+    ensures failed { result ≡ Err ServeError.SocketFault →
+        Rose (W.faults wires.old) (W.faults wires.new) }
     ensures not_start { result ≢ Err ServeError.StartFault }
     ensures not_write { result ≢ Err ServeError.WriteFault }
 {
     match wires.next() {
-        Ok(arrival) => Ok(hand_over(rt, workers, turn, item_of(arrival))),
+        Ok(arrival) => Ok(queues.hand_over(rt, item_of(arrival))),
         Err(WireError::Failed) => Err(ServeError::SocketFault),
         Err(WireError::OutOfMemory) => Err(ServeError::OutOfMemory),
     }
@@ -72,7 +71,7 @@ fn poll_due<N: StoreName, W: Wires, I: Ids, K: Sink, R: Wait>(
     wires: &mut W,
     ids: &mut I,
     out: &mut K,
-    workers: &[Sender<Item<N, W::In, W::Out>>],
+    queues: &Queues<N, W::In, W::Out>,
 ) -> Result<(), ServeError>
     requires { All (IsNumbered (length publisher.old.version.zones)) zones.now }
     ensures ok { OnOk result (PollsZones
@@ -93,10 +92,11 @@ fn poll_due<N: StoreName, W: Wires, I: Ids, K: Sink, R: Wait>(
     ensures kept { OnlyFetches W.faults W.bound W.linked wires.old wires.new }
     ensures only { IfErr result IsOfPolls }
     ensures count { K.faults out.old ≤ K.faults out.new }
-    ensures failed { result ≡ Err ServeError.WriteFault → Rose (K.faults out.old) (K.faults out.new) }
+    ensures failed { result ≡ Err ServeError.WriteFault →
+        Rose (K.faults out.old) (K.faults out.new) }
 {
     if due {
-        poll_all(rt, alloc, publisher, zones, wires, ids, out, workers)
+        poll_all(rt, alloc, publisher, zones, wires, ids, out, queues)
     } else {
         Ok(())
     }
@@ -112,7 +112,7 @@ fn take_turn<N: StoreName, W: Wires, I: Ids, K: Sink, R: Wait>(
     wires: &mut W,
     ids: &mut I,
     out: &mut K,
-    workers: &[Sender<Item<N, W::In, W::Out>>],
+    queues: &Queues<N, W::In, W::Out>,
 ) -> Result<bool, ServeError>
     requires { All (IsNumbered (length publisher.old.version.zones)) zones.now }
     ensures ok { OnOk result (PollsZones
@@ -132,13 +132,15 @@ fn take_turn<N: StoreName, W: Wires, I: Ids, K: Sink, R: Wait>(
     ensures zones { length publisher.new.version.zones ≡ length publisher.old.version.zones }
     ensures serves { OnlyServes W.faults W.bound W.linked wires.old wires.new }
     ensures not_start { result ≢ Err ServeError.StartFault }
-    ensures socket { result ≡ Err ServeError.SocketFault → Rose (W.faults wires.old) (W.faults wires.new) }
+    ensures socket { result ≡ Err ServeError.SocketFault →
+        Rose (W.faults wires.old) (W.faults wires.new) }
     ensures count { K.faults out.old ≤ K.faults out.new }
-    ensures failed { result ≡ Err ServeError.WriteFault → Rose (K.faults out.old) (K.faults out.new) }
+    ensures failed { result ≡ Err ServeError.WriteFault →
+        Rose (K.faults out.old) (K.faults out.new) }
 {
-    let returned = take_arrival(rt, turn, wires, workers)?;
+    let returned = take_arrival(rt, wires, queues)?;
     let due = turn % POLL_TURNS == POLL_TURNS - 1;
-    poll_due(rt, alloc, due, publisher, zones, wires, ids, out, workers)?;
+    poll_due(rt, alloc, due, publisher, zones, wires, ids, out, queues)?;
     Ok(returned)
 }
 
@@ -159,7 +161,7 @@ pub(crate) fn take_all<N: StoreName, W: Wires, I: Ids, K: Sink, R: Wait>(
     wires: &mut W,
     ids: &mut I,
     out: &mut K,
-    workers: &[Sender<Item<N, W::In, W::Out>>],
+    queues: &Queues<N, W::In, W::Out>,
 ) -> Result<u32, ServeError>
     requires { All (IsNumbered (length publisher.old.version.zones)) zones.now }
     ensures ok { OnOk result (PollsZones
@@ -179,14 +181,16 @@ pub(crate) fn take_all<N: StoreName, W: Wires, I: Ids, K: Sink, R: Wait>(
         (W.fetch_faults wires.new) (I.ids ids.new) (K.held out.new))) }
     ensures serves { OnlyServes W.faults W.bound W.linked wires.old wires.new }
     ensures not_start { result ≢ Err ServeError.StartFault }
-    ensures socket { result ≡ Err ServeError.SocketFault → Rose (W.faults wires.old) (W.faults wires.new) }
+    ensures socket { result ≡ Err ServeError.SocketFault →
+        Rose (W.faults wires.old) (W.faults wires.new) }
     ensures count { K.faults out.old ≤ K.faults out.new }
-    ensures failed { result ≡ Err ServeError.WriteFault → Rose (K.faults out.old) (K.faults out.new) }
+    ensures failed { result ≡ Err ServeError.WriteFault →
+        Rose (K.faults out.old) (K.faults out.new) }
 {
-    poll_all(rt, alloc, publisher, zones, wires, ids, out, workers)?;
+    poll_all(rt, alloc, publisher, zones, wires, ids, out, queues)?;
     let mut count = 0;
     for turn in 0..turns {
-        let returned = take_turn(rt, alloc, turn, publisher, zones, wires, ids, out, workers)?;
+        let returned = take_turn(rt, alloc, turn, publisher, zones, wires, ids, out, queues)?;
         count = count_returned(count, returned);
     }
     Ok(count)

@@ -11,7 +11,8 @@ use std::alloc::{AllocError, Global};
 /// The numbers and the primaries of the zones, in order.
 pub(crate) fn zone_sources(alloc: Global, zones: &Zones) -> Result<Vec<ZoneSource>, AllocError>
     requires { length zones.now ≤ ZONE_LIMIT }
-    ensures { IfOk result (λ sources. sources.items ≡ sources_from 1 (map (λ zone. zone.primary) zones.now)) }
+    ensures { IfOk result
+        (λ sources. sources.items ≡ sources_from 1 (map (λ zone. zone.primary) zones.now)) }
 {
     let mut sources = Vec::new(alloc);
     for place in 0..zones.len() {

@@ -26,7 +26,13 @@ pub record PlainWorker (L : Type 0) : Type 0 where
 
 -- where a query begins, nothing is known
 abbrev pub beginning : {L : Type 0} → PlainWorker L → Inquiry
-beginning worker = record { facts = []; cached = worker.cached; ids = worker.ids; link_faults = worker.link_faults }
+beginning worker =
+    record {
+      facts = [];
+      cached = worker.cached;
+      ids = worker.ids;
+      link_faults = worker.link_faults;
+    }
 
 -- what was obtained, in order; the last stands first in the stages
 abbrev pub obtained_in : {L : Type 0} → List (Stage Inquiry (Obtained L)) → List (Obtained L)
@@ -36,11 +42,15 @@ obtained_in (stage ∷ stages) = obtained_in stages ++ stage.turn ∷ []
 -- The message is answered by the policy after the list of transfers that is then seen, which begins with the one that was seen
 -- before and with each that the worker was told, and by the facts that the query obtained, one after another, each for the question
 -- that comes next; after the last nothing is asked, and this is said.
-pub record IsAnswer {L : Type 0} (origins : List (List (List ℕ))) (gave : List ℕ → List ℕ → ℕ → Type 0) (job : Job) (now : ℕ) (said : Said) (old new : PlainWorker L) : Type 0 where
+pub record IsAnswer {L : Type 0} (origins : List (List (List ℕ)))
+    (gave : List ℕ → List ℕ → ℕ → Type 0) (job : Job) (now : ℕ) (said : Said)
+    (old new : PlainWorker L) : Type 0 where
   pub stages : List (Stage Inquiry (Obtained L))
   pub last : Inquiry
-  pub obtains : Chain (Obtains gave old.limit now (policy_after origins new.known.seen) (incoming_of job.message job.peer.addr job.transport)) (beginning old) stages last
-  pub says : turn_by (policy_after origins new.known.seen) (incoming_of job.message job.peer.addr job.transport) last.facts ≡ turn.Said said
+  pub obtains : Chain (Obtains gave old.limit now (policy_after origins new.known.seen)
+      (incoming_of job.message job.peer.addr job.transport)) (beginning old) stages last
+  pub says : turn_by (policy_after origins new.known.seen)
+      (incoming_of job.message job.peer.addr job.transport) last.facts ≡ turn.Said said
   pub obtained : new.obtained ≡ obtained_in stages
   pub goes_on : GoesOn old.known new.known.seen
   pub told : new.known.told ≡ old.known.told
@@ -59,6 +69,7 @@ pub record IsNoAnswer {L : Type 0} (old new : PlainWorker L) : Type 0 where
   pub obtained : new.obtained ≡ []
 
 -- the answer to a message, or that memory ran out
-abbrev pub Answers : {L E : Type 0} → List (List (List ℕ)) → (List ℕ → List ℕ → ℕ → Type 0) → Job → ℕ → Result Said E → PlainWorker L → PlainWorker L → Type 0
+abbrev pub Answers : {L E : Type 0} → List (List (List ℕ)) → (List ℕ → List ℕ → ℕ → Type 0) → Job →
+    ℕ → Result Said E → PlainWorker L → PlainWorker L → Type 0
 Answers origins gave job now (Ok said) old new = IsAnswer origins gave job now said old new
 Answers origins gave job now (Err e) old new = IsNoAnswer old new

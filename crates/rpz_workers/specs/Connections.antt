@@ -23,8 +23,10 @@ pub record ConnectionState (L : Type 0) : Type 0 where
   pub left : Option (List ℕ)
   pub held : Option (List ℕ)
 
-abbrev pub connection_state : {L : Type 0} → PlainWorker L → Option (List ℕ) → Option (List ℕ) → Option (List ℕ) → ConnectionState L
-connection_state worker moments left held = record { worker = worker; moments = moments; left = left; held = held }
+abbrev pub connection_state : {L : Type 0} → PlainWorker L → Option (List ℕ) → Option (List ℕ) →
+    Option (List ℕ) → ConnectionState L
+connection_state worker moments left held =
+    record { worker = worker; moments = moments; left = left; held = held }
 
 -- a message, the second at which it was answered, and the answer, or that memory ran out for it
 pub record Exchange : Type 0 where
@@ -42,35 +44,53 @@ reply_frame None = []
 reply_frame (Some bytes) = frame_octets bytes
 
 -- The message is answered at the second that the clock gives next.
-pub record AnswersMessage {L : Type 0} (origins : List (List (List ℕ))) (gave : List ℕ → List ℕ → ℕ → Type 0) (client : Endpoint) (message : List ℕ) (now : ℕ) (said : Result Said AllocError) (worker worker_then : PlainWorker L) (moments moments_then : Option (List ℕ)) : Type 0 where
+pub record AnswersMessage {L : Type 0} (origins : List (List (List ℕ)))
+    (gave : List ℕ → List ℕ → ℕ → Type 0) (client : Endpoint) (message : List ℕ) (now : ℕ)
+    (said : Result Said AllocError) (worker worker_then : PlainWorker L)
+    (moments moments_then : Option (List ℕ)) : Type 0 where
   pub second : ComesNext moments now moments_then
   pub answers : Answers origins gave (tcp_job client message) now said worker worker_then
 
 -- The message is answered, and all of its reply is written.
-pub record WritesReply {L : Type 0} (origins : List (List (List ℕ))) (gave : List ℕ → List ℕ → ℕ → Type 0) (client : Endpoint) (message : List ℕ) (worker worker_then : PlainWorker L) (moments moments_then held held_then : Option (List ℕ)) : Type 0 where
+pub record WritesReply {L : Type 0} (origins : List (List (List ℕ)))
+    (gave : List ℕ → List ℕ → ℕ → Type 0) (client : Endpoint) (message : List ℕ)
+    (worker worker_then : PlainWorker L)
+    (moments moments_then held held_then : Option (List ℕ)) : Type 0 where
   pub now : ℕ
   pub said : Result Said AllocError
-  pub answers : AnswersMessage origins gave client message now said worker worker_then moments moments_then
+  pub answers : AnswersMessage origins gave client message now said worker worker_then moments
+      moments_then
   pub written : held_then ≡ appended held (reply_frame (to_send message said))
 
 -- The message is answered, and a part of its reply is written.
-pub record CutsReply {L : Type 0} (origins : List (List (List ℕ))) (gave : List ℕ → List ℕ → ℕ → Type 0) (client : Endpoint) (message : List ℕ) (worker worker_then : PlainWorker L) (moments moments_then held held_then : Option (List ℕ)) : Type 0 where
+pub record CutsReply {L : Type 0} (origins : List (List (List ℕ)))
+    (gave : List ℕ → List ℕ → ℕ → Type 0) (client : Endpoint) (message : List ℕ)
+    (worker worker_then : PlainWorker L)
+    (moments moments_then held held_then : Option (List ℕ)) : Type 0 where
   pub now : ℕ
   pub said : Result Said AllocError
-  pub answers : AnswersMessage origins gave client message now said worker worker_then moments moments_then
+  pub answers : AnswersMessage origins gave client message now said worker worker_then moments
+      moments_then
   pub written : WritesPrefix (reply_frame (to_send message said)) held held_then
 
 -- A message is read and answered, and all of its reply is written.
-pub record AnswersFrame {L : Type 0} (origins : List (List (List ℕ))) (gave : List ℕ → List ℕ → ℕ → Type 0) (client : Endpoint) (before : ConnectionState L) (exchange : Exchange) (after : ConnectionState L) : Type 0 where
+pub record AnswersFrame {L : Type 0} (origins : List (List (List ℕ)))
+    (gave : List ℕ → List ℕ → ℕ → Type 0) (client : Endpoint) (before : ConnectionState L)
+    (exchange : Exchange) (after : ConnectionState L) : Type 0 where
   pub taken : TakesFrame exchange.message before.left after.left
-  pub answers : AnswersMessage origins gave client exchange.message exchange.now exchange.said before.worker after.worker before.moments after.moments
-  pub written : after.held ≡ appended before.held (reply_frame (to_send exchange.message exchange.said))
+  pub answers : AnswersMessage origins gave client exchange.message exchange.now exchange.said
+      before.worker after.worker before.moments after.moments
+  pub written : after.held
+      ≡ appended before.held (reply_frame (to_send exchange.message exchange.said))
 
 -- A message is read and answered, and a part of its reply is written.
-pub record CutsFrame {L : Type 0} (origins : List (List (List ℕ))) (gave : List ℕ → List ℕ → ℕ → Type 0) (client : Endpoint) (before after : ConnectionState L) : Type 0 where
+pub record CutsFrame {L : Type 0} (origins : List (List (List ℕ)))
+    (gave : List ℕ → List ℕ → ℕ → Type 0) (client : Endpoint)
+    (before after : ConnectionState L) : Type 0 where
   pub message : List ℕ
   pub taken : TakesFrame message before.left after.left
-  pub cuts : CutsReply origins gave client message before.worker after.worker before.moments after.moments before.held after.held
+  pub cuts : CutsReply origins gave client message before.worker after.worker before.moments
+      after.moments before.held after.held
 
 -- nothing has changed but what is left of the source
 pub record OnlyReads {L : Type 0} (before after : ConnectionState L) : Type 0 where
@@ -86,17 +106,31 @@ pub record FaultCounts : Type 0 where
   pub sink_after : ℕ
 
 abbrev pub fault_counts : ℕ → ℕ → ℕ → ℕ → FaultCounts
-fault_counts source_before source_after sink_before sink_after = record { source_before = source_before; source_after = source_after; sink_before = sink_before; sink_after = sink_after }
+fault_counts source_before source_after sink_before sink_after =
+    record {
+      source_before = source_before;
+      source_after = source_after;
+      sink_before = sink_before;
+      sink_after = sink_after;
+    }
 
 -- How a connection ends behind its last message that was answered whole. Behind as many as a connection may have, nothing is read.
 -- Memory may run out where a message is read, and where its reply is written.
-abbrev pub EndsBy : {L : Type 0} → List (List (List ℕ)) → (List ℕ → List ℕ → ℕ → Type 0) → Endpoint → FaultCounts → StreamEnd → ConnectionState L → ConnectionState L → Type 0
-EndsBy origins gave client faults stream_end.End before after = OnlyReads before after × TakesNone before.left after.left
+abbrev pub EndsBy : {L : Type 0} → List (List (List ℕ)) → (List ℕ → List ℕ → ℕ → Type 0) →
+    Endpoint → FaultCounts → StreamEnd → ConnectionState L → ConnectionState L → Type 0
+EndsBy origins gave client faults stream_end.End before after =
+    OnlyReads before after × TakesNone before.left after.left
 EndsBy origins gave client faults stream_end.Limit before after = after ≡ before
-EndsBy origins gave client faults stream_end.Cut before after = OnlyReads before after × TakesCut before.left after.left
-EndsBy origins gave client faults stream_end.ReadFault before after = OnlyReads before after × TakesSome before.left after.left × Rose faults.source_before faults.source_after
-EndsBy origins gave client faults stream_end.WriteFault before after = CutsFrame origins gave client before after × Rose faults.sink_before faults.sink_after
-EndsBy origins gave client faults stream_end.OutOfMemory before after = (OnlyReads before after × TakesSome before.left after.left) ⊎ CutsFrame origins gave client before after
+EndsBy origins gave client faults stream_end.Cut before after =
+    OnlyReads before after × TakesCut before.left after.left
+EndsBy origins gave client faults stream_end.ReadFault before after =
+    OnlyReads before after × TakesSome before.left after.left
+    × Rose faults.source_before faults.source_after
+EndsBy origins gave client faults stream_end.WriteFault before after =
+    CutsFrame origins gave client before after × Rose faults.sink_before faults.sink_after
+EndsBy origins gave client faults stream_end.OutOfMemory before after =
+    (OnlyReads before after × TakesSome before.left after.left)
+    ⊎ CutsFrame origins gave client before after
 
 -- so many messages were answered by then
 abbrev pub EndsAfter : StreamEnd → ℕ → Type 0
@@ -104,7 +138,9 @@ EndsAfter stream_end.Limit count = count ≡ FRAME_LIMIT
 EndsAfter why count = count < FRAME_LIMIT
 
 -- A connection is served: one message after another is answered, and then it ends.
-pub record Serves {L : Type 0} (origins : List (List (List ℕ))) (gave : List ℕ → List ℕ → ℕ → Type 0) (client : Endpoint) (faults : FaultCounts) (before : ConnectionState L) (why : StreamEnd) (after : ConnectionState L) : Type 0 where
+pub record Serves {L : Type 0} (origins : List (List (List ℕ)))
+    (gave : List ℕ → List ℕ → ℕ → Type 0) (client : Endpoint) (faults : FaultCounts)
+    (before : ConnectionState L) (why : StreamEnd) (after : ConnectionState L) : Type 0 where
   pub exchanges : List (Stage (ConnectionState L) Exchange)
   pub last : ConnectionState L
   pub chain : Chain (AnswersFrame origins gave client) before exchanges last

@@ -28,8 +28,16 @@ pub record WorkerState (L S K : Type 0) : Type 0 where
   pub closings : Option (Closings S K)
   pub send_faults : ℕ
 
-abbrev pub worker_state : {L S K : Type 0} → PlainWorker L → Option (List ℕ) → Option (List PlainReply) → Option (Closings S K) → ℕ → WorkerState L S K
-worker_state worker moments sent closings send_faults = record { worker = worker; moments = moments; sent = sent; closings = closings; send_faults = send_faults }
+abbrev pub worker_state : {L S K : Type 0} → PlainWorker L → Option (List ℕ) →
+    Option (List PlainReply) → Option (Closings S K) → ℕ → WorkerState L S K
+worker_state worker moments sent closings send_faults =
+    record {
+      worker = worker;
+      moments = moments;
+      sent = sent;
+      closings = closings;
+      send_faults = send_faults;
+    }
 
 -- what contracts see of sources and of sinks
 pub record StreamViews (S K : Type 0) : Type 0 where
@@ -38,13 +46,17 @@ pub record StreamViews (S K : Type 0) : Type 0 where
   pub held : K → Option (List ℕ)
   pub sink_faults : K → ℕ
 
-abbrev pub stream_views : {S K : Type 0} → (S → Option (List ℕ)) → (S → ℕ) → (K → Option (List ℕ)) → (K → ℕ) → StreamViews S K
-stream_views left source_faults held sink_faults = record { left = left; source_faults = source_faults; held = held; sink_faults = sink_faults }
+abbrev pub stream_views : {S K : Type 0} → (S → Option (List ℕ)) → (S → ℕ) → (K → Option (List ℕ)) →
+    (K → ℕ) → StreamViews S K
+stream_views left source_faults held sink_faults =
+    record { left = left; source_faults = source_faults; held = held; sink_faults = sink_faults }
 
 -- what was sent after a try to send this
-abbrev pub sent_after : Option (List PlainReply) → Endpoint → Option (List ℕ) → Result (Unit {0}) SendError → Option (List PlainReply)
+abbrev pub sent_after : Option (List PlainReply) → Endpoint → Option (List ℕ) →
+    Result (Unit {0}) SendError → Option (List PlainReply)
 sent_after sent peer None tried = sent
-sent_after sent peer (Some bytes) tried = more_if_ok sent tried (record { peer = peer; bytes = bytes })
+sent_after sent peer (Some bytes) tried =
+    more_if_ok sent tried (record { peer = peer; bytes = bytes })
 
 -- what became of a job whose reply was to be sent; without a fault it is what is given
 abbrev pub took_by_send : Took → Result (Unit {0}) SendError → Took
@@ -60,13 +72,16 @@ took_of (Ok (said.Reply bytes)) tried = took_by_send took.Reply tried
 took_of (Err e) tried = took_by_send took.Memory tried
 
 -- How a reply went out, and what that makes of the job.
-pub record Sends {E : Type 0} (peer : Endpoint) (message : List ℕ) (what : Result Said E) (t : Took) (sent sent_then : Option (List PlainReply)) : Type 0 where
+pub record Sends {E : Type 0} (peer : Endpoint) (message : List ℕ) (what : Result Said E) (t : Took)
+    (sent sent_then : Option (List PlainReply)) : Type 0 where
   pub tried : Result (Unit {0}) SendError
   pub sent_is : sent_then ≡ sent_after sent peer (to_send message what) tried
   pub took_is : t ≡ took_of what tried
 
 -- A job is answered at the second that the clock gives next, and the reply is sent to its peer.
-pub record HandlesJob {L S K : Type 0} (origins : List (List (List ℕ))) (gave : List ℕ → List ℕ → ℕ → Type 0) (job : Job) (before : WorkerState L S K) (t : Took) (after : WorkerState L S K) : Type 0 where
+pub record HandlesJob {L S K : Type 0} (origins : List (List (List ℕ)))
+    (gave : List ℕ → List ℕ → ℕ → Type 0) (job : Job) (before : WorkerState L S K) (t : Took)
+    (after : WorkerState L S K) : Type 0 where
   pub now : ℕ
   pub what : Result Said AllocError
   pub second : ComesNext before.moments now after.moments
@@ -77,27 +92,36 @@ pub record HandlesJob {L S K : Type 0} (origins : List (List (List ℕ))) (gave 
   pub failed : t ≡ took.Failed → Rose before.send_faults after.send_faults
 
 -- A connection is served, and closed with what it ended by.
-pub record HandlesConnection {L S K : Type 0} (origins : List (List (List ℕ))) (gave : List ℕ → List ℕ → ℕ → Type 0) (views : StreamViews S K) (source : S) (sink : K) (client : Endpoint) (before after : WorkerState L S K) : Type 0 where
+pub record HandlesConnection {L S K : Type 0} (origins : List (List (List ℕ)))
+    (gave : List ℕ → List ℕ → ℕ → Type 0) (views : StreamViews S K) (source : S) (sink : K)
+    (client : Endpoint) (before after : WorkerState L S K) : Type 0 where
   pub ended : Ended S K
   pub serves : Serves origins gave client
-      (fault_counts (views.source_faults source) (views.source_faults ended.source) (views.sink_faults sink) (views.sink_faults ended.sink))
+      (fault_counts (views.source_faults source) (views.source_faults ended.source)
+      (views.sink_faults sink) (views.sink_faults ended.sink))
       (connection_state before.worker before.moments (views.left source) (views.held sink))
       ended.why
-      (connection_state after.worker after.moments (views.left ended.source) (views.held ended.sink))
+      (connection_state after.worker after.moments (views.left ended.source)
+      (views.held ended.sink))
   pub closings : after.closings ≡ closed_more before.closings ended
   pub sent : after.sent ≡ before.sent
   pub send_faults : after.send_faults ≡ before.send_faults
 
 -- A list of transfers is told: no query after it is answered by a version before it.
-pub record HandlesTold {L S K : Type 0} (list : List Entry) (before after : WorkerState L S K) : Type 0 where
+pub record HandlesTold {L S K : Type 0} (list : List Entry)
+    (before after : WorkerState L S K) : Type 0 where
   pub learnt : WasTold after.worker.known list
   pub kept : KeepsTold before.worker.known after.worker.known
   pub seen : after.worker.known.seen ≡ before.worker.known.seen
   pub same : after ≡ record before { worker = record before.worker { known = after.worker.known } }
 
 -- what a worker does with an item
-abbrev pub Handles : {L N S K : Type 0} → List (List (List ℕ)) → (List ℕ → List ℕ → ℕ → Type 0) → StreamViews S K → WorkerState L S K → Item N S K → Took → WorkerState L S K → Type 0
-Handles origins gave views before (item.Job job) t after = HandlesJob origins gave job before t after
-Handles origins gave views before (item.Connection source sink client) t after = (t ≡ took.Closed) × HandlesConnection origins gave views source sink client before after
-Handles origins gave views before (item.Told list) t after = (t ≡ took.Learnt) × HandlesTold list before after
+abbrev pub Handles : {L N S K : Type 0} → List (List (List ℕ)) → (List ℕ → List ℕ → ℕ → Type 0) →
+    StreamViews S K → WorkerState L S K → Item N S K → Took → WorkerState L S K → Type 0
+Handles origins gave views before (item.Job job) t after =
+    HandlesJob origins gave job before t after
+Handles origins gave views before (item.Connection source sink client) t after =
+    (t ≡ took.Closed) × HandlesConnection origins gave views source sink client before after
+Handles origins gave views before (item.Told list) t after =
+    (t ≡ took.Learnt) × HandlesTold list before after
 Handles origins gave views before item.Stop t after = (t ≡ took.Stop) × (after ≡ before)

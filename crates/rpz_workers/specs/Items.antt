@@ -4,7 +4,8 @@ use Rattle.rpz_workers.specs.declared.item.Item.{Item}
 use Rattle.rpz_workers.specs.declared.item.Item.TheVariants as item
 
 -- the next of the items that are still to come, where they are known; after the last comes Stop
-abbrev pub NextItem : {N S K : Type 0} → Option (List (Item N S K)) → Item N S K → Option (List (Item N S K)) → Type 0
+abbrev pub NextItem : {N S K : Type 0} → Option (List (Item N S K)) → Item N S K →
+    Option (List (Item N S K)) → Type 0
 NextItem None x after = after ≡ None
 NextItem (Some []) x after = (x ≡ item.Stop) × (after ≡ Some [])
 NextItem (Some (y ∷ ys)) x after = (x ≡ y) × (after ≡ Some ys)

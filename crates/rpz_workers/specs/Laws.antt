@@ -14,12 +14,15 @@ use Rattle.rpz_workers.specs.declared.obtained.Obtained.TheVariants.{Learned}
 use Rattle.rpz_workers.specs.Obtaining.{Inquiry}
 
 -- what was obtained is this entry, which the cache had, live and about the question
-pub record IsHit {L : Type 0} (now : ℕ) (asked : Question) (entry : PlainLearned) (stage : Stage Inquiry (Obtained L)) : Type 0 where
+pub record IsHit {L : Type 0} (now : ℕ) (asked : Question) (entry : PlainLearned)
+    (stage : Stage Inquiry (Obtained L)) : Type 0 where
   pub turn_is : stage.turn ≡ Learned entry
   pub is_found : live_entry asked now stage.before.cached ≡ Some entry
   pub serves : Serves asked now entry
 
 -- if this stage asks a question like this one, this entry of the cache answers it
-abbrev pub HitsFor : {L : Type 0} → PlainPolicy → Incoming → ℕ → Question → PlainLearned → Stage Inquiry (Obtained L) → Type 0
+abbrev pub HitsFor : {L : Type 0} → PlainPolicy → Incoming → ℕ → Question → PlainLearned →
+    Stage Inquiry (Obtained L) → Type 0
 HitsFor policy incoming now question entry stage =
-    (asked : Question) → turn_by policy incoming stage.before.facts ≡ turn.Ask asked → key_of asked ≡ key_of question → IsHit now asked entry stage
+    (asked : Question) → turn_by policy incoming stage.before.facts ≡ turn.Ask asked →
+    key_of asked ≡ key_of question → IsHit now asked entry stage

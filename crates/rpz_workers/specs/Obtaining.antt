@@ -35,7 +35,8 @@ abbrev pub MayKeep : ℕ → PlainLearned → List PlainLearned → List PlainLe
 MayKeep limit entry before after = (after ≡ after_keep limit entry before) ⊎ (after ≡ before)
 
 -- A live entry of the cache about the question answers it, at its age, and goes first. A link of the kind gave it.
-pub record IsFound (gave : List ℕ → List ℕ → ℕ → Type 0) (now : ℕ) (question : Question) (entry : PlainLearned) (before after : Inquiry) : Type 0 where
+pub record IsFound (gave : List ℕ → List ℕ → ℕ → Type 0) (now : ℕ) (question : Question)
+    (entry : PlainLearned) (before after : Inquiry) : Type 0 where
   pub is_found : live_entry question now before.cached ≡ Some entry
   pub serves : Serves question now entry
   pub vouched : Vouched gave entry.question (fact_at now entry) now
@@ -46,7 +47,8 @@ pub record IsFound (gave : List ℕ → List ℕ → ℕ → Type 0) (now : ℕ)
 
 -- No live entry of the cache is about the question. The link is asked in a message of the next ID, and what it gives is known, and
 -- cached.
-pub record IsAsked (gave : List ℕ → List ℕ → ℕ → Type 0) (limit now : ℕ) (question : Question) (entry : PlainLearned) (before after : Inquiry) : Type 0 where
+pub record IsAsked (gave : List ℕ → List ℕ → ℕ → Type 0) (limit now : ℕ) (question : Question)
+    (entry : PlainLearned) (before after : Inquiry) : Type 0 where
   pub not_found : live_entry question now before.cached ≡ None
   pub id : ℕ
   pub next : ComesNext before.ids id after.ids
@@ -66,12 +68,18 @@ pub record IsFailed (now : ℕ) (question : Question) (before after : Inquiry) :
   pub link_faults : Rose before.link_faults after.link_faults
 
 -- how an answer was obtained for a question, or none
-abbrev pub ObtainsFor : {L : Type 0} → (List ℕ → List ℕ → ℕ → Type 0) → ℕ → ℕ → Question → Inquiry → Obtained L → Inquiry → Type 0
-ObtainsFor gave limit now question before (Learned entry) after = IsFound gave now question entry before after ⊎ IsAsked gave limit now question entry before after
-ObtainsFor gave limit now question before (Failed asked) after = (asked ≡ question) × IsFailed now question before after
+abbrev pub ObtainsFor : {L : Type 0} → (List ℕ → List ℕ → ℕ → Type 0) → ℕ → ℕ → Question → Inquiry →
+    Obtained L → Inquiry → Type 0
+ObtainsFor gave limit now question before (Learned entry) after =
+    IsFound gave now question entry before after
+    ⊎ IsAsked gave limit now question entry before after
+ObtainsFor gave limit now question before (Failed asked) after =
+    (asked ≡ question) × IsFailed now question before after
 
 -- The question that a query under a policy asks at this point, and what is obtained for it at this second.
-pub record Obtains {L : Type 0} (gave : List ℕ → List ℕ → ℕ → Type 0) (limit now : ℕ) (policy : PlainPolicy) (incoming : Incoming) (before : Inquiry) (obtained : Obtained L) (after : Inquiry) : Type 0 where
+pub record Obtains {L : Type 0} (gave : List ℕ → List ℕ → ℕ → Type 0) (limit now : ℕ)
+    (policy : PlainPolicy) (incoming : Incoming) (before : Inquiry) (obtained : Obtained L)
+    (after : Inquiry) : Type 0 where
   pub question : Question
   pub asks : turn_by policy incoming before.facts ≡ turn.Ask question
   pub by : ObtainsFor gave limit now question before obtained after

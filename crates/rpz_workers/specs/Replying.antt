@@ -8,7 +8,8 @@ use Rattle.reply_build.specs.declared.said.Said.TheVariants as said
 
 -- the reply to a message for which memory ran out: a header of its ID with rcode 2; None where such a message is never answered
 abbrev pub bare_reply : List ℕ → Option (List ℕ)
-bare_reply message = if speaks_in message then Some (bare_servfail (number_at 2 message 0)) else None
+bare_reply message =
+    if speaks_in message then Some (bare_servfail (number_at 2 message 0)) else None
 
 -- the bytes of a reply; None where there is none
 abbrev pub reply_bytes : Said → Option (List ℕ)

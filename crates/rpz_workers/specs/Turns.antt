@@ -20,10 +20,12 @@ use Rattle.rpz_workers.specs.Obtaining.{Inquiry, MayKeep, Obtains, with_fact}
 use Rattle.rpz_workers.specs.Answering.{obtained_in}
 
 abbrev pub inquiry : PlainFacts → List PlainLearned → Option (List ℕ) → ℕ → Inquiry
-inquiry facts cached ids link_faults = record { facts = facts; cached = cached; ids = ids; link_faults = link_faults }
+inquiry facts cached ids link_faults =
+    record { facts = facts; cached = cached; ids = ids; link_faults = link_faults }
 
 -- the link was asked in a message of the next ID, and what it gave is known, and cached
-pub record Gets (gave : List ℕ → List ℕ → ℕ → Type 0) (limit now : ℕ) (question : Question) (entry : PlainLearned) (before after : Inquiry) : Type 0 where
+pub record Gets (gave : List ℕ → List ℕ → ℕ → Type 0) (limit now : ℕ) (question : Question)
+    (entry : PlainLearned) (before after : Inquiry) : Type 0 where
   pub id : ℕ
   pub next : ComesNext before.ids id after.ids
   pub asks : AsksAt id question now entry
@@ -41,25 +43,38 @@ pub record Fails (question : Question) (before after : Inquiry) : Type 0 where
   pub link_faults : Rose before.link_faults after.link_faults
 
 -- what came of a question to the link
-abbrev pub Asks : {L : Type 0} → (List ℕ → List ℕ → ℕ → Type 0) → ℕ → ℕ → Question → Inquiry → Obtained L → Inquiry → Type 0
-Asks gave limit now question before (Learned entry) after = Gets gave limit now question entry before after
-Asks gave limit now question before (Failed asked) after = (asked ≡ question) × Fails question before after
+abbrev pub Asks : {L : Type 0} → (List ℕ → List ℕ → ℕ → Type 0) → ℕ → ℕ → Question → Inquiry →
+    Obtained L → Inquiry → Type 0
+Asks gave limit now question before (Learned entry) after =
+    Gets gave limit now question entry before after
+Asks gave limit now question before (Failed asked) after =
+    (asked ≡ question) × Fails question before after
 
 -- What one turn does. Where something is said, nothing is obtained; else one answer is.
-abbrev pub TakesTurn : {L : Type 0} → (List ℕ → List ℕ → ℕ → Type 0) → ℕ → ℕ → PlainPolicy → Incoming → Inquiry → Option Said → List (Obtained L) → List (Obtained L) → Inquiry → Type 0
+abbrev pub TakesTurn : {L : Type 0} → (List ℕ → List ℕ → ℕ → Type 0) → ℕ → ℕ → PlainPolicy →
+    Incoming → Inquiry → Option Said → List (Obtained L) → List (Obtained L) → Inquiry → Type 0
 TakesTurn gave limit now policy incoming before (Some said) obtained obtained_then after =
-    (turn_by policy incoming before.facts ≡ turn.Said said) × (obtained_then ≡ obtained) × (after ≡ before)
+    (turn_by policy incoming before.facts ≡ turn.Said said) × (obtained_then ≡ obtained)
+    × (after ≡ before)
 TakesTurn {L} gave limit now policy incoming before None obtained obtained_then after =
-    (one : Obtained L) × (Obtains gave limit now policy incoming before one after × (obtained_then ≡ obtained ++ one ∷ []))
+    (one : Obtained L)
+    × (Obtains gave limit now policy incoming before one after
+    × (obtained_then ≡ obtained ++ one ∷ []))
 
 -- These answers, one after another, lead from the first point to the last one.
-pub record Leads {L : Type 0} (gave : List ℕ → List ℕ → ℕ → Type 0) (limit now : ℕ) (policy : PlainPolicy) (incoming : Incoming) (first : Inquiry) (obtained : List (Obtained L)) (last : Inquiry) : Type 0 where
+pub record Leads {L : Type 0} (gave : List ℕ → List ℕ → ℕ → Type 0) (limit now : ℕ)
+    (policy : PlainPolicy) (incoming : Incoming) (first : Inquiry) (obtained : List (Obtained L))
+    (last : Inquiry) : Type 0 where
   pub stages : List (Stage Inquiry (Obtained L))
   pub chain : Chain (Obtains gave limit now policy incoming) first stages last
   pub obtained_is : obtained ≡ obtained_in stages
 
 -- After these answers this is said; the cache, the IDs and the count of faults are then these.
-pub record Says {L : Type 0} (gave : List ℕ → List ℕ → ℕ → Type 0) (limit now : ℕ) (policy : PlainPolicy) (incoming : Incoming) (first : Inquiry) (said : Said) (obtained : List (Obtained L)) (cached : List PlainLearned) (ids : Option (List ℕ)) (link_faults : ℕ) : Type 0 where
+pub record Says {L : Type 0} (gave : List ℕ → List ℕ → ℕ → Type 0) (limit now : ℕ)
+    (policy : PlainPolicy) (incoming : Incoming) (first : Inquiry) (said : Said)
+    (obtained : List (Obtained L)) (cached : List PlainLearned) (ids : Option (List ℕ))
+    (link_faults : ℕ) : Type 0 where
   pub facts : PlainFacts
-  pub leads : Leads gave limit now policy incoming first obtained (inquiry facts cached ids link_faults)
+  pub leads : Leads gave limit now policy incoming first obtained
+      (inquiry facts cached ids link_faults)
   pub says : turn_by policy incoming facts ≡ turn.Said said

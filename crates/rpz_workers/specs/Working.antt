@@ -14,7 +14,8 @@ pub record RunState (L N S K : Type 0) : Type 0 where
   pub coming : Option (List (Item N S K))
   pub state : WorkerState L S K
 
-abbrev pub run_state : {L N S K : Type 0} → Option (List (Item N S K)) → WorkerState L S K → RunState L N S K
+abbrev pub run_state : {L N S K : Type 0} → Option (List (Item N S K)) → WorkerState L S K →
+    RunState L N S K
 run_state coming state = record { coming = coming; state = state }
 
 -- an item that was taken, and what became of it
@@ -23,7 +24,9 @@ pub record Handled (N S K : Type 0) : Type 0 where
   pub took : Took
 
 -- The next item is taken and handled, and it isn't Stop.
-pub record TakesItem {L N S K : Type 0} (origins : List (List (List ℕ))) (gave : List ℕ → List ℕ → ℕ → Type 0) (views : StreamViews S K) (before : RunState L N S K) (handled : Handled N S K) (after : RunState L N S K) : Type 0 where
+pub record TakesItem {L N S K : Type 0} (origins : List (List (List ℕ)))
+    (gave : List ℕ → List ℕ → ℕ → Type 0) (views : StreamViews S K) (before : RunState L N S K)
+    (handled : Handled N S K) (after : RunState L N S K) : Type 0 where
   pub next : NextItem before.coming handled.item after.coming
   pub handles : Handles origins gave views before.state handled.item handled.took after.state
   pub goes_on : handled.took ≢ took.Stop
@@ -34,7 +37,9 @@ tally [] = no_counts
 tally (stage ∷ stages) = counted (tally stages) stage.turn.took
 
 -- One item after another is taken and handled, up to the Stop that ends the run, and these are its numbers.
-pub record Works {L N S K : Type 0} (origins : List (List (List ℕ))) (gave : List ℕ → List ℕ → ℕ → Type 0) (views : StreamViews S K) (before : RunState L N S K) (counts : Counts) (after : RunState L N S K) : Type 0 where
+pub record Works {L N S K : Type 0} (origins : List (List (List ℕ)))
+    (gave : List ℕ → List ℕ → ℕ → Type 0) (views : StreamViews S K) (before : RunState L N S K)
+    (counts : Counts) (after : RunState L N S K) : Type 0 where
   pub stages : List (Stage (RunState L N S K) (Handled N S K))
   pub last : RunState L N S K
   pub chain : Chain (TakesItem origins gave views) before stages last

@@ -34,9 +34,11 @@ fn write_reply<K: Sink>(
     ensures ok { OnOk result (K.held sink.new
         ≡ appended (K.held sink.old) (reply_frame (to_send message.now said.now))) }
     ensures err { OnErr result
-        (WritesPrefix (reply_frame (to_send message.now said.now)) (K.held sink.old) (K.held sink.new)) }
+        (WritesPrefix (reply_frame (to_send message.now said.now)) (K.held sink.old)
+        (K.held sink.new)) }
     ensures count { K.faults sink.old ≤ K.faults sink.new }
-    ensures failed { result ≡ Err SinkError.WriteFault → Rose (K.faults sink.old) (K.faults sink.new) }
+    ensures failed { result ≡ Err SinkError.WriteFault →
+        Rose (K.faults sink.old) (K.faults sink.new) }
 {
     match said {
         Ok(Said::Reply(bytes)) => write_frame(sink, bytes.as_slice()),
@@ -63,12 +65,15 @@ impl<N: StoreName, L: Link + Drop, H: BuildHasher + Drop, I: Ids + Drop, G: Gate
         sink: &mut K,
         clock: &mut C,
     ) -> Result<(), SinkError>
-        ensures ok { OnOk result (WritesReply N.store.origins L.gave client message self.old self.new
+        ensures ok { OnOk result
+            (WritesReply N.store.origins L.gave client message self.old self.new
             (C.moments clock.old) (C.moments clock.new) (K.held sink.old) (K.held sink.new)) }
-        ensures err { OnErr result (CutsReply N.store.origins L.gave client message self.old self.new
+        ensures err { OnErr result
+            (CutsReply N.store.origins L.gave client message self.old self.new
             (C.moments clock.old) (C.moments clock.new) (K.held sink.old) (K.held sink.new)) }
         ensures count { K.faults sink.old ≤ K.faults sink.new }
-        ensures failed { result ≡ Err SinkError.WriteFault → Rose (K.faults sink.old) (K.faults sink.new) }
+        ensures failed { result ≡ Err SinkError.WriteFault →
+            Rose (K.faults sink.old) (K.faults sink.new) }
     {
         let job = Job {
             peer: client,
@@ -95,7 +100,8 @@ impl<N: StoreName, L: Link + Drop, H: BuildHasher + Drop, I: Ids + Drop, G: Gate
             (K.faults sink.old) (K.faults sink.new))
             (connection_state self.old (C.moments clock.old) (S.left source.old) (K.held sink.old))
             result
-            (connection_state self.new (C.moments clock.new) (S.left source.new) (K.held sink.new)) }
+            (connection_state self.new (C.moments clock.new) (S.left source.new)
+            (K.held sink.new)) }
     {
         let alloc = self.alloc();
         for _ in 0..FRAME_LIMIT {

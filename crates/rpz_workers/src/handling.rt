@@ -27,7 +27,8 @@ fn send_reply<S: Source, K: Sink, P: Replies<S, K>>(
     message: &[u8],
     said: &Result<Said, AllocError>,
 ) -> Took
-    ensures sends { Sends peer message.now said.now result (P.sent replies.old) (P.sent replies.new) }
+    ensures sends { Sends peer message.now said.now result (P.sent replies.old)
+        (P.sent replies.new) }
     ensures closings { P.closings replies.new ≡ P.closings replies.old }
     ensures count { P.faults replies.old ≤ P.faults replies.new }
     ensures failed { result ≡ Took.Failed → Rose (P.faults replies.old) (P.faults replies.new) }
@@ -128,7 +129,8 @@ impl<N: StoreName, L: Link + Drop, H: BuildHasher + Drop, I: Ids + Drop, G: Gate
             (run_state (Q.coming items.new)
             (worker_state self.new (C.moments clock.new)
             (P.sent replies.new) (P.closings replies.new) (P.faults replies.new))) }
-        ensures failed { min (P.faults replies.old + result.failed) (2 ^ 64 - 1) ≤ P.faults replies.new }
+        ensures failed { min (P.faults replies.old + result.failed) (2 ^ 64 - 1)
+            ≤ P.faults replies.new }
     {
         let mut report = nothing_done();
         for _ in rt.forever() {

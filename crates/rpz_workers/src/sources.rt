@@ -59,7 +59,8 @@ fn give_failed<L: Link>(
 ) -> Result<Obtained<L>, AllocError>
     requires { IsSome session.old.asked }
     ensures same { IfOk result (λ obtained. obtained ≡ Obtained.Failed question.now) }
-    ensures given { OnOk result (session.new ≡ after_fact session.old (Fact.Broken AnswerFault.Failed)) }
+    ensures given { OnOk result
+        (session.new ≡ after_fact session.old (Fact.Broken AnswerFault.Failed)) }
     ensures policy { session.new.policy ≡ session.old.policy }
     ensures incoming { session.new.incoming ≡ session.old.incoming }
 {
@@ -139,7 +140,8 @@ impl<L: Link + Drop, H: BuildHasher + Drop, I: Ids + Drop, G: Gate + Drop> Sourc
         now: u32,
     ) -> Result<Obtained<L>, AllocError>
         requires { session.old.asked ≡ Some question.now }
-        ensures obtains { IfOk result (λ obtained. ObtainsFor L.gave self.old.cache.limit now question.now
+        ensures obtains { IfOk result
+            (λ obtained. ObtainsFor L.gave self.old.cache.limit now question.now
             (inquiry session.old.facts self.old.cache.entries
             (I.ids self.old.ids) (L.faults self.old.link))
             obtained

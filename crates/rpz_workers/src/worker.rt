@@ -40,7 +40,14 @@ impl<N: StoreName, L: Link + Drop, H: BuildHasher + Drop, I: Ids + Drop, G: Gate
 
     ghost Value = { PlainWorker L };
 
-    ghost view = { λ w. record { known = w.reader; cached = w.sources.cache.entries; limit = w.sources.cache.limit; ids = I.ids w.sources.ids; link_faults = L.faults w.sources.link; obtained = w.obtained.items } };
+    ghost view = { λ w. record {
+      known = w.reader;
+      cached = w.sources.cache.entries;
+      limit = w.sources.cache.limit;
+      ids = I.ids w.sources.ids;
+      link_faults = L.faults w.sources.link;
+      obtained = w.obtained.items;
+    } };
 }
 
 impl<N: StoreName, L: Link + Drop, H: BuildHasher + Drop, I: Ids + Drop, G: Gate + Drop> Worker<
@@ -59,7 +66,15 @@ impl<N: StoreName, L: Link + Drop, H: BuildHasher + Drop, I: Ids + Drop, G: Gate
         ids: I,
         gate: G,
     ) -> Self
-        ensures { result ≡ record { known = reader; cached = cache.entries; limit = cache.limit; ids = I.ids ids; link_faults = L.faults link; obtained = [] } }
+        ensures { result
+            ≡ record {
+              known = reader;
+              cached = cache.entries;
+              limit = cache.limit;
+              ids = I.ids ids;
+              link_faults = L.faults link;
+              obtained = [];
+            } }
     {
         Worker {
             alloc,

@@ -75,7 +75,7 @@ fn listed<N: StoreName>(
     Ok(ListItems::new(items))
 }
 
-/// The items of a case in a channel without a sender.
+/// The items of a case in a channel without a sender, and nothing to be told of over the other one.
 pub fn sent<N: StoreName, R: Wait + Copy + Drop>(
     rt: &R,
     alloc: Global,
@@ -88,7 +88,8 @@ pub fn sent<N: StoreName, R: Wait + Copy + Drop>(
             return Err("a message".into());
         }
     }
-    Ok(ChannelItems::new(*rt, receiver))
+    let (_, told) = unbounded(alloc)?;
+    Ok(ChannelItems::new(*rt, receiver, told))
 }
 
 /// The numbers of a report, as those of a case.
