@@ -216,7 +216,7 @@ def show(octets):
 # ---- running
 
 def steps_of(case):
-    """For each line of the transcript the step that it comes behind, as text, and a shower that knows what stood before."""
+    """For each line of the transcript the step that it comes behind, as text, and a shower that knows what came before."""
     shower, outputs, out = Shower(), case.transcript.splitlines(), []
     for line in case.script.splitlines():
         text = shower.line(line)

@@ -206,15 +206,15 @@ same_asked : (this : Turn) (p other : Question) → this ≡ turn.Ask p → this
 same_asked this p other e f = cc
 
 -- after these stages the entry is still found, each stage has brought one fact, and each that was alike hit the cache
-pub record Stood {L : Type 0} (policy : PlainPolicy) (incoming : Incoming) (now m : ℕ) (question : Question) (entry : PlainLearned) (stages : List (Stage Inquiry (Obtained L))) (last : Inquiry) : Type 0 where
+pub record KeepsEntry {L : Type 0} (policy : PlainPolicy) (incoming : Incoming) (now m : ℕ) (question : Question) (entry : PlainLearned) (stages : List (Stage Inquiry (Obtained L))) (last : Inquiry) : Type 0 where
   pub has : HasLive question entry now (m + length stages) last.cached
   pub counted : length last.facts ≡ length stages
   pub hits : AllByRecursion (HitsFor policy incoming now question entry) stages
 
 module _ {L : Type 0} (gave : List ℕ → List ℕ → ℕ → Type 0) (limit now : ℕ) (policy : PlainPolicy) (incoming : Incoming) (question : Question) (entry : PlainLearned) (m : ℕ) (room : m + FACT_LIMIT ≤ limit) (first : Inquiry) (none : first.facts ≡ []) (has : HasLive question entry now m first.cached) where
-  stood_more : (stage : Stage Inquiry (Obtained L)) (stages : List (Stage Inquiry (Obtained L))) (last : Inquiry) → Obtains gave limit now policy incoming stage.before stage.turn last
-      → Stood policy incoming now m question entry stages stage.before → Stood policy incoming now m question entry (stage ∷ stages) last
-  stood_more stage stages last obtains was =
+  keeps_entry_more : (stage : Stage Inquiry (Obtained L)) (stages : List (Stage Inquiry (Obtained L))) (last : Inquiry) → Obtains gave limit now policy incoming stage.before stage.turn last
+      → KeepsEntry policy incoming now m question entry stages stage.before → KeepsEntry policy incoming now m question entry (stage ∷ stages) last
+  keeps_entry_more stage stages last obtains was =
       let within : length stage.before.facts < FACT_LIMIT = asks_within policy incoming stage.before.facts obtains.question obtains.asks in
       let place : suc (m + length stages) ≤ limit = omega (arith, was.counted) in
       let one = one_stage gave limit now obtains.question question entry (m + length stages) stage.before last place was.has stage.turn obtains.by in
@@ -231,15 +231,15 @@ module _ {L : Type 0} (gave : List ℕ → List ℕ → ℕ → Type 0) (limit n
         );
       }
 
-  stood : (stages : List (Stage Inquiry (Obtained L))) (last : Inquiry) → Chain (Obtains gave limit now policy incoming) first stages last → Stood policy incoming now m question entry stages last
-  stood [] last same =
+  keeps_entry : (stages : List (Stage Inquiry (Obtained L))) (last : Inquiry) → Chain (Obtains gave limit now policy incoming) first stages last → KeepsEntry policy incoming now m question entry stages last
+  keeps_entry [] last same =
       let start : m ≡ m + 0 = omega arith in
       record {
         has = subst (λ (k : ℕ). HasLive question entry now k last.cached) start (subst (λ (x : Inquiry). HasLive question entry now m x.cached) (sym same) has);
         counted = ap (λ (x : Inquiry). length x.facts) same ∙ ap length none;
         hits = tt;
       }
-  stood (stage ∷ stages) last (obtains, chain) = stood_more stage stages last obtains (stood stages stage.before chain)
+  keeps_entry (stage ∷ stages) last (obtains, chain) = keeps_entry_more stage stages last obtains (keeps_entry stages stage.before chain)
 
 pub live_entry_answers : {L : Type 0} (gave : List ℕ → List ℕ → ℕ → Type 0) (limit now : ℕ) (policy : PlainPolicy) (incoming : Incoming) (first last : Inquiry) (stages : List (Stage Inquiry (Obtained L))) (question : Question) (entry : PlainLearned)
     → first.facts ≡ [] → Chain (Obtains gave limit now policy incoming) first stages last
@@ -249,4 +249,4 @@ live_entry_answers gave limit now policy incoming first last stages question ent
     let has = has_live question now (limit - FACT_LIMIT) first.cached entry e in
     let some = some_room question entry now (limit - FACT_LIMIT) first.cached has in
     let room : (limit - FACT_LIMIT) + FACT_LIMIT ≤ limit = omega arith in
-    (stood gave limit now policy incoming question entry (limit - FACT_LIMIT) room first none has stages last chain).hits
+    (keeps_entry gave limit now policy incoming question entry (limit - FACT_LIMIT) room first none has stages last chain).hits
