@@ -38,12 +38,17 @@ def serve_words():
     return ["serve", f"127.0.0.1:{LISTEN}", f"127.0.0.1:{UPSTREAM}", str(len(QUERIES)), "2", f"rpz.example@127.0.0.1:{PRIMARY}"]
 
 
-def start():
+def built():
+    """The program, which is proved and built where it isn't there yet."""
     program = PROGRAM / "out" / "rpz"
     if not program.exists():
         print("proving and building the program, which then runs its stored script", flush=True)
         with open(PROGRAM / "stdin", "rb") as script:
             subprocess.run(["rt", "run", "--", "replay"], cwd=PROGRAM, stdin=script, check=True)
+    return program
+
+
+def start(program):
     print("$ rpz", *serve_words(), flush=True)
     return subprocess.Popen([program, *serve_words()], stdout=subprocess.PIPE, text=True)
 
@@ -59,9 +64,10 @@ def ask(name, tcp):
 
 
 def main():
+    program = built()
     helpers = [small_server(PRIMARY, "rpz.example.zone"), small_server(UPSTREAM, "example.zone")]
     try:
-        server = start()
+        server = start(program)
         print(server.stdout.readline(), end="", flush=True)  # the zone is loaded
         for name, tcp in QUERIES:
             ask(name, tcp)
