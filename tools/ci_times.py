@@ -1,14 +1,15 @@
 #!/usr/bin/env python3
-"""ci_times.py [--every SECONDS] PID: the processor time of a running `rt ci`, by crate and by kind of work.
+"""ci_times.py [--every SECONDS] [--steps N] PID: the processor time of a running `rt ci`, by crate and by kind of work.
 
-Start it beside `rt ci`, whose process has the number PID; it looks at that run's processes until the run has ended, and
-then prints a table in the form of docs/MEASUREMENTS.md: for each crate the minutes of processor time of its proofs, of its tests
-and of its must-fail edits, and the sums. What a process used between the last look and its end is missed, so the numbers
-are a little low.
+Start it beside `rt ci`, which the process of the number PID is or has started; it looks at that run's processes until PID has ended,
+or it is told to end (SIGTERM), and then prints a table in the form of docs/MEASUREMENTS.md: for each crate the minutes of processor
+time of its proofs, of its tests and of its must-fail edits, and the sums; or with --steps how long it took and the N dearest of
+these. What a process used between the last look and its end is missed, so the numbers are a little low.
 """
 import argparse
 import collections
 import os
+import signal
 import time
 
 TICKS = os.sysconf("SC_CLK_TCK")
@@ -63,7 +64,9 @@ def kind_of(words, folder):
 def watch(every, run):
     seen = {}
     began = time.time()
-    while os.path.exists(f"/proc/{run}"):
+    told = []
+    signal.signal(signal.SIGTERM, lambda number, frame: told.append(number))
+    while os.path.exists(f"/proc/{run}") and not told:
         for identity, words, folder, seconds in processes(run):
             seen[identity] = (*kind_of(words, folder), seconds)
         time.sleep(every)
@@ -82,14 +85,24 @@ def table(seen):
         yield f"| {name} | " + " | ".join(f"{sums[name, kind] / 60:.1f}" for kind in KINDS) + " |"
 
 
+def dearest(seen, count):
+    sums = collections.Counter()
+    for name, kind, seconds in seen:
+        sums[name, kind] += seconds
+    for (name, kind), seconds in sums.most_common(count):
+        yield f"{seconds / 60:6.1f} minutes of processor time: {name}, {kind}"
+
+
 def main():
     reader = argparse.ArgumentParser(description=__doc__.split("\n\n")[0])
     reader.add_argument("--every", type=float, default=0.5, metavar="SECONDS")
-    reader.add_argument("run", metavar="PID", help="the process of `rt ci`")
+    reader.add_argument("--steps", type=int, metavar="N")
+    reader.add_argument("run", metavar="PID", help="the process of `rt ci`, or one that has started it")
     words = reader.parse_args()
     seen, passed = watch(words.every, words.run)
-    print(*table(seen), sep="\n")
-    print(f"\n{passed / 60:.1f} minutes on {os.cpu_count()} processors")
+    print(*(dearest(seen, words.steps) if words.steps else table(seen)), sep="\n")
+    used = sum(seconds for _, _, seconds in seen) / 60
+    print(f"{passed / 60:.1f} minutes on {os.cpu_count()} processors, {used:.1f} minutes of processor time", flush=True)
 
 
 if __name__ == "__main__":

@@ -2,7 +2,8 @@
 """reading_order.py: which definitions the contracts of `run` and of a worker rest on, each module after those that it cites.
 
     python3 tools/reading_order.py            writes docs/READING_ORDER.md
-    python3 tools/reading_order.py --check    says whether that file is what the tool would write; ends with status 1 if not
+    python3 tools/reading_order.py --check    says whether that file is what the tool would write, and which names of it stand for two
+                                              things; ends with status 1 if it isn't, or if there are any
 
 It starts from the names that the clauses of these functions import (`ghost use`), and follows them through the `use` lines of the files
 in specs/. A name counts as cited where it stands in the text of a definition; definitions of the toolchain's library and of its
@@ -186,7 +187,21 @@ def type_rows(crates, types):
             yield f"| {crate} | {listed(names)} |"
 
 
-def page():
+def doubled(modules, definitions, types):
+    """The names that stand for two things in the list: definitions and their constructors, and types of src/."""
+    places = {}
+    for (crate, module), name in definitions:
+        places.setdefault(name, set()).add(f"{crate}/{module}")
+        for constructor, of in modules[crate, module].constructors.items():
+            if of == name:
+                places.setdefault(constructor, set()).add(f"{crate}/{module} {of}")
+    for crate, place in types:
+        if not place.endswith("TheConstants"):
+            places.setdefault(place.split(".")[-1], set()).add(f"{crate}, {place.split('.')[0]}.rt")
+    return {name: sorted(where) for name, where in sorted(places.items()) if len(where) > 1}
+
+
+def page(found):
     with open("crates.txt", encoding="utf-8") as file:
         lines = [line.partition("#")[0].strip() for line in file]
     crates = [line.split(":")[0] for line in lines if line]
@@ -213,6 +228,7 @@ def page():
             yield from type_rows(crates, types - known_types)
         known |= seen
         known_types |= types
+    found.update(doubled(modules, known, known_types))
 
 
 def main():
@@ -220,14 +236,17 @@ def main():
     reader.add_argument("--check", action="store_true")
     words = reader.parse_args()
     os.chdir(ROOT)
-    text = "\n".join(page()) + "\n"
+    found = {}
+    text = "\n".join(page(found)) + "\n"
+    for name, where in found.items():
+        print(f"{name} stands for two things: {'; '.join(where)}")
     if not words.check:
         TARGET.write_text(text, encoding="utf-8")
         return 0
     stored = TARGET.read_text(encoding="utf-8") if TARGET.exists() else ""
     if stored == text:
         print("docs/READING_ORDER.md is up to date")
-        return 0
+        return 1 if found else 0
     names = ("docs/READING_ORDER.md", "what tools/reading_order.py writes")
     print(*list(difflib.unified_diff(stored.splitlines(), text.splitlines(), *names, lineterm="", n=0))[:20], sep="\n")
     print("docs/READING_ORDER.md is out of date: run python3 tools/reading_order.py")

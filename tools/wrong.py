@@ -1,0 +1,86 @@
+#!/usr/bin/env python3
+"""wrong.py: tries wrong bodies that are not tried by the gate; the prover must refuse each.
+
+    python3 tools/wrong.py [NAME ..] [--keep FOLDER]
+
+NAME is a crate; without names, all that have a folder crates/NAME/wrong/. The edits there have the form of those in must-fail/. They
+are tried in a clone of the last commit, in a folder that is removed behind it, unless --keep names one, where a later run goes on:
+each crate is checked there, and then `rt must-fail` tries its edits. Ends with status 1 where an edit is proved, can't be applied,
+or wasn't tried, and prints what became of each.
+
+Run it for a crate whose contracts or bodies change, and write the day into docs/PROOFS.md.
+"""
+
+import argparse
+import pathlib
+import re
+import shutil
+import subprocess
+import sys
+import tempfile
+
+ROOT = pathlib.Path(__file__).resolve().parent.parent
+REFUSED = "refused, as it must be"
+
+
+def crates_with_edits():
+    return sorted(folder.parent.name for folder in ROOT.glob("crates/*/wrong"))
+
+
+def clone(folder):
+    """A clone of the last commit in the folder, or the one that is there brought up to it."""
+    if (folder / ".git").exists():
+        subprocess.run(["git", "fetch", "-q", "origin", "HEAD"], cwd=folder, check=True)
+        subprocess.run(["git", "reset", "-q", "--hard", "FETCH_HEAD"], cwd=folder, check=True)
+    else:
+        subprocess.run(["git", "clone", "-q", str(ROOT), str(folder)], check=True)
+
+
+def put_edits(folder, name):
+    """The edits of wrong/ in the place of those that the gate tries; gives their number."""
+    target = folder / "crates" / name / "must-fail"
+    shutil.rmtree(target, ignore_errors=True)
+    shutil.copytree(folder / "crates" / name / "wrong", target)
+    return len(list(target.glob("*.edit")))
+
+
+def try_crate(folder, name):
+    """The lines about the edits of a crate, and how many of them were refused and how many there are."""
+    count = put_edits(folder, name)
+    checked = subprocess.run(["rt", "check"], cwd=folder / "crates" / name, capture_output=True, text=True)
+    if checked.returncode:
+        return [f"{name}: it isn't proved, so none of its {count} edits was tried"], 0, count
+    done = subprocess.run(["rt", "must-fail", name], cwd=folder, capture_output=True, text=True)
+    lines = [line for line in (done.stdout + done.stderr).splitlines() if re.search(r"must-fail|edit", line)]
+    kept = sum(int(known) for known in re.findall(r": (\d+) of its \d+ must-fail edits were tried by an earlier run", done.stdout))
+    refused = kept + sum(REFUSED in line for line in lines)
+    return lines, refused, count
+
+
+def try_all(folder, names):
+    refused, total = 0, 0
+    for name in names:
+        lines, good, count = try_crate(folder, name)
+        print(*lines, sep="\n", flush=True)
+        refused, total = refused + good, total + count
+    print(f"{refused} of {total} wrong bodies refused")
+    return refused == total
+
+
+def main():
+    reader = argparse.ArgumentParser(description=__doc__.split("\n\n")[0])
+    reader.add_argument("names", nargs="*", metavar="NAME")
+    reader.add_argument("--keep", type=pathlib.Path, metavar="FOLDER")
+    words = reader.parse_args()
+    known = crates_with_edits()
+    unknown = set(words.names) - set(known)
+    if unknown:
+        sys.exit(f"no wrong bodies: {', '.join(sorted(unknown))}")
+    with tempfile.TemporaryDirectory(prefix="wrong-") as room:
+        folder = words.keep or pathlib.Path(room) / "clone"
+        clone(folder)
+        return 0 if try_all(folder, words.names or known) else 1
+
+
+if __name__ == "__main__":
+    sys.exit(main())
