@@ -83,7 +83,7 @@ impl Progress {
         let gathered = mem::replace(&mut self.gathered, Gathered::new());
         match gathered.next_soa(alloc, asked.wanted, alone, soa)? {
             NextSoa::On(next) => {
-                self.gathered = next;
+                drop(mem::replace(&mut self.gathered, next));
                 Ok(None)
             }
             NextSoa::Current(theirs) => Ok(Some(theirs)),
