@@ -1,11 +1,12 @@
 //! A reader of a transfer.
 
-ghost use Rattle.std.specs.Prelude.{◌≡◌, ℕ, List, [], ◌∷◌, ◌++◌, Some, None, Err, IfOk, IfErr};
+ghost use Rattle.std.specs.Prelude.{◌≡◌, ℕ, List, [], ◌∷◌, ◌++◌, Some, None, Ok, Err, IfOk, IfErr};
 ghost use Rattle.axfr_apply.specs.declared.transfer_request.TheConstants.{MOST};
 ghost use Rattle.axfr_apply.specs.declared.fault.TransferError.TheVariants as errors;
 ghost use Rattle.axfr_apply.specs.declared.fault.TransferFault.TheVariants as faults;
+ghost use Rattle.axfr_apply.specs.Block.{transfer_of};
 ghost use Rattle.axfr_apply.specs.Reading.{outcome_of};
-ghost use Rattle.ixfr_apply.specs.Feeding.{Falls, Feeds, IsFinished, IsOfReader, Meets, Waits, feed_outcome, left_of, new_reader};
+ghost use Rattle.ixfr_apply.specs.Feeding.{Falls, Feeds, IsFinished, IsOfReader, Meets, Waits, feed_outcome, left_of, new_reader, transfer_outcome};
 
 use crate::progress::Progress;
 use axfr_apply::laws::a_record_is_a_block_or_a_row;
@@ -88,15 +89,32 @@ impl TransferReader {
             (feed_outcome self.old.asked (Some progress) message.now) }
         ensures asked { self.new.asked ≡ self.old.asked }
     {
-        if let Some(theirs) = progress.take_message(self.alloc, &self.asked, message)? {
-            return Ok(Fed::Current { theirs });
+        match progress.take_message(self.alloc, &self.asked, message) {
+            Ok(None) => Ok(self.end_message(progress)),
+            Ok(Some(theirs)) => {
+                drop(progress);
+                Ok(Fed::Current { theirs })
+            }
+            Err(error) => {
+                drop(progress);
+                Err(error)
+            }
         }
+    }
+
+    // What the end of a message is, behind which the transfer has come so far.
+    fn end_message(&mut self, progress: Progress) -> Fed
+        requires { self.old.progress ≡ None }
+        ensures meets { Meets (Ok result) self.new.progress
+            (Ok (transfer_outcome (transfer_of progress.gathered) progress)) }
+        ensures asked { self.new.asked ≡ self.old.asked }
+    {
         let Progress { count, gathered } = progress;
         match gathered.into_transfer() {
-            AtEnd::Done(transfer) => Ok(Fed::Done(transfer)),
+            AtEnd::Done(transfer) => Fed::Done(transfer),
             AtEnd::Open(gathered) => {
-                self.progress = Some(Progress { count, gathered });
-                Ok(Fed::More)
+                drop(self.progress.replace(Progress { count, gathered }));
+                Fed::More
             }
         }
     }
