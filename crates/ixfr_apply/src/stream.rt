@@ -51,7 +51,9 @@ pub fn read_transfer<S: Source>(
         (result ≢ Err (AFault AReadFault)) × S.steady source.new }
 {
     let mut reader = TransferReader::start(alloc, id, origin, wanted)?;
-    read_on(alloc, source, &mut reader)
+    let taken = read_on(alloc, source, &mut reader);
+    drop(reader);
+    taken
 }
 
 // Reads a transfer of which nothing was read yet.
