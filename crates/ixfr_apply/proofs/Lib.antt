@@ -3,6 +3,7 @@ pub mod Standing
 pub mod Counting
 pub mod Feeding
 pub mod Streams
+pub mod StreamLaw
 pub mod Own
 pub mod Taking
 pub mod Short

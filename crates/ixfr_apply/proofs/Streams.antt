@@ -43,10 +43,14 @@ prepended-two xs ys (Some rest) = ap Some (sym (append_assoc xs ys rest))
 pub takes_more : (before now after : Option (List ℕ)) → TakesSome before now → TakesSome now after → TakesSome before after
 takes_more before now after first other = (first.0 ++ other.0, first.1 ∙ ap (prepended first.0) other.1 ∙ prepended-two first.0 other.0 after)
 
-first_comes : (asked : TransferRequest) (before : Option (List ℕ)) → IfSome before (λ bytes. Comes asked [] bytes before)
+-- no message was read
+pub none_comes : (asked : TransferRequest) (bytes : List ℕ) → Comes asked [] bytes (Some bytes)
 unfolding reading
+none_comes asked bytes = record { rest = bytes; left = refl; frames = length bytes + 1; enough = omega arith; goes = refl }
+
+first_comes : (asked : TransferRequest) (before : Option (List ℕ)) → IfSome before (λ bytes. Comes asked [] bytes before)
 first_comes asked None = tt
-first_comes asked (Some bytes) = record { rest = bytes; left = refl; frames = length bytes + 1; enough = omega arith; goes = refl }
+first_comes asked (Some bytes) = none_comes asked bytes
 
 -- nothing was read
 pub first_come : (asked : TransferRequest) (reader : Reader) (before : Option (List ℕ)) → reader.asked ≡ asked → Waits reader [] → HasCome asked reader before before

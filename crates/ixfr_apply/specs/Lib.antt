@@ -4,3 +4,4 @@ pub mod Stream
 pub mod Request
 pub mod Marks
 pub mod Offer
+pub mod Laws

@@ -33,7 +33,8 @@ read_from (suc frames) asked before bytes =
     read_of_frame (read_from frames asked) asked before (frame_at bytes)
 
 -- What a stream is: how the first of its messages, so many that they end the transfer, do so; or that it ends before, in a frame
--- or between frames. Each frame has two bytes at least, so the number of frames never ends the reading.
+-- or between frames. Each frame has two bytes at least, so the number of frames never ends the reading: by the law
+-- `a_stream_is_read_by_its_frames` it is `StreamReads`, which knows no such number.
 unfoldable pub reading : TransferRequest → List ℕ → Read
 reading asked bytes = read_from (length bytes + 1) asked [] bytes
 

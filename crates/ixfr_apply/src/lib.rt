@@ -3,6 +3,7 @@
 //! is asked for next.
 #![tactic(auto)]
 
+pub mod laws;
 mod marks;
 mod progress;
 mod reader;
