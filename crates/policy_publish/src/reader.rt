@@ -98,7 +98,7 @@ fn enter<N: StoreName>(
 }
 
 impl<N: StoreName> PolicyReader<N> {
-    ghost use Rattle.std.specs.Prelude.{◌≡◌, OnOk, OnErr, IfOk};
+    ghost use Rattle.std.specs.Prelude.{◌≡◌, OnOk, OnErr, IfOk, IsTrue};
     ghost use Rattle.policy_snapshot.specs.Stands.{StandsFor};
     ghost use Rattle.policy_publish.specs.Lists.{GoesOn, WasTold, KeepsTold};
 
@@ -139,8 +139,15 @@ impl<N: StoreName> PolicyReader<N> {
         }
     }
 
-    // Takes a version that was entered, and has it from now on behind a count of its own.
+    // Whether a front goes on from what was seen and what was told.
     #[tactic(auto, using(crate::proofs::Fronts::prefix_trans))]
+    fn is_later(&self, front: &Front<N>) -> bool
+        ensures { IsTrue result → GoesOn self.now front.now }
+    {
+        self.seen.begins(front) && self.told.begins(front)
+    }
+
+    // Takes a version that was entered.
     fn take(&mut self, shown: Shown) -> Result<Arc<Snapshot, Global>, AllocError>
         requires { IsOf N.store shown }
         ensures stands { IfOk result
@@ -151,10 +158,28 @@ impl<N: StoreName> PolicyReader<N> {
     {
         let Shown { version, line } = shown;
         let front = Front::over(line);
-        // never so: what is entered is not older than what was seen or told; but no clause of `left_right` says it
-        if !self.seen.begins(&front) || !self.told.begins(&front) {
-            return Err(AllocError);
+        // never false: what is entered is not older than what was seen or told; but no clause of `left_right` says it
+        if self.is_later(&front) {
+            self.keep(&version, front)
+        } else {
+            Err(AllocError)
         }
+    }
+
+    // Has a version from now on behind a count of its own.
+    fn keep(
+        &mut self,
+        version: &Snapshot,
+        front: Front<N>,
+    ) -> Result<Arc<Snapshot, Global>, AllocError>
+        requires stands { StandsFor N.store.origins version.now front }
+        requires later { GoesOn self.old front }
+        ensures stands { IfOk result
+            (λ version. StandsFor N.store.origins (arc_value version) self.new.seen) }
+        ensures later { OnOk result (GoesOn self.old self.new.seen) }
+        ensures told { self.new.told ≡ self.old.told }
+        ensures err { OnErr result (self.new ≡ self.old) }
+    {
         let own = Arc::new(self.alloc, version.again(self.alloc)?)?;
         let again = Arc::try_clone(&own)?;
         self.seen = front;
