@@ -10,13 +10,18 @@ use crate::serve_error::ServeError;
 use crate::telling::Queues;
 use answer_cache::{AnswerCache, MOST_ENTRIES};
 use crossbeam_channel::{Receiver, Sender, unbounded};
-use edge_io::{Clock, Endpoint, Ids, Spawner, StartError, WireError, Wires};
+use edge_io::{
+    Clock, Endpoint, Ids, Link, Sink, Source, Spawner, StartError, Task, WireError, Wires,
+};
 use policy_publish::{PolicyReader, StoreName, Told};
 use rpz_workers::{ChannelItems, Item, NoGate, Report, ServeTask, Worker};
-use std::alloc::Global;
+use std::alloc::{AllocError, Global};
 use std::hash::{BuildHasherDefault, FoldHasher};
 use std::sync::Wait;
 use std::thread::Threads;
+
+// The cache of a worker.
+type OwnCache<L> = AnswerCache<L, BuildHasherDefault<FoldHasher>>;
 
 // A link to the upstream, and a place for replies.
 fn wire_worker<W: Wires>(wires: &mut W, upstream: Endpoint) -> Result<(W::Up, W::Back), ServeError>
@@ -39,6 +44,43 @@ fn wire_worker<W: Wires>(wires: &mut W, upstream: Endpoint) -> Result<(W::Up, W:
         Err(WireError::Failed) => Err(ServeError::SocketFault),
         Err(WireError::OutOfMemory) => Err(ServeError::OutOfMemory),
     }
+}
+
+// Starts a task.
+fn start_task<J: Task<Report> + Send + Drop + 'static, P: Spawner<Report>, R: Threads>(
+    rt: &R,
+    spawner: &mut P,
+    job: J,
+) -> Result<(), ServeError>
+    ensures ok { OnOk result (P.waiting spawner.new ≡ P.waiting spawner.old + 1) }
+    ensures err { OnErr result (P.waiting spawner.new ≡ P.waiting spawner.old) }
+    ensures gathered { P.gathered spawner.new ≡ P.gathered spawner.old }
+    ensures count { P.faults spawner.old ≤ P.faults spawner.new }
+    ensures failed { result ≡ Err ServeError.StartFault →
+        Rose (P.faults spawner.old) (P.faults spawner.new) }
+    ensures not_socket { result ≢ Err ServeError.SocketFault }
+    ensures not_write { result ≢ Err ServeError.WriteFault }
+{
+    match spawner.start(rt, job) {
+        Ok(()) => Ok(()),
+        Err(StartError::Failed) => Err(ServeError::StartFault),
+        Err(StartError::OutOfMemory) => Err(ServeError::OutOfMemory),
+    }
+}
+
+// An empty cache, and the items of a worker: those of the queue, and what it is told.
+fn cache_and_items<N: StoreName, L: Link, S: Source + Drop, K: Sink + Drop, R: Wait + Copy + Drop>(
+    rt: &R,
+    alloc: Global,
+    items: &Receiver<Item<N, S, K>>,
+    told: &mut Vec<Sender<Told<N>>>,
+) -> Result<(OwnCache<L>, ChannelItems<N, S, K, R>), AllocError> {
+    let hashers: BuildHasherDefault<FoldHasher> = BuildHasherDefault::new();
+    let cache = AnswerCache::open(alloc, MOST_ENTRIES, hashers)?;
+    let (sender, receiver) = unbounded(alloc)?;
+    told.push(sender)?;
+    let items = items.clone()?;
+    Ok((cache, ChannelItems::new(*rt, items, receiver)))
 }
 
 // Starts a worker that takes from the queue, with an empty cache.
@@ -70,18 +112,13 @@ fn start_worker<
     ensures not_socket { result ≢ Err ServeError.SocketFault }
     ensures not_write { result ≢ Err ServeError.WriteFault }
 {
-    let hashers: BuildHasherDefault<FoldHasher> = BuildHasherDefault::new();
-    let cache = AnswerCache::open(alloc, MOST_ENTRIES, hashers)?;
-    let (sender, receiver) = unbounded(alloc)?;
-    told.push(sender)?;
-    let items = items.clone()?;
+    let (cache, items) = cache_and_items(rt, alloc, items, told)?;
     let worker = Worker::new(alloc, reader, cache, link, ids, NoGate);
-    let items = ChannelItems::new(*rt, items, receiver);
-    match spawner.start(rt, ServeTask::new(*rt, worker, items, replies, clock)) {
-        Ok(()) => Ok(()),
-        Err(StartError::Failed) => Err(ServeError::StartFault),
-        Err(StartError::OutOfMemory) => Err(ServeError::OutOfMemory),
-    }
+    start_task(
+        rt,
+        spawner,
+        ServeTask::new(*rt, worker, items, replies, clock),
+    )
 }
 
 /// Opens the queue, and starts a worker for each reader, with a clock and IDs of its own.
