@@ -1,5 +1,5 @@
 -- Parts of a server's run.
-use Rattle.std.proofs.Common.{◌≡◌, ◌≢◌, ◌+◌, ℕ, List, Option, refl, sym, subst, add-one, inl, inr, Result, Ok, Err, arith}
+use Rattle.std.proofs.Common.{◌≡◌, ◌≢◌, ◌+◌, ℕ, List, Option, refl, sym, ap, ◌∙◌, subst, add-one, inl, inr, Result, Ok, Err, arith}
 use Rattle.std.specs.Prelude.{IfErr, OnErr}
 use Rattle.std.proofs.lemmas.List.{append-nil}
 use Rattle.edge_io.specs.Told.{one_more}
@@ -13,6 +13,10 @@ use Rattle.rpz_program.proofs.ZonePolls.{none_polled, stopped_before, turn_stopp
 
 pub linked_more : (linked : Option (List Endpoint)) (at : Endpoint) (n : ℕ) → linked_with linked at (n + 1) ≡ one_more (linked_with linked at n) at
 linked_more linked at n = rw add-one refl
+
+-- one more link behind so many
+pub linked_next : (before now next : Option (List Endpoint)) (at : Endpoint) (n : ℕ) → next ≡ one_more now at → now ≡ linked_with before at n → next ≡ linked_with before at (n + 1)
+linked_next before now next at n e so_far = e ∙ (ap (λ (l : Option (List Endpoint)). one_more l at) so_far ∙ sym (linked_more before at n))
 
 -- a run that ended in its turns
 pub stopped_in_turns : {S K : Type 0} (views : ConnectionViews S K) (why : ServeError) (before : FeedState S K) (turns : ℕ) (zones : List ZoneSource) (after : FeedState S K) → StopsTurns views why before turns zones after → StopsServing views why before turns zones after.held

@@ -121,6 +121,47 @@ fn start_worker<
     )
 }
 
+// Starts a worker for a reader, with a clock and IDs of its own.
+fn start_one<
+    N: StoreName + Send + Sync + 'static,
+    W: Wires,
+    P: Spawner<Report>,
+    C: Clock + Drop + Send + 'static,
+    I: Ids + Drop + Send + 'static,
+    R: Threads + Wait + Copy + Drop + Send + Sync + 'static,
+>(
+    rt: &R,
+    alloc: Global,
+    upstream: Endpoint,
+    reader: PolicyReader<N>,
+    wires: &mut W,
+    spawner: &mut P,
+    clock: &mut C,
+    ids: &mut I,
+    items: &Receiver<Item<N, W::In, W::Out>>,
+    told: &mut Vec<Sender<Told<N>>>,
+) -> Result<(), ServeError>
+    ensures linked { OnOk result (W.linked wires.new ≡ one_more (W.linked wires.old) upstream) }
+    ensures waiting { OnOk result (P.waiting spawner.new ≡ P.waiting spawner.old + 1) }
+    ensures bound { W.bound wires.new ≡ W.bound wires.old }
+    ensures fetches { FetchesNothing W.fetches W.fetched W.fetch_faults wires.old wires.new }
+    ensures ids { I.ids ids.new ≡ I.ids ids.old }
+    ensures gathered { P.gathered spawner.new ≡ P.gathered spawner.old }
+    ensures wire_count { W.faults wires.old ≤ W.faults wires.new }
+    ensures start_count { P.faults spawner.old ≤ P.faults spawner.new }
+    ensures socket { result ≡ Err ServeError.SocketFault →
+        Rose (W.faults wires.old) (W.faults wires.new) }
+    ensures start { result ≡ Err ServeError.StartFault →
+        Rose (P.faults spawner.old) (P.faults spawner.new) }
+    ensures not_write { result ≢ Err ServeError.WriteFault }
+{
+    let (link, replies) = wire_worker(wires, upstream)?;
+    let (own_clock, own_ids) = (clock.another(), ids.another());
+    start_worker::<N, W, P, C, I, R>(
+        rt, alloc, reader, link, replies, spawner, own_clock, own_ids, items, told,
+    )
+}
+
 /// Opens the queue, and starts a worker for each reader, with a clock and IDs of its own.
 pub(crate) fn start_all<
     N: StoreName + Send + Sync + 'static,
@@ -163,17 +204,15 @@ pub(crate) fn start_all<
         let Some(reader) = readers.pop() else {
             return Err(ServeError::OutOfMemory);
         };
-        let (link, replies) = wire_worker(wires, upstream)?;
-        let (own_clock, own_ids) = (clock.another(), ids.another());
-        start_worker::<N, W, P, C, I, R>(
+        start_one::<N, W, P, C, I, R>(
             rt,
             alloc,
+            upstream,
             reader,
-            link,
-            replies,
+            wires,
             spawner,
-            own_clock,
-            own_ids,
+            clock,
+            ids,
             &items,
             &mut queues.told,
         )?;
