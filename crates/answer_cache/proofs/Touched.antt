@@ -11,7 +11,7 @@ use Rattle.answer_cache.specs.Recent.{HaveSameEntries, live_entry, if_live, is_a
 -- ---- a look-up
 
 -- what is found is among the entries, about the question
-find_in : (question : Question) (es : List PlainLearned) (e : PlainLearned) → find (is_about question) es ≡ Some e → Contains es e × (is_about question e ≡ true)
+pub find_in : (question : Question) (es : List PlainLearned) (e : PlainLearned) → find (is_about question) es ≡ Some e → Contains es e × (is_about question e ≡ true)
 find_in question [] e h = absurd cc
 find_in question (f ∷ es) e h = (elim (is_about question f) as (λ y. is_about question f ≡ y → Contains (f ∷ es) e × (is_about question e ≡ true)) [
   | true ↦ λ t. let h' = rw t at h in let same : f ≡ e = cc in (subst (Contains (f ∷ es)) same (Contains-head f es), subst (λ g. is_about question g ≡ true) same t)

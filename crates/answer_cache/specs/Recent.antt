@@ -1,6 +1,6 @@
 -- A cache: what was learned, the most recently used first (RFC 2308, section 5).
 use Rattle.std.specs.Prelude.{◌≡◌, ◌↔◌, ℕ, ◌==◌, Contains, Bool, true, if◌then◌else◌, List, [], ◌∷◌, take, Option, Some, None}
-use Rattle.std.specs.List.{find}
+use Rattle.std.specs.List.{IsDistinct, find}
 use Rattle.std.specs.Option.{option_map_or}
 use Rattle.std.specs.Str.{bytes_eq}
 use Rattle.dns_message.specs.declared.question.Question.{Question}
@@ -56,3 +56,7 @@ pub record Serves (question : Question) (now : ℕ) (entry : PlainLearned) : Typ
 abbrev pub HaveSameEntries : List PlainLearned → List PlainLearned → Type 0
 HaveSameEntries entries others =
     (entry : PlainLearned) → Contains entries entry ↔ Contains others entry
+
+-- No two entries are about one question.
+abbrev pub AreApart : List PlainLearned → Type 0
+AreApart entries = IsDistinct (λ entry other. is_about entry.question other) entries

@@ -1,7 +1,7 @@
 //! The cache.
 
 ghost use Rattle.std.specs.Prelude.{◌≡◌, ◌≤◌, [], option_copied, IfOk, IfSome, OnOk, OnErr};
-ghost use Rattle.answer_cache.specs.Recent.{Serves, live_entry, if_live, after_keep, recent, after_look_up};
+ghost use Rattle.answer_cache.specs.Recent.{AreApart, Serves, live_entry, if_live, after_keep, recent, after_look_up};
 
 use crate::key::key_octets;
 use dns_message::Question;
@@ -52,7 +52,8 @@ impl<L: Link, S: BuildHasher + Drop> AnswerCache<L, S> {
     }
 
     /// What was learned of the question, if it is live: it has come by now, and its life isn't over. `now` is in seconds. An entry
-    /// about the question goes first, live or not. No record is copied. An `Err` leaves the cache as it was.
+    /// about the question goes first, live or not; there is one at most, since no two entries of a cache are about one question. No
+    /// record is copied. An `Err` leaves the cache as it was.
     pub fn get(
         &mut self,
         alloc: Global,
@@ -62,10 +63,13 @@ impl<L: Link, S: BuildHasher + Drop> AnswerCache<L, S> {
         ensures found { IfOk result
             (λ entry. entry ≡ live_entry question.now now self.old.entries) }
         ensures serves { IfOk result (λ entry. IfSome entry (Serves question.now now)) }
+        ensures apart { AreApart self.old.entries }
         ensures ok { OnOk result
             (self.new ≡ recent (after_look_up question.now self.old.entries) self.old.limit) }
         ensures err { OnErr result (self.new ≡ self.old) }
     {
+        // called for its clause: the keys of a map are distinct
+        let _count = self.entries.len();
         let key = key_octets(alloc, question)?;
         let entry = copied_if_live(self.entries.peek(key.as_slice()), now)?;
         self.entries.promote(key.as_slice());

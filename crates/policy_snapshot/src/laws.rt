@@ -1,12 +1,12 @@
 //! Laws of policies and the transfers that they take. Each function is its clauses, and does nothing.
 
-ghost use Rattle.std.specs.Prelude.{◌≡◌, ℕ, ◌+◌, ◌-◌, ◌∷◌, [], ◌++◌, List, length, map, None, Some, Ok, IsTrue, slice_set};
+ghost use Rattle.std.specs.Prelude.{◌≡◌, ◌↔◌, ℕ, ◌+◌, ◌-◌, ◌∷◌, [], ◌++◌, List, length, map, None, Option, Some, Ok, IsTrue, slice_set};
 ghost use Rattle.zone_rows.specs.declared.transfer.Transfer.{Transfer};
 ghost use Rattle.zone_rows.specs.declared.zone.PlainZone.{PlainZone};
 ghost use Rattle.zone_rows.specs.Content.{unloaded};
 ghost use Rattle.zone_rows.specs.Zone.{apply_outcome};
 ghost use Rattle.dns_message.specs.declared.request.Query.{Query};
-ghost use Rattle.rpz_precedence.specs.Best.{best};
+ghost use Rattle.rpz_precedence.specs.Best.{AreHits, IsBest, PlainHit, best};
 ghost use Rattle.upstream_link.specs.Facts.{Extends, PlainFacts};
 ghost use Rattle.policy_snapshot.specs.Hits.{hits};
 ghost use Rattle.policy_snapshot.specs.Next.{next, pending};
@@ -37,6 +37,21 @@ pub fn a_policy_takes_transfers_one_by_one()
         length (policy_after origins entries) ≡ length origins }
     ensures count { (n : ℕ) → next_count (count_of n) ≡ count_of (n + 1) }
 {}
+
+/// No two rules of a policy that are hit at a position of the chain of aliases are at one rank. So the rule that decides there is
+/// the only one that is hit and that no other hit precedes; there is none only where nothing is hit.
+pub fn no_two_hits_are_at_one_rank()
+    ensures apart { (zones : List PlainZone) (query : Query) (facts : PlainFacts) (position : ℕ)
+        (name : List (List ℕ)) → HaveRows zones →
+        AreHits (hits (rules zones) query facts position name) }
+    ensures decides { (zones : List PlainZone) (query : Query) (facts : PlainFacts) (position : ℕ)
+        (name : List (List ℕ)) (found : Option PlainHit) → HaveRows zones →
+        (found ≡ best (hits (rules zones) query facts position name))
+        ↔ IsBest (hits (rules zones) query facts position name) found }
+{
+    an_index_has_the_rules_of_its_zone();
+    the_best_hit_is_the_one_that_nothing_precedes();
+}
 
 /// Nothing that isn't known could matter. Where no question is pending at a position of the chain of aliases, the best hit there
 /// is the same whatever facts come behind, and nothing is pending then either. Where what comes next for a query is no question,

@@ -4,6 +4,7 @@ use Rattle.answer_cache.specs.Keyed.{has}
 use Rattle.std.specs.Map.{lookup}
 use Rattle.std.specs.Option.{option_copied}
 use Rattle.answer_cache.specs.Key.{key_of}
+use Rattle.answer_cache.proofs.Apart.{apart_keyed}
 use Rattle.answer_cache.proofs.Finding.{found-serves}
 use Rattle.answer_cache.proofs.Entries.{IsKeyed-promoted, values-promoted, found-in_values}
 use Rattle.answer_cache.proofs.cache.AnswerCache.get.Goals as goal
@@ -25,3 +26,12 @@ pub returns-clause-ok : goal.returns-clause-ok
 returns-clause-ok g c =
     let key : c.as_slice-2.result.now ≡ key_of c.args.question.now = c.as_slice-2.ensures ∙ c.in_ok-key.ensures in
     rw (← c.self.view_is, c.promote.ensures.entries, key) (ap (λ es. recent es c.self.inside.entries.cap) (values-promoted c.args.question.now c.self.inside.entries.entries c.self.invariant))
+
+pub returns-in_err-key-clause-apart : goal.returns-in_err-key-clause-apart
+returns-in_err-key-clause-apart g c = rw (← c.self.view_is) (apart_keyed c.self.inside.entries.entries c.self.invariant c.len-count.ensures.valid.0)
+
+pub returns-in_err-entry-clause-apart : goal.returns-in_err-entry-clause-apart
+returns-in_err-entry-clause-apart g c = rw (← c.self.view_is) (apart_keyed c.self.inside.entries.entries c.self.invariant c.len-count.ensures.valid.0)
+
+pub returns-clause-apart : goal.returns-clause-apart
+returns-clause-apart g c = rw (← c.self.view_is) (apart_keyed c.self.inside.entries.entries c.self.invariant c.len-count.ensures.valid.0)
