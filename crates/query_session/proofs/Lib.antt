@@ -5,3 +5,5 @@ pub mod TurnCount
 pub mod FailureCauses
 pub mod StandingReply
 pub mod PassedName
+pub mod Failures
+pub mod KeptFacts

@@ -1,10 +1,11 @@
--- What sessions come to: a reply after at most FACT_LIMIT facts, and why a query may have no answer.
-use Rattle.std.specs.Prelude.{◌≡◌, ℕ, zero, suc, Bool, true, false, List, [], ◌∷◌, ◌++◌, Option, Some, None}
+-- What sessions come to: a reply after at most FACT_LIMIT facts, and why it may have rcode 2.
+use Rattle.std.specs.Prelude.{◌≡◌, ◌≤◌, ℕ, zero, suc, Bool, true, false, length, List, [], ◌∷◌, ◌++◌, Option, Some, None}
 use Rattle.std.specs.List.{AllByRecursion}
 use Rattle.dns_record.specs.Record.{PlainRecord}
 use Rattle.dns_message.specs.declared.question.Question.{Question}
 use Rattle.dns_message.specs.declared.request.Incoming.{Incoming}
 use Rattle.dns_message.specs.declared.request.Query.{Query}
+use Rattle.dns_message.specs.Limit.{reply_limit, spelling_within}
 use Rattle.ip_prefix.specs.declared.Transport.TheVariants.{Tcp}
 use Rattle.action_codec.specs.Local.{PlainLocal}
 use Rattle.action_codec.specs.declared.action.Action.TheVariants.{PassThru, TcpOnly, Local}
@@ -12,13 +13,17 @@ use Rattle.upstream_link.specs.declared.fact.Fact.{Fact}
 use Rattle.upstream_link.specs.declared.fact.Fact.TheVariants.{Answer, Broken}
 use Rattle.upstream_link.specs.declared.fact.AnswerFault.{AnswerFault}
 use Rattle.upstream_link.specs.Chain.{asks_alias}
+use Rattle.upstream_link.specs.declared.facts.TheConstants.{FACT_LIMIT}
 use Rattle.upstream_link.specs.Facts.{PlainFacts, fact_about}
 use Rattle.upstream_link.specs.Kept.{IsAnswer}
 use Rattle.upstream_link.specs.Question.{question_of, main_question}
+use Rattle.reply_build.specs.declared.said.Said.TheVariants as said
 use Rattle.reply_build.specs.declared.turn.Turn.{Turn}
 use Rattle.reply_build.specs.declared.turn.Turn.TheVariants.{Ask, Said}
+use Rattle.reply_build.specs.Reply.{by_verdict, needs, reply_of, server_failure}
 use Rattle.reply_build.specs.Target.{alias_in, target_of}
-use Rattle.reply_build.specs.Verdict.{PlainVerdict, passes, fails, hits}
+use Rattle.reply_build.specs.Verdict.{PlainVerdict, passes, hits}
+use Rattle.policy_snapshot.specs.Next.{Next, ask, decided_by, no_hit, chain_too_long, next}
 use Rattle.policy_snapshot.specs.Policy.{PlainPolicy}
 use Rattle.query_session.specs.Session.{turn_by}
 
@@ -72,10 +77,8 @@ pub data LeadsTo : PlainVerdict → Option (List (List ℕ)) → Type 0 where
       → alias_in rows ≡ Some row → target_of name row.rdata ≡ target
       → LeadsTo (hits (Local rows) soa before name) target
 
--- Why a query gets rcode 2, by what is decided of it and what is known.
+-- Why the reply to what is decided of a query has rcode 2, by what is known.
 pub data HasCause (query : Query) (verdict : PlainVerdict) (facts : PlainFacts) : Type 0 where
-  -- it is decided that there is no answer
-  given_up : verdict ≡ fails → HasCause query verdict facts
   -- the answer of the upstream is to pass, and there is none
   no_answer : LetsPass query verdict → IsBroken facts (main_question query)
       → HasCause query verdict facts
@@ -85,3 +88,37 @@ pub data HasCause (query : Query) (verdict : PlainVerdict) (facts : PlainFacts) 
   no_target : (target : List (List ℕ)) → LeadsTo verdict (Some target)
       → asks_alias query.question.qtype ≡ false
       → IsBroken facts (question_of target query.question.qtype) → HasCause query verdict facts
+
+-- what is decided where this comes next: by the rule that is hit, or that no rule is hit; None where nothing is decided
+abbrev pub verdict_in : Next → Option PlainVerdict
+verdict_in (ask question) = None
+verdict_in (decided_by before name hit) = Some (hits hit.action hit.soa before name)
+verdict_in no_hit = Some passes
+verdict_in chain_too_long = None
+
+-- this is decided of a query under a policy, by what is known
+abbrev pub IsDecided : PlainPolicy → Query → PlainFacts → PlainVerdict → Type 0
+IsDecided policy query facts verdict = verdict_in (next policy query facts) ≡ Some verdict
+
+-- The answer to this question is needed: by the rules, or by the reply to what is decided.
+pub data IsNeeded (policy : PlainPolicy) (query : Query) (facts : PlainFacts)
+    (question : Question) : Type 0 where
+  by_rules : next policy query facts ≡ ask question → IsNeeded policy query facts question
+  by_reply : (verdict : PlainVerdict) → IsDecided policy query facts verdict
+      → by_verdict query verdict facts ≡ needs question → IsNeeded policy query facts question
+
+-- the reply of rcode 2 to a query
+abbrev pub failure_turn : Query → Turn
+failure_turn query =
+    Said (said.Reply (spelling_within (reply_limit query) (reply_of query server_failure)))
+
+-- Why a query gets rcode 2 under a policy, by what is known.
+pub data FailsBy (policy : PlainPolicy) (query : Query) (facts : PlainFacts) : Type 0 where
+  -- the chain of aliases has more than CHAIN_LIMIT names
+  long_chain : next policy query facts ≡ chain_too_long → FailsBy policy query facts
+  -- the answer to one more question is needed, and as many facts are known as may be
+  many_facts : (question : Question) → IsNeeded policy query facts question
+      → FACT_LIMIT ≤ length facts → FailsBy policy query facts
+  -- the reply to what is decided has it
+  by_cause : (verdict : PlainVerdict) → IsDecided policy query facts verdict
+      → HasCause query verdict facts → FailsBy policy query facts

@@ -1,15 +1,19 @@
 //! Laws of sessions. Each function is its clauses, and does nothing.
 
-ghost use Rattle.std.specs.Prelude.{◌≡◌, ◌↔◌, ℕ, ◌≤◌, [], length, true, IsTrue};
+ghost use Rattle.std.specs.Prelude.{◌≡◌, ◌↔◌, ℕ, ◌≤◌, List, [], length, true, IsTrue};
+ghost use Rattle.dns_message.specs.declared.question.Question.{Question};
 ghost use Rattle.dns_message.specs.declared.request.Incoming.{Incoming};
+ghost use Rattle.dns_message.specs.declared.request.Incoming.TheVariants.{Query as Asks};
 ghost use Rattle.dns_message.specs.declared.request.Query.{Query};
 ghost use Rattle.policy_snapshot.specs.Policy.{PlainPolicy};
 ghost use Rattle.policy_snapshot.specs.Stands.{HaveRows};
-ghost use Rattle.query_session.specs.Laws.{AreKept, HasCause, Upstream, facts_after, is_said};
+ghost use Rattle.query_session.specs.Laws.{AreKept, FailsBy, IsKept, Upstream, facts_after, failure_turn, is_said};
 ghost use Rattle.query_session.specs.Session.{turn_by};
-ghost use Rattle.reply_build.specs.Reply.{by_verdict, gives, server_failure};
-ghost use Rattle.reply_build.specs.Verdict.{PlainVerdict};
+ghost use Rattle.upstream_link.specs.declared.fact.AnswerFault.{AnswerFault};
+ghost use Rattle.upstream_link.specs.declared.fact.Fact.TheVariants.{Broken};
 ghost use Rattle.upstream_link.specs.declared.facts.TheConstants.{FACT_LIMIT};
+ghost use Rattle.upstream_link.specs.Fact.{fact_from};
+ghost use Rattle.upstream_link.specs.Life.{with_age};
 ghost use Rattle.upstream_link.specs.Facts.{Extends, PlainFacts};
 
 use policy_snapshot::laws::nothing_unasked_could_matter;
@@ -25,12 +29,22 @@ pub fn at_most_128_facts_bring_a_reply()
         length (facts_after policy incoming upstream turns []) ≤ FACT_LIMIT }
 {}
 
-/// A query gets rcode 2 in exactly four cases: it is decided that there is no answer; the answer of the upstream is to
-/// pass, and there is none; the name that the rule's CNAME record leads to is too long; or that record itself isn't
-/// asked for, and the upstream has no answer about the name that it leads to.
+/// A query gets the reply of rcode 2 in exactly these cases: the chain of aliases has too many names; the answer to one more
+/// question is needed, and [`FACT_LIMIT`](upstream_link::FACT_LIMIT) facts are known; or something is decided, but the upstream has
+/// no answer that could pass, the name that the rule's CNAME record leads to is too long, or the upstream has no answer about that
+/// name, where the CNAME record itself isn't asked for. The facts are such as
+/// [`what_is_obtained_is_kept`](what_is_obtained_is_kept) says.
 pub fn a_failure_has_a_cause()
-    ensures { (query : Query) (verdict : PlainVerdict) (facts : PlainFacts) → AreKept facts →
-        (by_verdict query verdict facts ≡ gives server_failure) ↔ HasCause query verdict facts }
+    ensures { (policy : PlainPolicy) (query : Query) (facts : PlainFacts) → AreKept facts →
+        (turn_by policy (Asks query) facts ≡ failure_turn query) ↔ FailsBy policy query facts }
+{}
+
+/// What bytes say, at whatever age, has rcode 0 or 3, records of class IN and a SOA record at most where it is an answer. So has
+/// nothing, where nothing comes.
+pub fn what_is_obtained_is_kept()
+    ensures bytes { (octets : List ℕ) (id : ℕ) (question : Question) (seconds : ℕ) →
+        IsKept (with_age seconds (fact_from octets id question)) }
+    ensures broken { (why : AnswerFault) → IsKept (Broken why) }
 {}
 
 /// Once there is a reply, or silence, it stays whatever facts come then, of at most [`FACT_LIMIT`](upstream_link::FACT_LIMIT)
