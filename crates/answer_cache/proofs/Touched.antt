@@ -1,12 +1,13 @@
 -- What a look-up finds, and the entries after it.
-use Rattle.std.proofs.Common.{◌≡◌, ℕ, Bool, true, false, cond, List, [], ◌∷◌, Option, Some, None, Contains, inl, inr, refl, ap, subst}
+use Rattle.std.proofs.Common.{◌≡◌, ◌==◌, ◌⊎◌, ℕ, Bool, true, false, cond, List, [], ◌∷◌, Option, Some, None, Contains, inl, inr, refl, ap, subst}
 use Rattle.std.specs.List.{find}
 use Rattle.std.specs.Option.{option_map_or}
 use Rattle.std.proofs.lemmas.Bool.{cond_both}
+use Rattle.lru.proofs.CallerLemmas.{Contains-take}
 use Rattle.lru.proofs.Splits.{Contains-head, Contains-tail, Contains-cons}
 use Rattle.dns_message.specs.declared.question.Question.{Question}
-use Rattle.upstream_link.specs.Vouched.{PlainLearned, live}
-use Rattle.answer_cache.specs.Recent.{HaveSameEntries, live_entry, if_live, is_about, after_look_up, without}
+use Rattle.upstream_link.specs.Vouched.{PlainLearned, life, live}
+use Rattle.answer_cache.specs.Recent.{HaveSameEntries, live_entry, if_live, is_about, after_keep, after_look_up, put_first, without}
 
 -- ---- a look-up
 
@@ -75,3 +76,14 @@ find_by question es (Some f) is = find_first question f (without question es) (f
 
 pub found_touched : (question : Question) (now : ℕ) (es : List PlainLearned) → live_entry question now (after_look_up question es) ≡ live_entry question now es
 found_touched question now es = ap (if_live now) (find_by question es (find (is_about question) es) refl)
+
+-- ---- a new entry
+
+-- it comes alone
+pub among_kept : (limit : ℕ) (entry : PlainLearned) (es : List PlainLearned) (x : PlainLearned) → Contains (after_keep limit entry es) x → Contains es x ⊎ (entry ≡ x)
+among_kept limit entry es x = cond_both (life entry == 0) es (put_first limit entry es) (λ l. Contains l x → Contains es x ⊎ (entry ≡ x))
+    (λ _ at. inl at)
+    (λ _ at. elim (Contains-cons entry (without entry.question es) x (Contains-take limit (entry ∷ without entry.question es) x at)) [
+      | inl same ↦ inr same
+      | inr rest ↦ inl (without_among entry.question es x rest)
+    ])

@@ -19,7 +19,7 @@ use Rattle.zone_rows.specs.Steps.{steps_outcome}
 use Rattle.zone_rows.specs.Zone.{newer_soa, fewer_rows, apply_outcome, apply_outcome_within}
 use Rattle.zone_index.specs.Indexed.{HasRows}
 use Rattle.policy_snapshot.specs.declared.entry.Entry.{Entry}
-use Rattle.policy_snapshot.specs.Policy.{PlainPolicy, zone_at, zone_by, zone_after, with_zone_after, policy_with, policy_after}
+use Rattle.policy_snapshot.specs.Policy.{AreAccepted, AreTaken, TakesTransfer, PlainPolicy, zone_at, zone_by, zone_after, with_zone_after, policy_with, policy_after}
 use Rattle.policy_snapshot.specs.Stands.{HaveRows, PlainSnapshot, Stands, next_count, count_of, origins_of}
 
 pub policy_after-push : (origins : List (List (List ℕ))) (entries : List Entry) (entry : Entry) → policy_after origins (entries ++ entry ∷ []) ≡ policy_with (policy_after origins entries) entry
@@ -86,6 +86,22 @@ pub policy_next : (origins : List (List (List ℕ))) (entries : List Entry) (num
     → policy_after origins (entries ++ record { zone = number; transfer = transfer } ∷ []) ≡ slice_set (policy_after origins entries) (number - 1) next
 policy_next origins entries number transfer zone next at e =
     policy_after-push origins entries (record { zone = number; transfer = transfer }) ∙ with_next (policy_after origins entries) number transfer zone next at e
+
+-- ---- lists of accepted transfers
+
+taken_push : (policy : PlainPolicy) (entries : List Entry) (entry : Entry) → AreTaken policy entries → TakesTransfer (zone_at (fold policy_with policy entries) entry.zone) entry.transfer → AreTaken policy (entries ++ entry ∷ [])
+taken_push policy [] entry are takes = (takes, tt)
+taken_push policy (first ∷ entries) entry are takes = (are.0, taken_push (policy_with policy first) entries entry are.1 takes)
+
+takes_at : (found : Option PlainZone) (zone next : PlainZone) (transfer : Transfer) → found ≡ Some zone → apply_outcome zone transfer ≡ Ok next → TakesTransfer found transfer
+takes_at found zone next transfer at e = subst (λ (o : Option PlainZone). TakesTransfer o transfer) (sym at) (next, e)
+
+-- one more transfer is accepted where its zone takes it
+pub accepted_next : (origins : List (List (List ℕ))) (entries : List Entry) (number : ℕ) (transfer : Transfer) (zone next : PlainZone) → AreAccepted origins entries → zone_at (policy_after origins entries) number ≡ Some zone → apply_outcome zone transfer ≡ Ok next
+    → AreAccepted origins (entries ++ record { zone = number; transfer = transfer } ∷ [])
+unfolding policy_after
+accepted_next origins entries number transfer zone next are at e =
+    taken_push (map unloaded origins) entries (record { zone = number; transfer = transfer }) are (takes_at (zone_at (policy_after origins entries) number) zone next transfer at e)
 
 pub count_after : (n : ℕ) → next_count (count_of n) ≡ count_of (n + 1)
 count_after n = count_next n

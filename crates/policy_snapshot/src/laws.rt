@@ -11,7 +11,7 @@ ghost use Rattle.upstream_link.specs.Facts.{Extends, PlainFacts};
 ghost use Rattle.policy_snapshot.specs.Hits.{hits};
 ghost use Rattle.policy_snapshot.specs.Next.{next, pending};
 ghost use Rattle.policy_snapshot.specs.declared.entry.Entry.{Entry};
-ghost use Rattle.policy_snapshot.specs.Policy.{policy_after, zone_at};
+ghost use Rattle.policy_snapshot.specs.Policy.{AreAccepted, policy_after, zone_at};
 ghost use Rattle.policy_snapshot.specs.Rules.{rules};
 ghost use Rattle.policy_snapshot.specs.Settled.{is_settled};
 ghost use Rattle.policy_snapshot.specs.Stands.{HaveRows, count_of, next_count};
@@ -22,8 +22,8 @@ use rpz_precedence::laws::{
 use upstream_link::laws::what_is_known_stays_known;
 use zone_index::laws::an_index_has_the_rules_of_its_zone;
 
-/// The policy after no transfer has nothing loaded; one more transfer that its zone takes changes this zone alone. The number of
-/// zones stays.
+/// The policy after no transfer has nothing loaded; one more transfer that its zone takes changes this zone alone, and is accepted
+/// behind accepted ones. The number of zones stays.
 pub fn a_policy_takes_transfers_one_by_one()
     ensures first { (origins : List (List (List ℕ))) →
         policy_after origins [] ≡ map unloaded origins }
@@ -33,6 +33,11 @@ pub fn a_policy_takes_transfers_one_by_one()
         apply_outcome zone transfer ≡ Ok next →
         policy_after origins (entries ++ record { zone = number; transfer = transfer } ∷ [])
         ≡ slice_set (policy_after origins entries) (number - 1) next }
+    ensures accepted { (origins : List (List (List ℕ))) (entries : List Entry) (number : ℕ)
+        (transfer : Transfer) (zone next : PlainZone) → AreAccepted origins entries →
+        zone_at (policy_after origins entries) number ≡ Some zone →
+        apply_outcome zone transfer ≡ Ok next →
+        AreAccepted origins (entries ++ record { zone = number; transfer = transfer } ∷ []) }
     ensures zones { (origins : List (List (List ℕ))) (entries : List Entry) →
         length (policy_after origins entries) ≡ length origins }
     ensures count { (n : ℕ) → next_count (count_of n) ≡ count_of (n + 1) }

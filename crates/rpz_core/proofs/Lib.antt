@@ -7,3 +7,5 @@ pub mod Transfers
 pub mod Settled
 pub mod Turns
 pub mod Answered
+pub mod Histories
+pub mod Kept

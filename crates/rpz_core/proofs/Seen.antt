@@ -54,7 +54,7 @@ outcome_takes zone t (Ok after) is transfer next e =
     ap (apply_outcome zone) (sym same_transfer) ∙ is ∙ ap (λ (z : PlainZone). let r : Result PlainZone ApplyFault = Ok z in r) same_zone
 outcome_takes zone t (Err fault) is transfer next e = absurd cc
 
-reading_takes : (zone : PlainZone) (read : Outcome) (transfer : transfers.Transfer) (next : PlainZone) → offer_by_reading zone read ≡ takes transfer next → apply_outcome zone transfer ≡ Ok next
+pub reading_takes : (zone : PlainZone) (read : Outcome) (transfer : transfers.Transfer) (next : PlainZone) → offer_by_reading zone read ≡ takes transfer next → apply_outcome zone transfer ≡ Ok next
 reading_takes zone (Ok (taken.Current theirs)) transfer next e = absurd cc
 reading_takes zone (Ok (taken.New t)) transfer next e = outcome_takes zone t (apply_outcome zone t) refl transfer next e
 reading_takes zone (Err fault) transfer next e = absurd cc

@@ -4,6 +4,7 @@ pub mod Sessions
 pub mod Offer
 pub mod World
 pub mod State
+pub mod History
 pub mod Pending
 pub mod Faults
 pub mod Offered

@@ -1,11 +1,13 @@
 //! Laws of the world and its steps. Each function is its clauses, and does nothing.
 
-ghost use Rattle.std.specs.Prelude.{◌≡◌, ◌≢◌, ◌↔◌, ◌-◌, ℕ, List, length, Some, None, Ok, Err};
+ghost use Rattle.std.specs.Prelude.{◌≡◌, ◌≢◌, ◌↔◌, ◌-◌, ℕ, List, ◌∷◌, Contains, length, Some, None, Ok, Err};
 ghost use Rattle.answer_cache.specs.Recent.{HaveSameEntries, live_entry};
 ghost use Rattle.dns_message.specs.declared.question.Question.{Question};
 ghost use Rattle.dns_message.specs.declared.request.Incoming.{Incoming};
-ghost use Rattle.policy_snapshot.specs.Policy.{PlainPolicy};
+ghost use Rattle.policy_snapshot.specs.Policy.{AreAccepted, PlainPolicy};
+ghost use Rattle.query_session.specs.Laws.{AreKept};
 ghost use Rattle.query_session.specs.Session.{turn_by};
+ghost use Rattle.reply_build.specs.declared.said.Said.{Said};
 ghost use Rattle.reply_build.specs.declared.turn.Turn.TheVariants.{Ask};
 ghost use Rattle.rpz_core.specs.Answered.{AreAnswered};
 ghost use Rattle.rpz_core.specs.Resolving.{resolve};
@@ -18,9 +20,46 @@ ghost use Rattle.rpz_core.specs.declared.event.Output.{Output};
 ghost use Rattle.rpz_core.specs.declared.event.Output.TheVariants as output;
 ghost use Rattle.ixfr_apply.specs.declared.refusal.Refusal.{Refusal};
 ghost use Rattle.rpz_core.specs.Faults.{IsQuiet, fault_of};
+ghost use Rattle.rpz_core.specs.History.{AreObtained, IsAnsweredAs, IsAskedAs, IsLearned, IsPendingAs, IsPendingAt, Reaches};
+ghost use Rattle.rpz_core.specs.Sessions.{PendingQuery, said_output};
 ghost use Rattle.ixfr_apply.specs.Marks.{mark_at};
 ghost use Rattle.rpz_core.specs.State.{CoreState, core_step, as_core_outcome, state_of};
 ghost use Rattle.rpz_core.specs.World.{World, world_step};
+
+use policy_snapshot::laws::a_policy_takes_transfers_one_by_one;
+use query_session::laws::what_is_obtained_is_kept;
+
+/// Whatever happens: each reply, or silence, is what the policy answers under which its query came, by the facts that were
+/// obtained for it. Each of these facts is of a question that this policy asked, by the facts before it: it is what the bytes say
+/// that came for this question, under its ID, or came for it earlier and are live in the cache; or that nothing came. What is asked
+/// is what the policy asks. The policy is that after the transfers that were accepted when the query came, each of which its zone
+/// took as those before it left the policy.
+pub fn each_reply_is_the_policys_answer()
+    ensures origins { (origins : List (List (List ℕ))) (events : List Event) (world : World) →
+        Reaches origins events world → world.origins ≡ origins }
+    ensures accepted { (origins : List (List (List ℕ))) (events : List Event) (world : World) →
+        Reaches origins events world → AreAccepted world.origins world.accepted }
+    ensures pending { (origins : List (List (List ℕ))) (events : List Event) (world : World)
+        (worker : ℕ) (pending : PendingQuery) → Reaches origins events world →
+        IsPendingAt world worker pending → IsPendingAs origins events world worker pending }
+    ensures cached { (origins : List (List (List ℕ))) (events : List Event) (world : World)
+        (entry : PlainLearned) → Reaches origins events world →
+        Contains world.sessions.cached entry → IsLearned origins events entry }
+    ensures kept { (origins : List (List (List ℕ))) (worker : ℕ) (events : List Event)
+        (policy : PlainPolicy) (incoming : Incoming) (facts : PlainFacts) →
+        AreObtained origins worker events policy incoming facts → AreKept facts }
+    ensures asks { (origins : List (List (List ℕ))) (events : List Event) (event : Event)
+        (world next : World) (worker : ℕ) (message : List ℕ) → Reaches origins events world →
+        world_step world event ≡ Ok (next, output.Ask worker message) →
+        IsAskedAs next worker message }
+    ensures replies { (origins : List (List (List ℕ))) (events : List Event) (event : Event)
+        (world next : World) (worker : ℕ) (said : Said) → Reaches origins events world →
+        world_step world event ≡ Ok (next, said_output worker said) →
+        IsAnsweredAs origins (event ∷ events) next worker said }
+{
+    a_policy_takes_transfers_one_by_one();
+    what_is_obtained_is_kept();
+}
 
 /// An event is refused exactly where a zone or a worker of its number isn't there, a query comes to a worker whose query is
 /// pending, or an answer comes or fails for one that has none.
@@ -56,7 +95,7 @@ pub fn an_event_keeps_the_zones_and_the_workers()
 {}
 
 /// A transfer that is refused adds nothing to the accepted ones, and so leaves the policy. No transfer changes the mark of
-/// another zone, or a pending query, which keeps the policy that it came under.
+/// another zone, or a pending query, which keeps the policy that it came under; nor the zones' origins, the cache or the clock.
 pub fn a_refused_transfer_changes_nothing_but_the_mark()
     ensures accepted { (world next : World) (number zone : ℕ) (stream : List ℕ) (why : Refusal) →
         world_step world (Transfer number stream) ≡ Ok (next, output.Refused zone why) →
@@ -67,6 +106,12 @@ pub fn a_refused_transfer_changes_nothing_but_the_mark()
     ensures pending { (world next : World) (number : ℕ) (stream : List ℕ) (out : Output) →
         world_step world (Transfer number stream) ≡ Ok (next, out) →
         next.sessions ≡ world.sessions }
+    ensures origins { (world next : World) (number : ℕ) (stream : List ℕ) (out : Output) →
+        world_step world (Transfer number stream) ≡ Ok (next, out) →
+        next.origins ≡ world.origins }
+    ensures clock { (world next : World) (number : ℕ) (stream : List ℕ) (out : Output) →
+        world_step world (Transfer number stream) ≡ Ok (next, out) →
+        next.clock ≡ world.clock }
 {}
 
 /// The turns of a query at a second, where live entries of the cache answer what it asks: what is done in the end is what is done

@@ -5,7 +5,7 @@ ghost use Rattle.zone_rows.specs.declared.zone.TheConstants.{ZONE_LIMIT};
 ghost use Rattle.policy_snapshot.specs.Policy.{zone_at};
 ghost use Rattle.rpz_core.specs.Offered.{core_by_offered};
 ghost use Rattle.rpz_core.specs.State.{Steps, StepsBare, TurnsBare, core_step, uncached_core, full_step, new_core, as_core_outcome, state_of, transfer_step};
-ghost use Rattle.rpz_core.specs.World.{World, world_step};
+ghost use Rattle.rpz_core.specs.World.{World, new_world, world_step};
 
 use crate::event::{CoreError, CoreFault, Event, Output};
 use crate::laws::the_core_does_what_the_world_does;
@@ -14,6 +14,7 @@ use crate::sessions::{Sessions, WORKERS};
 use dns_name::{Name, Octets};
 use ixfr_apply::{Marks, wanted};
 use policy_snapshot::Snapshot;
+use policy_snapshot::laws::a_policy_takes_transfers_one_by_one;
 use std::alloc::{AllocError, Global};
 use std::marker::Model;
 use std::sync::Arc;
@@ -47,8 +48,10 @@ impl Core {
     /// Zones of these origins in this order, at most 32, with nothing loaded, and no query is pending.
     pub fn start(alloc: Global, origins: &[Name]) -> Result<Self, AllocError>
         requires { length origins.now ≤ ZONE_LIMIT }
-        ensures { IfOk result (λ core. core ≡ new_core origins.now) }
+        ensures core { IfOk result (λ core. core ≡ new_core origins.now) }
+        ensures world { IfOk result (λ core. core ≡ state_of (new_world origins.now)) }
     {
+        a_policy_takes_transfers_one_by_one();
         let policy = Arc::new(alloc, Snapshot::start(alloc, origins)?)?;
         let marks = Marks::new(alloc, origins)?;
         let sessions = Sessions::new(alloc)?;

@@ -1,4 +1,4 @@
-use Rattle.policy_snapshot.proofs.Standing.{policy_after-none, policy_next, policy_length, count_after}
+use Rattle.policy_snapshot.proofs.Standing.{accepted_next, policy_after-none, policy_next, policy_length, count_after}
 use Rattle.policy_snapshot.proofs.laws.a_policy_takes_transfers_one_by_one.Goals as goal
 
 pub returns-clause-first : goal.returns-clause-first
@@ -12,3 +12,6 @@ returns-clause-zones c = policy_length
 
 pub returns-clause-count : goal.returns-clause-count
 returns-clause-count c = count_after
+
+pub returns-clause-accepted : goal.returns-clause-accepted
+returns-clause-accepted c = accepted_next

@@ -1,6 +1,6 @@
 use Rattle.policy_snapshot.specs.Policy.{zone_at}
 use Rattle.rpz_core.specs.World.{policy_of, world_step}
-use Rattle.rpz_core.proofs.Transfers.{refused_keeps, keeps_marks, keeps_sessions}
+use Rattle.rpz_core.proofs.Transfers.{refused_keeps, keeps_clock, keeps_marks, keeps_sessions}
 use Rattle.rpz_core.proofs.laws.a_refused_transfer_changes_nothing_but_the_mark.Goals as goal
 
 pub returns-clause-accepted : goal.returns-clause-accepted
@@ -14,3 +14,11 @@ returns-clause-others c = λ world next number other stream out e differs. keeps
 pub returns-clause-pending : goal.returns-clause-pending
 unfolding world_step
 returns-clause-pending c = λ world next number stream out e. keeps_sessions world next number stream (zone_at (policy_of world) number) out e
+
+pub returns-clause-origins : goal.returns-clause-origins
+unfolding world_step
+returns-clause-origins c = λ world next number stream out e. (keeps_clock world next number stream (zone_at (policy_of world) number) out e).0
+
+pub returns-clause-clock : goal.returns-clause-clock
+unfolding world_step
+returns-clause-clock c = λ world next number stream out e. (keeps_clock world next number stream (zone_at (policy_of world) number) out e).1
