@@ -5,7 +5,8 @@ use Rattle.dns_message.specs.declared.request.Incoming.{Incoming}
 use Rattle.upstream_link.specs.declared.facts.TheConstants.{FACT_LIMIT}
 use Rattle.upstream_link.specs.Facts.{PlainFacts}
 use Rattle.upstream_link.specs.Vouched.{PlainLearned, fact_at}
-use Rattle.answer_cache.specs.Recent.{HaveSameEntries, live_entry, after_look_up}
+use Rattle.answer_cache.specs.Recent.{AreApart, HaveSameEntries, live_entry, after_look_up}
+use Rattle.answer_cache.proofs.Apart.{apart_looked_up}
 use Rattle.answer_cache.proofs.Touched.{found_in, found_touched, touched_same}
 use Rattle.reply_build.specs.declared.turn.Turn.{Turn}
 use Rattle.reply_build.specs.declared.turn.Turn.TheVariants.{Ask, Said}
@@ -30,6 +31,7 @@ module _ (now : ℕ) (policy : PlainPolicy) (incoming : Incoming) where
     pub turn : r.turn ≡ turn_by policy incoming r.facts
     pub known : AreAnswered now policy incoming cached facts r.facts
     pub same : HaveSameEntries r.cached cached
+    pub apart : AreApart cached → AreApart r.cached
 
   abbrev GoesOn : Type 0
   GoesOn = List PlainLearned → PlainFacts → Resolved
@@ -37,7 +39,7 @@ module _ (now : ℕ) (policy : PlainPolicy) (incoming : Incoming) where
   by_found : (go_on : GoesOn) → ((cached : List PlainLearned) (facts : PlainFacts) → Explains cached facts (go_on cached facts))
       → (cached : List PlainLearned) (facts : PlainFacts) (question : Question) → turn_by policy incoming facts ≡ Ask question
       → (entry : Option PlainLearned) → live_entry question now cached ≡ entry → Explains cached facts (by_entry go_on now (after_look_up question cached) facts question entry)
-  by_found go_on deep cached facts question asks None is = record { turn = sym asks; known = no_more facts; same = touched_same question cached }
+  by_found go_on deep cached facts question asks None is = record { turn = sym asks; known = no_more facts; same = touched_same question cached; apart = apart_looked_up question cached }
   by_found go_on deep cached facts question asks (Some entry) is =
       let more = facts ++ (question, fact_at now entry) ∷ [] in
       let one = found_in question now cached entry is in
@@ -47,16 +49,17 @@ module _ (now : ℕ) (policy : PlainPolicy) (incoming : Incoming) where
         known = one_more facts (go_on (after_look_up question cached) more).facts question entry asks one.0 one.1 one.2
             (answered_among (after_look_up question cached) cached (λ e c. (touched_same question cached e).0 c) more (go_on (after_look_up question cached) more).facts rest.known);
         same = same_same (go_on (after_look_up question cached) more).cached (after_look_up question cached) cached rest.same (touched_same question cached);
+        apart = λ apart. rest.apart (apart_looked_up question cached apart);
       }
 
   by_kind : (go_on : GoesOn) → ((cached : List PlainLearned) (facts : PlainFacts) → Explains cached facts (go_on cached facts))
       → (cached : List PlainLearned) (facts : PlainFacts) (turn : Turn) → turn_by policy incoming facts ≡ turn → Explains cached facts (by_turn go_on now cached facts turn)
   by_kind go_on deep cached facts (Ask question) is = by_found go_on deep cached facts question is (live_entry question now cached) refl
-  by_kind go_on deep cached facts (Said s) is = record { turn = sym is; known = no_more facts; same = λ e. (λ c. c, λ c. c) }
+  by_kind go_on deep cached facts (Said s) is = record { turn = sym is; known = no_more facts; same = λ e. (λ c. c, λ c. c); apart = λ apart. apart }
 
   explained : (left : ℕ) (cached : List PlainLearned) (facts : PlainFacts) → Explains cached facts (resolve_within left now policy incoming cached facts)
   unfolding resolve_within
-  explained zero cached facts = record { turn = refl; known = no_more facts; same = λ e. (λ c. c, λ c. c) }
+  explained zero cached facts = record { turn = refl; known = no_more facts; same = λ e. (λ c. c, λ c. c); apart = λ apart. apart }
   explained (suc left) cached facts = by_kind (resolve_within left now policy incoming) (explained left) cached facts (turn_by policy incoming facts) refl
 
   pub resolve_explained : (cached : List PlainLearned) (facts : PlainFacts) → Explains cached facts (resolve now policy incoming cached facts)

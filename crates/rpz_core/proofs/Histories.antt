@@ -6,7 +6,8 @@ use Rattle.zone_rows.specs.declared.transfer.Transfer as transfers
 use Rattle.zone_rows.specs.declared.zone.PlainZone.{PlainZone}
 use Rattle.zone_rows.specs.Zone.{apply_outcome}
 use Rattle.answer_cache.specs.declared.cache.TheConstants.{MOST_ENTRIES}
-use Rattle.answer_cache.specs.Recent.{live_entry}
+use Rattle.answer_cache.specs.Recent.{AreApart, live_entry}
+use Rattle.answer_cache.proofs.Apart.{apart_kept, apart_none}
 use Rattle.answer_cache.proofs.Touched.{among_kept}
 use Rattle.ip_prefix.specs.declared.Addr.{Addr}
 use Rattle.ip_prefix.specs.declared.Transport.{Transport}
@@ -159,6 +160,7 @@ record Turned (origins : List (List (List ℕ))) (events : List Event) (w next :
   earlier : IsEarlierPolicy w policy
   obtained : AreObtained origins worker events policy incoming facts
   cached : (entry : PlainLearned) → Contains next.sessions.cached entry → IsLearned origins events entry
+  apart : AreApart next.sessions.cached
 
 -- ---- the world after some events
 
@@ -167,6 +169,7 @@ pub record Holds (origins : List (List (List ℕ))) (events : List Event) (w : W
   pub accepted : AreAccepted w.origins w.accepted
   pub pending : (worker : ℕ) (p : PendingQuery) → IsPendingAt w worker p → IsPendingAs origins events w worker p
   pub cached : (entry : PlainLearned) → Contains w.sessions.cached entry → IsLearned origins events entry
+  pub apart : AreApart w.sessions.cached
 
 -- what the laws of policies say
 abbrev pub OneMoreIsAccepted : Type 0
@@ -225,9 +228,9 @@ module _ (origins : List (List (List ℕ))) (events : List Event) (w next : Worl
   turned : (s : SessionsState) (facts : PlainFacts) (there : Option PendingQuery) (out : Output) → s.workers ≡ w.sessions.workers → slice_get w.sessions.workers worker ≡ Some there
       → with_sessions w (Ok (next_turn w.clock s worker policy incoming facts)) ≡ Ok (next, out) → IsEarlierPolicy w policy
       → ((later : PlainFacts) → AreAnswered w.clock policy incoming s.cached facts later → AreObtained origins worker events policy incoming later)
-      → ((entry : PlainLearned) → Contains s.cached entry → IsLearned origins events entry)
+      → ((entry : PlainLearned) → Contains s.cached entry → IsLearned origins events entry) → AreApart s.cached
       → Turned origins events w next out
-  turned s facts there out same at e earlier obtained cached =
+  turned s facts there out same at e earlier obtained cached apart =
       let r = resolve w.clock policy incoming s.cached facts in
       let explains = resolve_explained w.clock policy incoming s.cached facts in
       let mid = with_cached s r.cached in
@@ -255,6 +258,7 @@ module _ (origins : List (List (List ℕ))) (events : List Event) (w next : Worl
         earlier = earlier;
         obtained = obtained r.facts explains.known;
         cached = λ entry among. cached entry ((explains.same entry).0 (subst (λ (l : List PlainLearned). Contains l entry) (ap (λ (x : SessionsState). x.cached) (sym sessions) ∙ is.1) among));
+        apart = subst AreApart (sym is.1 ∙ ap (λ (x : SessionsState). x.cached) sessions) (explains.apart apart);
       }
 
 module _ (origins : List (List (List ℕ))) (events : List Event) (w next : World) (holds : Holds origins events w) (reached : Reaches origins events w) where
@@ -266,7 +270,7 @@ module _ (origins : List (List (List ℕ))) (events : List Event) (w next : Worl
   query_turns worker transport client message (Some None) out at e =
       let event = Query worker transport client message in
       turned origins (event ∷ events) w next worker (policy_of w) (incoming_of message client transport) w.sessions [] None out refl at e (earlier_now w)
-      (λ later known. comes events w transport client message later reached known) (λ entry among. before events event entry (holds.cached entry among))
+      (λ later known. comes events w transport client message later reached known) (λ entry among. before events event entry (holds.cached entry among)) holds.apart
 
   answer_turns : (worker : ℕ) (message : List ℕ) (slot : Option (Option PendingQuery)) (out : Output) → slice_get w.sessions.workers worker ≡ slot
       → with_sessions w (pending_step (answered_step w.clock w.sessions worker message) slot) ≡ Ok (next, out) → Turned origins (Give worker message ∷ events) w next out
@@ -282,7 +286,7 @@ module _ (origins : List (List (List ℕ))) (events : List Event) (w next : Worl
       (λ x among. elim (among_kept MOST_ENTRIES entry w.sessions.cached x among) [
         | inl old ↦ before events event x (holds.cached x old)
         | inr is ↦ subst (IsLearned origins (event ∷ events)) is (now events w worker message pending reached at)
-      ])
+      ]) (apart_kept MOST_ENTRIES entry w.sessions.cached holds.apart)
 
   failure_turns : (worker : ℕ) (slot : Option (Option PendingQuery)) (out : Output) → slice_get w.sessions.workers worker ≡ slot
       → with_sessions w (pending_step (λ pending. resumed_step w.clock w.sessions worker pending (Broken Failed)) slot) ≡ Ok (next, out) → Turned origins (Fail worker ∷ events) w next out
@@ -292,7 +296,7 @@ module _ (origins : List (List (List ℕ))) (events : List Event) (w next : Worl
       let event = Fail worker in
       let so = holds.pending worker pending at in
       turned origins (event ∷ events) w next worker pending.policy pending.incoming w.sessions (facts_with pending (Broken Failed)) (Some pending) out refl at e so.earlier
-      (λ later known. failed events w pending later reached at so.obtained so.asks known) (λ x among. before events event x (holds.cached x among))
+      (λ later known. failed events w pending later reached at so.obtained so.asks known) (λ x among. before events event x (holds.cached x among)) holds.apart
 
   did : (event : Event) (out : Output) → world_step w event ≡ Ok (next, out) → (Stays w next out) ⊎ (Turned origins (event ∷ events) w next out)
   unfolding world_step
@@ -331,6 +335,7 @@ module _ (one_more : OneMoreIsAccepted) (origins : List (List (List ℕ))) where
           accepted = grown w next stays.origins stays.grows holds.accepted;
           pending = λ worker p at. waits_on worker p more.0 stays.origins more.1 (subst (λ (s : SessionsState). slice_get s.workers worker ≡ Some (Some p)) stays.sessions at) at;
           cached = λ entry among. before events event entry (holds.cached entry (subst (λ (s : SessionsState). Contains s.cached entry) stays.sessions among));
+          apart = subst (λ (s : SessionsState). AreApart s.cached) (sym stays.sessions) holds.apart;
         }
 
     none_more : next.accepted ≡ w.accepted → next.accepted ≡ w.accepted ++ []
@@ -360,6 +365,7 @@ module _ (one_more : OneMoreIsAccepted) (origins : List (List (List ℕ))) where
       accepted = grown w next t.origins_are (inl t.accepted) holds.accepted;
       pending = turned_pending out t;
       cached = t.cached;
+      apart = t.apart;
     }
 
     -- ---- what is output
@@ -416,6 +422,7 @@ module _ (one_more : OneMoreIsAccepted) (origins : List (List (List ℕ))) where
     accepted = tt;
     pending = λ worker p at. absurd (new_place WORKERS worker p at);
     cached = λ entry among. absurd (omega (arith, among.1));
+    apart = apart_none;
   }
 
   did_holds : (events : List Event) (event : Event) (w next : World) (out : Output) → Holds origins events w → Reaches origins events w → Reaches origins (event ∷ events) next

@@ -1,7 +1,7 @@
 //! Laws of the world and its steps. Each function is its clauses, and does nothing.
 
 ghost use Rattle.std.specs.Prelude.{◌≡◌, ◌≢◌, ◌↔◌, ◌-◌, ℕ, List, ◌∷◌, Contains, length, Some, None, Ok, Err};
-ghost use Rattle.answer_cache.specs.Recent.{HaveSameEntries, live_entry};
+ghost use Rattle.answer_cache.specs.Recent.{AreApart, HaveSameEntries, live_entry};
 ghost use Rattle.dns_message.specs.declared.question.Question.{Question};
 ghost use Rattle.dns_message.specs.declared.request.Incoming.{Incoming};
 ghost use Rattle.policy_snapshot.specs.Policy.{AreAccepted, PlainPolicy};
@@ -45,6 +45,8 @@ pub fn each_reply_is_the_policys_answer()
     ensures cached { (origins : List (List (List ℕ))) (events : List Event) (world : World)
         (entry : PlainLearned) → Reaches origins events world →
         Contains world.sessions.cached entry → IsLearned origins events entry }
+    ensures apart { (origins : List (List (List ℕ))) (events : List Event) (world : World) →
+        Reaches origins events world → AreApart world.sessions.cached }
     ensures kept { (origins : List (List (List ℕ))) (worker : ℕ) (events : List Event)
         (policy : PlainPolicy) (incoming : Incoming) (facts : PlainFacts) →
         AreObtained origins worker events policy incoming facts → AreKept facts }

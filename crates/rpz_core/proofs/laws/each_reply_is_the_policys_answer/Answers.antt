@@ -22,3 +22,6 @@ returns-clause-replies c = λ origins events event world next worker said. each_
 
 pub returns-clause-kept : goal.returns-clause-kept
 returns-clause-kept c = obtained_kept c.what_is_obtained_is_kept.ensures.bytes
+
+pub returns-clause-apart : goal.returns-clause-apart
+returns-clause-apart c = λ origins events world reached. (all_hold c.a_policy_takes_transfers_one_by_one.ensures.accepted origins events world reached).apart
