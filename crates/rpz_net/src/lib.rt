@@ -21,8 +21,6 @@ mod system_clock;
 mod tcp_link;
 mod tcp_sink;
 mod tcp_source;
-#[cfg(test)]
-mod tests;
 mod time_limit;
 mod waiting;
 

@@ -1,0 +1,16 @@
+//! Tests of the sockets of `rpz_net` on the loopback, and nothing else. They show what no proof can: what goes there and back, that
+//! each limit of time holds, and which calls fail.
+#![tactic(auto)]
+
+#[cfg(test)]
+mod arrivals;
+#[cfg(test)]
+mod clients;
+#[cfg(test)]
+mod loopback;
+#[cfg(test)]
+mod primaries;
+#[cfg(test)]
+mod upstreams;
+#[cfg(test)]
+mod values;

@@ -1,0 +1,38 @@
+//! Addresses, the clock and IDs.
+
+use crate::loopback::at;
+use edge_io::{Clock, Endpoint, Ids};
+use ip_prefix::Addr;
+use rpz_net::{RandomIds, SystemClock, address_of, endpoint_of};
+use std::net::SocketAddr;
+use std::test::Fail;
+
+#[test]
+fn endpoints_are_addresses(rt: HostRuntime) -> Result<(), Fail> {
+    let v6 = Endpoint {
+        addr: Addr::V6((0x2001_0db8 << 96) + 0x35),
+        port: 853,
+    };
+    for (endpoint, text) in [(at(53), "127.0.0.1:53"), (v6, "[2001:db8::35]:853")] {
+        let address = text.parse::<SocketAddr>()?;
+        assert_eq!(rt; address_of(endpoint), address);
+        assert_eq!(rt; endpoint_of(address), endpoint);
+    }
+    Ok(())
+}
+
+#[test]
+fn the_clock_runs_and_ids_differ(rt: HostRuntime) {
+    let mut clock = SystemClock::new(rt);
+    assert!(rt; clock.now() > 1_600_000_000);
+    assert!(rt; clock.another().now() > 1_600_000_000);
+    let mut ids = RandomIds::new(rt);
+    let mut others = ids.another();
+    let mut differ = 0u32;
+    for _ in 0..64u32 {
+        if ids.next_id() != others.next_id() {
+            differ = differ.saturating_add(1);
+        }
+    }
+    assert!(rt; differ > 32);
+}
