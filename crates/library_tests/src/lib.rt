@@ -6,6 +6,8 @@
 #[cfg(test)]
 mod caches;
 #[cfg(test)]
+mod command_words;
+#[cfg(test)]
 mod edges;
 #[cfg(test)]
 mod frames;
@@ -15,6 +17,8 @@ mod indexes;
 mod laws;
 #[cfg(test)]
 mod links;
+#[cfg(test)]
+mod load_runs;
 #[cfg(test)]
 mod names;
 #[cfg(test)]

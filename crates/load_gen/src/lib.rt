@@ -19,6 +19,3 @@ pub use load::{Load, LoadQuery, MOST_QUERIES, MOST_RULES};
 pub use making::make;
 pub use running::{MOST_WORKERS, answer_all};
 pub use summary::{Summary, write_summary};
-
-#[cfg(test)]
-mod tests;

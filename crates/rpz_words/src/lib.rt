@@ -17,6 +17,3 @@ pub use settings::{
 };
 pub use words_error::WordsError;
 pub use zones::{ZoneSetting, Zones};
-
-#[cfg(test)]
-mod tests;

@@ -1,6 +1,8 @@
-use crate::{Command, Settings, WordsError, laws, read_words};
+//! What the words of a command line ask for.
+
 use edge_io::Endpoint;
 use ip_prefix::Addr;
+use rpz_words::{Command, Settings, WordsError, laws, read_words};
 use std::alloc::{AllocError, Global};
 use std::test::Fail;
 

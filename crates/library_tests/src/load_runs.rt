@@ -1,8 +1,10 @@
+//! The zone that a load run makes, and the line that it comes to.
+
 ghost use Rattle.std.specs.Prelude.{◌≤◌};
 
-use crate::{Load, MOST_WORKERS, answer_all, make, write_summary};
 use dns_name::Name;
 use dns_record::rtype;
+use load_gen::{Load, MOST_WORKERS, answer_all, make, write_summary};
 use std::alloc::{AllocError, Global};
 use std::test::Fail;
 use std::thread::Threads;
