@@ -1,9 +1,9 @@
 #!/usr/bin/env python3
 """How fast queries are answered by the rules of a zone, and how this changes with their number; and how fast by the cache.
 
-    python3 bench/queries.py BENCH_QUERIES RPZ [--before OLD_BENCH_QUERIES] [--cache]
+    python3 bench/queries.py BENCH RPZ [--before OLD_BENCH_QUERIES] [--cache]
 
-BENCH_QUERIES and RPZ are the built programs bench_queries and rpz; OLD_BENCH_QUERIES an earlier one that read one zone alone,
+BENCH and RPZ are the built programs bench and rpz; OLD_BENCH_QUERIES an earlier one that read one zone alone and took no words,
 whose times for 1,000,000 rules are then measured by turns with those of the new one. With --cache the last two tables
 alone are made.
 
@@ -11,12 +11,12 @@ Half of the rules of a zone are hK.gJ.example CNAME . and half *.wK.gJ.example C
 hits ask for names of the first kind, wildcard hits for x.wK.gJ.example, and passes for pK.gJ.example, which the server
 answers with one address, of TTL 0 so that each is asked for. The names are drawn at random, the same at each run.
 
-The first table is that of bench_queries, which does with the lines of a script what `rpz replay` does, over zones that it
+The first table is that of `bench queries`, which does with the lines of a script what `rpz replay` does, over zones that it
 reads from streams, for 1,000 and 1,000,000 rules: the queries per second once the zone is loaded. Then come 8 zones of
 1,000 rules of which the last one alone is hit. The next table is that of `rpz replay` itself for 1,000 rules and for as
 many as one line of a script holds, without the time of a script that has no queries. Each is the best of several runs.
 
-Then come cached passes: bench_queries is first asked for names pK.gJ.example, and is given an answer of 1, 4 or 20 addresses
+Then come cached passes: `bench queries` is first asked for names pK.gJ.example, and is given an answer of 1, 4 or 20 addresses
 for each, untimed. They are 4,000 at most, spread over the zone, of the 4,096 that the cache keeps. It is then asked for
 names that are drawn among them, in one run by turns with exact hits among as many names, exact hits among all names of the
 zone, and messages that are no queries, which get no reply: their time is about that of reading a line. All have an OPT
@@ -141,7 +141,7 @@ def write_lines(out, kind, count):
 
 
 def write_bench(out, kind, count):
-    """The input of bench_queries over one zone: its transfer, an empty message, then the lines."""
+    """The input of `bench queries` over one zone: its transfer, an empty message, then the lines."""
     write_transfer(out, rules(count))
     write_lines(out, kind, count)
 
@@ -200,8 +200,12 @@ def best_of(write, measure):
         return min(measure(stream.name) for _ in range(RUNS))
 
 
+def words_of(program, *origins):
+    return [program, "queries", *origins]
+
+
 def bench_rate(program, kind, count):
-    words = [program, "rpz.example"]
+    words = words_of(program, "rpz.example")
     seconds = best_of(lambda out: write_bench(out, kind, count), lambda path: bench_seconds(words, path, count))
     return BENCH_QUERIES / seconds
 
@@ -220,7 +224,7 @@ def origin_of(zone):
 
 
 def many_rate(program, kind, zones, count):
-    words = [program] + [f"rp{zone}.example" for zone in range(1, zones + 1)]
+    words = words_of(program, *(f"rp{zone}.example" for zone in range(1, zones + 1)))
     seconds = best_of(lambda out: write_many(out, kind, zones, count), lambda path: bench_seconds(words, path, zones * count))
     return BENCH_QUERIES / seconds
 
@@ -232,7 +236,8 @@ def compare(program, before, kind, count):
         write_before(old, kind, count)
         new.flush()
         old.flush()
-        runs = [(bench_seconds([program, "rpz.example"], new.name, count), bench_seconds([before], old.name, count)) for _ in range(TURNS)]
+        words = words_of(program, "rpz.example")
+        runs = [(bench_seconds(words, new.name, count), bench_seconds([before], old.name, count)) for _ in range(TURNS)]
     print(f"{kind}, {count} rules: {min(r[0] for r in runs) / min(r[1] for r in runs):.2f} times the time of the earlier program")
 
 
@@ -293,7 +298,7 @@ def asking(turn, queries):
 
 
 def write_parts(out, count, parts):
-    """The input of bench_queries over one zone: its transfer, an empty message, and parts of lines, an empty one between two."""
+    """The input of `bench queries` over one zone: its transfer, an empty message, and parts of lines, an empty one between two."""
     write_transfer(out, rules(count))
     for place, part in enumerate(parts):
         out.write(framed(b"") if place else b"")
@@ -347,7 +352,7 @@ def check(words, path, count, records):
 
 def cache_rates(program, count, records):
     """The queries per second of each kind, by its title."""
-    words = [program, "rpz.example"]
+    words = words_of(program, "rpz.example")
     titles = [title for title, _, _ in turns(count)]
     with tempfile.NamedTemporaryFile(suffix=".input") as stream:
         write_parts(stream, count, cache_parts(count, records))
@@ -358,7 +363,7 @@ def cache_rates(program, count, records):
 
 
 def cache_table(program):
-    print("bench_queries, cached passes by turns with exact hits")
+    print("bench queries, cached passes by turns with exact hits")
     for count in BENCH_RULES:
         for records in RECORDS:
             rate = cache_rates(program, count, records)
@@ -376,7 +381,7 @@ def calls_for_memory(program, shim, title, records, queries):
         write_parts(stream, COUNTED_RULES, (kept_lines(COUNTED_RULES, records), asking(turn, queries)))
         stream.seek(0)
         how = {"stdout": subprocess.DEVNULL, "stderr": subprocess.PIPE, "env": {**os.environ, "LD_PRELOAD": shim}}
-        run = subprocess.run([program, "rpz.example"], stdin=stream, check=True, **how)
+        run = subprocess.run(words_of(program, "rpz.example"), stdin=stream, check=True, **how)
     words = run.stderr.decode().splitlines()[-1].split()
     if words[:1] != ["malloc"]:
         sys.exit("the shim isn't loaded: is the program linked statically?")
@@ -408,26 +413,26 @@ def allocation_table(program):
 def rule_tables(wanted):
     if wanted.before:
         for kind in KINDS:
-            compare(wanted.bench_queries, wanted.before, kind, BENCH_RULES[1])
-    table("bench_queries", bench_rate, wanted.bench_queries, BENCH_RULES)
+            compare(wanted.bench, wanted.before, kind, BENCH_RULES[1])
+    table("bench queries", bench_rate, wanted.bench, BENCH_RULES)
     for kind in KINDS:
-        one = bench_rate(wanted.bench_queries, kind, MANY_RULES)
-        many = many_rate(wanted.bench_queries, kind, MANY_ZONES, MANY_RULES)
+        one = bench_rate(wanted.bench, kind, MANY_RULES)
+        many = many_rate(wanted.bench, kind, MANY_ZONES, MANY_RULES)
         print(f"{kind}: {many:.0f} queries/s with {MANY_ZONES} zones of {MANY_RULES} rules of which the last is hit, {one / many:.2f} times as long as with one")
     table("rpz replay", replay_rate, wanted.rpz, REPLAY_RULES)
 
 
 def main():
     parser = argparse.ArgumentParser()
-    parser.add_argument("bench_queries")
+    parser.add_argument("bench")
     parser.add_argument("rpz")
-    parser.add_argument("--before", help="an earlier bench_queries, over one zone")
+    parser.add_argument("--before", help="an earlier program of this bench, over one zone")
     parser.add_argument("--cache", action="store_true", help="cached passes and allocations alone")
     wanted = parser.parse_args()
     if not wanted.cache:
         rule_tables(wanted)
-    cache_table(wanted.bench_queries)
-    allocation_table(wanted.bench_queries)
+    cache_table(wanted.bench)
+    allocation_table(wanted.bench)
 
 
 if __name__ == "__main__":

@@ -1,9 +1,9 @@
 #!/usr/bin/env python3
 """How the time and the memory of a zone's transfer grow with its rows, and what changes in a large zone cost.
 
-    python3 bench/transfer.py PROGRAM
+    python3 bench/transfer.py BENCH
 
-PROGRAM is the built program bench_transfers. Each stream is the transfer of the zone rpz.example in messages of at
+BENCH is the built program bench. Each stream is the transfer of the zone rpz.example in messages of at
 most 65,535 bytes, whose rows are hK.gJ.example.rpz.example CNAME . of 60 seconds, all different, with pointers as
 a primary sends them. They come in the canonical order of their owners (RFC 4034, section 6.1), in which a
 primary sends a zone, and then in an order that is shuffled, the same at each run. Prints for each order and for
@@ -74,7 +74,7 @@ def run(program, path):
     """The seconds and the peak of the memory, in bytes, of one run."""
     with open(path, "rb") as stream:
         start = time.perf_counter()
-        child = subprocess.Popen([program], stdin=stream, stdout=subprocess.PIPE)
+        child = subprocess.Popen([program, "transfers"], stdin=stream, stdout=subprocess.PIPE)
         told = child.stdout.read()
         _, status, usage = os.wait4(child.pid, 0)
         seconds = time.perf_counter() - start
@@ -133,7 +133,7 @@ def print_changes(program):
 
 def main():
     if len(sys.argv) != 2:
-        sys.exit("usage: python3 bench/transfer.py PROGRAM")
+        sys.exit("usage: python3 bench/transfer.py BENCH")
     print_whole(sys.argv[1])
     print_changes(sys.argv[1])
 

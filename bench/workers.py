@@ -1,9 +1,9 @@
 #!/usr/bin/env python3
 """How many answers workers give in threads of their own over one store, while another thread publishes.
 
-    python3 bench/workers.py BENCH_WORKERS
+    python3 bench/workers.py BENCH
 
-BENCH_WORKERS is the built program bench_workers. Half of the rules of a zone are hK.gJ.example CNAME . and half
+BENCH is the built program bench. Half of the rules of a zone are hK.gJ.example CNAME . and half
 *.wK.gJ.example CNAME . (every name doesn't exist); the queries are for names of the first kind, drawn at random, the same at
 each run and for each worker. A second zone is published ten times a second meanwhile.
 
@@ -39,7 +39,7 @@ def write_input(out, count):
 
 def seconds(program, path, threads):
     """The seconds in which so many threads answer."""
-    words = [program, str(threads), str(QUERIES), str(PAUSE)]
+    words = [program, "workers", str(threads), str(QUERIES), str(PAUSE)]
     with open(path, "rb") as stream:
         child = subprocess.Popen(words, stdin=stream, stdout=subprocess.PIPE, stderr=subprocess.PIPE)
         said = [child.stderr.readline()]

@@ -1,18 +1,13 @@
-//! `bench_transfers`: reads transfers of the zone rpz.example from standard input, as the answers to requests of the ID 0: the
+//! `bench transfers`: reads transfers of the zone rpz.example from standard input, as the answers to requests of the ID 0: the
 //! whole zone, and then, until the input ends, what is newer than the zone is by then. It puts each into the zone, and prints the
 //! serial of the zone and the number of its rows.
-#![tactic(auto)]
-
-mod bench_error;
 
 use crate::bench_error::BenchError;
 use axfr_apply::{Taken, TransferError, TransferFault, Wanted};
 use dns_name::Name;
-use edge_io::{ReaderSource, Source};
+use edge_io::Source;
 use ixfr_apply::read_transfer;
 use std::alloc::Global;
-use std::io;
-use std::process::ExitCode;
 use zone_rows::{PlainZone, Transfer};
 
 // What is asked for of a zone.
@@ -42,9 +37,8 @@ fn next_transfer<S: Source>(
 
 // The zone after the transfers that the source gives.
 fn load<S: Source>(alloc: Global, source: &mut S) -> Result<PlainZone, BenchError> {
-    let (origin, _) = Name::read(alloc, b"\x03rpz\x07example\0", 0)?;
     let mut zone = PlainZone {
-        origin,
+        origin: Name::from_text(alloc, b"rpz.example")?,
         content: None,
     };
     for _turn in 0..u64::MAX {
@@ -62,16 +56,9 @@ fn load_counts<S: Source>(alloc: Global, source: &mut S) -> Result<(u32, usize),
     Ok((content.soa.serial, content.rows.len()))
 }
 
-fn main(rt: HostRuntime) -> io::Result<ExitCode> {
-    let mut source = ReaderSource::new(rt.reader());
-    match load_counts(rt.alloc(), &mut source) {
-        Ok((serial, rows)) => {
-            println!(rt; "serial {serial} rows {rows}")?;
-            Ok(ExitCode::SUCCESS)
-        }
-        Err(refusal) => {
-            eprintln!(rt; "{refusal:?}")?;
-            Ok(ExitCode::from(1))
-        }
-    }
+/// Applies the transfers of the input.
+pub fn run<R: Print, S: Source>(rt: &R, alloc: Global, source: &mut S) -> Result<(), BenchError> {
+    let (serial, rows) = load_counts(alloc, source)?;
+    println!(rt; "serial {serial} rows {rows}")?;
+    Ok(())
 }

@@ -1,28 +1,41 @@
-//! Why not all was answered.
+//! Why a bench ended early.
 
+use axfr_apply::TransferError;
 use dns_name::TextError;
 use edge_io::{FrameError, SinkError};
 use rpz_core::CoreError;
 use script_codec::UnnumberedError;
 use std::alloc::{AllocError, AllocFailed};
+use std::io;
+use zone_rows::ApplyError;
 
-/// Why not all was answered.
+/// Why a bench ended early.
 #[derive(Debug, Drop)]
 pub enum BenchError {
     OutOfMemory,
+    /// The words name no bench, or are not those that it takes.
+    Words,
     Origin(TextError),
-    /// The input ended before the transfers did.
+    /// The input ended before a transfer did.
     Ended,
     Frame(FrameError),
-    Line(UnnumberedError),
-    Core(CoreError),
-    Write(SinkError),
-    /// A message is too long to be written behind its length.
-    Long,
+    Transfer(TransferError),
+    /// A transfer has nothing newer than the zone.
+    Current,
+    Apply(ApplyError),
+    /// There is no transfer.
+    Empty,
     /// There are more than 32 zones, or a transfer was not taken.
     NotTaken,
     /// The line is neither `query` nor `give`.
     OtherLine,
+    Line(UnnumberedError),
+    Core(CoreError),
+    /// A message is too long to be written behind its length.
+    Long,
+    Write(SinkError),
+    /// A thread could not be made, or a line not be written.
+    System,
 }
 
 impl From<AllocError> for BenchError {
@@ -49,6 +62,18 @@ impl From<FrameError> for BenchError {
     }
 }
 
+impl From<TransferError> for BenchError {
+    fn from(error: TransferError) -> Self {
+        BenchError::Transfer(error)
+    }
+}
+
+impl From<ApplyError> for BenchError {
+    fn from(error: ApplyError) -> Self {
+        BenchError::Apply(error)
+    }
+}
+
 impl From<UnnumberedError> for BenchError {
     fn from(error: UnnumberedError) -> Self {
         BenchError::Line(error)
@@ -64,5 +89,11 @@ impl From<CoreError> for BenchError {
 impl From<SinkError> for BenchError {
     fn from(error: SinkError) -> Self {
         BenchError::Write(error)
+    }
+}
+
+impl From<io::Error> for BenchError {
+    fn from(_error: io::Error) -> Self {
+        BenchError::System
     }
 }

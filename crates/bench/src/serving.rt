@@ -3,7 +3,7 @@
 ghost use Rattle.std.specs.Prelude.{◌≡◌};
 
 use crate::bench_error::BenchError;
-use crate::input::{Input, Plan};
+use crate::words::Plan;
 use answer_cache::AnswerCache;
 use axfr_apply::{Taken, Wanted};
 use dns_name::{Name, Octets};
@@ -25,6 +25,13 @@ use std::time::{Clock, Duration};
 use zone_rows::{Rows, Transfer};
 
 type BenchWorker<N> = Worker<N, ListLink, BuildHasherDefault<FoldHasher>, ListIds, NoGate>;
+
+/// The stream of a transfer, and the messages of clients.
+#[derive(Drop)]
+pub struct Input {
+    pub stream: Octets,
+    pub messages: Vec<Octets>,
+}
 
 /// How many replies there were, and how many messages got none.
 #[derive(Clone, Copy)]
@@ -166,7 +173,8 @@ fn publish_while<N: StoreName, R: Wait + Clock>(
 
 // Says something on standard error.
 fn say<R: Eprint>(rt: &R, text: &str) -> Result<(), BenchError> {
-    eprintln!(rt; "{text}").map_err(|_| BenchError::System)
+    eprintln!(rt; "{text}")?;
+    Ok(())
 }
 
 /// Loads the first zone, answers in as many threads as the store has readers, and publishes the second zone meanwhile.

@@ -1,4 +1,4 @@
-//! Transfers in the input.
+//! A transfer in the input, in front of something else.
 
 use crate::bench_error::BenchError;
 use dns_name::Octets;

@@ -1,4 +1,4 @@
-//! `bench_queries`: a core of zones that it reads from streams, which may be longer than a line of a script, and the lines
+//! `bench queries`: a core of zones that it reads from streams, which may be longer than a line of a script, and the lines
 //! `query` and `give` of a script, done as a replay does them.
 //!
 //! Its words are the origins of the zones. Standard input has the transfer of each, its messages behind their lengths in
@@ -8,36 +8,21 @@
 //!
 //! For each line one message goes to standard output, behind its length in two bytes as over TCP (RFC 1035, section 4.2.2):
 //! the reply, or what is asked of the upstream. It is empty where a query gets no reply. Many are written at once.
-#![tactic(auto)]
-
-mod bench_error;
-mod input;
 
 use crate::bench_error::BenchError;
-use crate::input::read_stream;
+use crate::stream::read_stream;
 use dns_name::{Name, Octets};
-use edge_io::{FRAME_MAX, ReaderSource, Sink, Source, WriterSink, read_frame, write_all};
+use edge_io::{FRAME_MAX, Sink, Source, WriterSink, read_frame, write_all};
 use rpz_core::{Core, Event, Output};
 use script_codec::{Line, ScriptState, read_unnumbered};
 use std::alloc::Global;
-use std::io::BufReader;
-use std::process::ExitCode;
-use std::{env, io};
+use std::io;
 
 // So many bytes of messages, and no more than the longest one beyond, are written at once.
 const PIECE: usize = 262_144;
 
 // Room for these, with their lengths.
 const ROOM: usize = 327_680;
-
-// The origins that the words name.
-fn origins(alloc: Global, words: &[String]) -> Result<Vec<Name>, BenchError> {
-    let mut origins = Vec::new(alloc);
-    for word in words {
-        origins.push(Name::from_text(alloc, word.as_bytes())?)?;
-    }
-    Ok(origins)
-}
 
 // The zone of a number takes the next transfer; how many rows it has.
 fn load<S: Source>(
@@ -56,14 +41,13 @@ fn load<S: Source>(
 // A core of these zones, and how many rows they have together.
 fn start<S: Source>(
     alloc: Global,
-    words: &[String],
+    origins: &[Name],
     source: &mut S,
 ) -> Result<(Core, usize), BenchError> {
-    let origins = origins(alloc, words)?;
     if origins.len() > 32 {
         return Err(BenchError::NotTaken);
     }
-    let mut core = Core::start(alloc, &origins)?;
+    let mut core = Core::start(alloc, origins)?;
     let mut total = 0usize;
     for zone in 0..origins.len() as u32 {
         total = total.saturating_add(load(alloc, &mut core, zone + 1, source)?);
@@ -158,42 +142,38 @@ fn answer_part<S: Source, K: Sink>(
     Ok(more)
 }
 
-// Says why not all was answered.
-fn refused(rt: &HostRuntime, refusal: &BenchError) -> io::Result<ExitCode> {
-    eprintln!(rt; "{refusal:?}")?;
-    Ok(ExitCode::from(1))
-}
-
 // Answers all lines, and says when each part is answered.
-fn answer_all<S: Source, K: Sink>(
-    rt: &HostRuntime,
+fn answer_all<R: Eprint, S: Source, K: Sink>(
+    rt: &R,
+    alloc: Global,
     core: &mut Core,
     source: &mut S,
     out: &mut K,
-) -> io::Result<ExitCode> {
+) -> Result<(), BenchError> {
     for _turn in 0..u64::MAX {
-        match answer_part(rt.alloc(), core, source, out) {
-            Ok(more) => {
-                eprintln!(rt; "answered")?;
-                if !more {
-                    break;
-                }
-            }
-            Err(refusal) => return refused(rt, &refusal),
+        let more = answer_part(alloc, core, source, out)?;
+        eprintln!(rt; "answered")?;
+        if !more {
+            break;
         }
     }
-    Ok(ExitCode::SUCCESS)
+    Ok(())
 }
 
-fn main(rt: HostRuntime) -> io::Result<ExitCode> {
-    let alloc = rt.alloc();
-    let words: Vec<String> = env::args(&rt)?.skip(1).collect(alloc)?;
-    let mut source = ReaderSource::new(BufReader::new(alloc, rt.reader())?);
-    let mut out = WriterSink::new(io::writer(&rt));
-    let (mut core, rows) = match start(alloc, &words, &mut source) {
-        Ok(started) => started,
-        Err(refusal) => return refused(&rt, &refusal),
-    };
+/// Loads the zones of these origins, and answers all lines.
+pub fn run<R: Print + Eprint, S: Source>(
+    rt: &R,
+    alloc: Global,
+    origins: &[Name],
+    source: &mut S,
+) -> Result<(), BenchError> {
+    let (mut core, rows) = start(alloc, origins, source)?;
     eprintln!(rt; "rows {rows}")?;
-    answer_all(&rt, &mut core, &mut source, &mut out)
+    answer_all(
+        rt,
+        alloc,
+        &mut core,
+        source,
+        &mut WriterSink::new(io::writer(rt)),
+    )
 }

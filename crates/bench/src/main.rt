@@ -1,0 +1,36 @@
+//! `bench`: what the benches run. Its first word names one of them, `transfers`, `queries` or `workers`, and the modules of these
+//! names say what its other words are, and what it reads and writes. It promises nothing.
+#![tactic(auto)]
+
+mod bench_error;
+mod queries;
+mod serving;
+mod stream;
+mod transfers;
+mod words;
+mod workers;
+
+use crate::words::{Bench, read_words};
+use edge_io::ReaderSource;
+use std::io::BufReader;
+use std::process::ExitCode;
+use std::{env, io};
+
+fn main(rt: HostRuntime) -> io::Result<ExitCode> {
+    let alloc = rt.alloc();
+    let words: Vec<String> = env::args(&rt)?.skip(1).collect(alloc)?;
+    let mut source = ReaderSource::new(BufReader::new(alloc, rt.reader())?);
+    let done = match read_words(alloc, &words) {
+        Ok(Bench::Transfers) => transfers::run(&rt, alloc, &mut source),
+        Ok(Bench::Queries(origins)) => queries::run(&rt, alloc, &origins, &mut source),
+        Ok(Bench::Workers(plan)) => workers::run(rt, alloc, plan, &mut source),
+        Err(refusal) => Err(refusal),
+    };
+    match done {
+        Ok(()) => Ok(ExitCode::SUCCESS),
+        Err(refusal) => {
+            eprintln!(rt; "{refusal:?}")?;
+            Ok(ExitCode::from(1))
+        }
+    }
+}

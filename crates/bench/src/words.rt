@@ -1,0 +1,65 @@
+//! The words of the command line.
+
+use crate::bench_error::BenchError;
+use dns_name::Name;
+use std::alloc::Global;
+
+/// How many workers answer how many queries each, and how many milliseconds lie between two publications.
+#[derive(Clone, Copy)]
+pub struct Plan {
+    pub workers: usize,
+    pub queries: u64,
+    pub pause: u64,
+}
+
+/// What is measured: transfers, queries over zones of these origins, or workers by a plan.
+#[derive(Drop)]
+pub enum Bench {
+    Transfers,
+    Queries(Vec<Name>),
+    Workers(Plan),
+}
+
+// The origins that the words name.
+fn read_origins(alloc: Global, words: &[String]) -> Result<Vec<Name>, BenchError> {
+    let mut origins = Vec::new(alloc);
+    for word in words {
+        origins.push(Name::from_text(alloc, word.as_bytes())?)?;
+    }
+    Ok(origins)
+}
+
+// The number that a word is.
+fn number(words: &[String], place: usize) -> Result<u64, BenchError> {
+    match words.get(place) {
+        Some(word) => word.parse::<u64>().map_err(|_| BenchError::Words),
+        None => Err(BenchError::Words),
+    }
+}
+
+// The plan that the words are.
+fn read_plan(words: &[String]) -> Result<Plan, BenchError> {
+    let workers = number(words, 0)?;
+    if workers > 16 {
+        return Err(BenchError::Words);
+    }
+    Ok(Plan {
+        workers: workers as usize,
+        queries: number(words, 1)?,
+        pause: number(words, 2)?,
+    })
+}
+
+/// The bench that the first word names, with what the others say. `Words` comes where there is none of this name, where those of
+/// `workers` are no three numbers, and for more than 16 workers.
+pub fn read_words(alloc: Global, words: &[String]) -> Result<Bench, BenchError> {
+    let Some((name, others)) = words.split_first() else {
+        return Err(BenchError::Words);
+    };
+    match name.as_str() {
+        "transfers" => Ok(Bench::Transfers),
+        "queries" => Ok(Bench::Queries(read_origins(alloc, others)?)),
+        "workers" => Ok(Bench::Workers(read_plan(others)?)),
+        _ => Err(BenchError::Words),
+    }
+}

@@ -1,0 +1,57 @@
+//! `bench workers`: workers that answer in threads of their own over one store, while another thread publishes.
+//!
+//! Its words are three numbers: how many workers, 1 to 16, how many queries each answers, and how many milliseconds lie between two
+//! publications. Standard input has a transfer of the zone `rpz.example`, its messages behind their lengths in two bytes and an
+//! empty one at the end, and then the messages of clients, each behind its length; each worker takes them in turn, over and over.
+//!
+//! A second zone, without a rule, is published again and again, so that the version of the policy changes. It says on standard error
+//! when the first zone is loaded and when all is answered, and writes how many replies there were, and how many messages got none.
+
+use crate::bench_error::BenchError;
+use crate::serving::{Input, serve};
+use crate::stream::read_stream;
+use crate::words::Plan;
+use dns_name::Name;
+use edge_io::{Source, read_frame};
+use policy_publish::{Parts, start_store};
+use std::alloc::Global;
+use std::marker::Brand;
+use std::sync::Wait;
+use std::thread::Threads;
+use std::time::Clock;
+
+// The whole input.
+fn read_input<S: Source>(alloc: Global, source: &mut S) -> Result<Input, BenchError> {
+    let stream = read_stream(alloc, source)?;
+    let mut messages = Vec::new(alloc);
+    for _turn in 0..u64::MAX {
+        let Some(message) = read_frame(alloc, source)? else {
+            break;
+        };
+        messages.push(message)?;
+    }
+    Ok(Input { stream, messages })
+}
+
+// A store of two zones with so many readers.
+fn store(alloc: Global, plan: Plan) -> Result<Parts, BenchError> {
+    let first = Name::from_text(alloc, b"rpz.example")?;
+    let second = Name::from_text(alloc, b"two.example")?;
+    let origins = vec![in alloc; first, second]?;
+    if plan.workers == 0 || plan.workers > 16 {
+        return Err(BenchError::Words);
+    }
+    Ok(start_store(origins, plan.workers))
+}
+
+/// Answers the messages of the input by the plan.
+pub fn run<
+    R: Threads + Wait + Clock + Print + Eprint + Copy + Drop + Send + Sync + 'static,
+    S: Source,
+>(rt: R, alloc: Global, plan: Plan, source: &mut S) -> Result<(), BenchError> {
+    let input = read_input(alloc, source)?;
+    let parts = store(alloc, plan)?;
+    let counts = serve::<Brand, R>(rt, alloc, parts, input, plan)?;
+    println!(rt; "replies {} others {}", counts.replies, counts.others)?;
+    Ok(())
+}
