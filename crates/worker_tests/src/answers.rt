@@ -1,6 +1,6 @@
 //! A worker's answers over a link in memory.
 
-use crate::publishing::{PUBLICATIONS, transfer};
+use crate::publishing::{PUBLICATIONS, publish, transfer};
 use crate::stores::{Trial, attempt};
 use crate::workers::{ListWorker, job, list_worker};
 use dns_name::Octets;
@@ -52,27 +52,61 @@ pub fn answer_all<N: StoreName, R: Wait + Abort>(
     rt: &R,
     alloc: Global,
     publisher: &mut Publisher<N>,
-    mut readers: Vec<PolicyReader<N>>,
+    readers: &mut Vec<PolicyReader<N>>,
 ) -> Result<(), Fail> {
-    let messages = vec![in alloc;
-        Octets::from_slice(alloc, FIRST)?,
-        Octets::from_slice(alloc, SECOND)?,
-    ]?;
-    let mut worker = list_worker(alloc, &mut readers, messages, NoGate)?;
-    for (now, reply) in [(100, FRESH), (159, AGED), (160, FRESH)] {
-        assert_eq!(rt;
-            said(alloc, &mut worker, now)?.as_slice(),
-            reply,
-            "at {now}"
-        );
+    let mut worker = list_worker(alloc, readers, messages(alloc)?, NoGate)?;
+    answer_by_turns(rt, alloc, publisher, &mut worker)
+}
+
+// What the link gives.
+fn messages(alloc: Global) -> Result<Vec<Octets>, Fail> {
+    let mut messages = Vec::new(alloc);
+    for message in [FIRST, SECOND] {
+        messages.push(Octets::from_slice(alloc, message)?)?;
     }
-    if !publisher.has_zone(1) {
-        return Err("a zone".into());
-    }
-    let transfer = transfer(alloc, PUBLICATIONS).ok_or("a transfer")?;
-    assert!(rt; publisher.publish(rt, 1, transfer).is_ok());
+    Ok(messages)
+}
+
+fn answer_by_turns<N: StoreName, R: Wait + Abort>(
+    rt: &R,
+    alloc: Global,
+    publisher: &mut Publisher<N>,
+    worker: &mut ListWorker<N, NoGate>,
+) -> Result<(), Fail> {
+    answer_by_link_and_cache(rt, alloc, worker)?;
+    publish_rule(rt, alloc, publisher)?;
     worker.learn(publisher.tell());
-    let denied = said(alloc, &mut worker, 161)?;
+    answer_by_rule(rt, alloc, worker)
+}
+
+fn answer_by_link_and_cache<N: StoreName, R: Abort>(
+    rt: &R,
+    alloc: Global,
+    worker: &mut ListWorker<N, NoGate>,
+) -> Result<(), Fail> {
+    for (now, reply) in [(100, FRESH), (159, AGED), (160, FRESH)] {
+        let said = said(alloc, worker, now)?;
+        assert_eq!(rt; said.as_slice(), reply, "at {now}");
+    }
+    Ok(())
+}
+
+fn publish_rule<N: StoreName, R: Wait + Abort>(
+    rt: &R,
+    alloc: Global,
+    publisher: &mut Publisher<N>,
+) -> Result<(), Fail> {
+    let transfer = transfer(alloc, PUBLICATIONS).ok_or("a transfer")?;
+    assert!(rt; publish(rt, publisher, transfer));
+    Ok(())
+}
+
+fn answer_by_rule<N: StoreName, R: Abort>(
+    rt: &R,
+    alloc: Global,
+    worker: &mut ListWorker<N, NoGate>,
+) -> Result<(), Fail> {
+    let denied = said(alloc, worker, 161)?;
     assert!(rt; denied.as_slice().starts_with(b"\x12\x35\x81\x83"));
     Ok(())
 }

@@ -98,7 +98,11 @@ pub const MIXED: Case<'static> = Case {
 };
 
 /// The runs.
-pub const CASES: [Case<'static>; 19] = [
+pub fn all_cases() -> &'static [Case<'static>] {
+    &CASES
+}
+
+static CASES: [Case<'static>; 19] = [
     QUIET,
     Case {
         name: "a name that is denied",

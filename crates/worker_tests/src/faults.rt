@@ -87,10 +87,19 @@ pub fn fail_all<N: StoreName, R: Wait + Abort + Copy + Drop>(
     rt: &R,
     alloc: Global,
     publisher: &mut Publisher<N>,
-    mut readers: Vec<PolicyReader<N>>,
+    readers: &mut Vec<PolicyReader<N>>,
 ) -> Result<(), Fail> {
     load(rt, alloc, publisher)?;
-    let mut worker = list_worker(alloc, &mut readers, Vec::new(alloc), NoGate)?;
-    fail_reads(rt, alloc, publisher, &mut worker)?;
-    fail_writes(rt, alloc, publisher, &mut worker)
+    let mut worker = list_worker(alloc, readers, Vec::new(alloc), NoGate)?;
+    fail_calls(rt, alloc, publisher, &mut worker)
+}
+
+fn fail_calls<N: StoreName, R: Wait + Abort + Copy + Drop>(
+    rt: &R,
+    alloc: Global,
+    publisher: &Publisher<N>,
+    worker: &mut ListWorker<N, NoGate>,
+) -> Result<(), Fail> {
+    fail_reads(rt, alloc, publisher, worker)?;
+    fail_writes(rt, alloc, publisher, worker)
 }

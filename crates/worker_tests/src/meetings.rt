@@ -98,6 +98,33 @@ fn flag(alloc: Global) -> Result<Flag, Fail> {
     Ok(Arc::new(alloc, AtomicBool::new(false))?)
 }
 
+fn gate_of<R: Clock + Drop>(
+    rt: R,
+    here: &Flag,
+    awaited: &Flag,
+    met: &Flag,
+) -> Result<Meeting<R>, Fail> {
+    let here = Arc::try_clone(here)?;
+    let awaited = Arc::try_clone(awaited)?;
+    let met = Arc::try_clone(met)?;
+    Ok(Meeting {
+        rt,
+        here,
+        awaited,
+        met,
+    })
+}
+
+fn one_query<N: StoreName>(alloc: Global) -> Result<ListItems<N, ListSource, ListSink>, Fail> {
+    let mut items = VecDeque::new(alloc);
+    items.push_back(Item::Job(job(alloc, 1, QUERY)?))?;
+    Ok(ListItems::new(items))
+}
+
+fn one_answer(alloc: Global) -> Result<Vec<Octets>, Fail> {
+    Ok(vec![in alloc; Octets::from_slice(alloc, FIRST)?]?)
+}
+
 fn run_of<N: StoreName, R: Wait + Clock + Copy + Drop>(
     rt: R,
     alloc: Global,
@@ -107,23 +134,18 @@ fn run_of<N: StoreName, R: Wait + Clock + Copy + Drop>(
     done: &Flag,
 ) -> Result<Answering<N, R>, Fail> {
     let met = flag(alloc)?;
-    let gate = Meeting {
-        rt,
-        here: Arc::try_clone(here)?,
-        awaited: Arc::try_clone(awaited)?,
-        met: Arc::try_clone(&met)?,
-    };
-    let message = Octets::from_slice(alloc, FIRST)?;
-    let mut items = VecDeque::new(alloc);
-    items.push_back(Item::Job(job(alloc, 1, QUERY)?))?;
+    let done = Arc::try_clone(done)?;
+    let items = one_query(alloc)?;
+    let gate = gate_of(rt, here, awaited, &met)?;
+    let worker = list_worker(alloc, readers, one_answer(alloc)?, gate)?;
     Ok(Answering {
         rt,
-        worker: list_worker(alloc, readers, vec![in alloc; message]?, gate)?,
-        items: ListItems::new(items),
+        worker,
+        items,
         replies: ListReplies::new(alloc, Vec::new(alloc)),
         clock: ListClock::new(alloc, VecDeque::new(alloc)),
         met,
-        done: Arc::try_clone(done)?,
+        done,
     })
 }
 
@@ -140,15 +162,54 @@ pub fn meet_all<
     rt: &R,
     alloc: Global,
     publisher: &mut Publisher<N>,
-    mut readers: Vec<PolicyReader<N>>,
+    readers: &mut Vec<PolicyReader<N>>,
 ) -> Result<(), Fail> {
     load(rt, alloc, publisher)?;
-    let (asks, replied, unused) = (flag(alloc)?, flag(alloc)?, flag(alloc)?);
-    let first = run_of(*rt, alloc, &mut readers, &asks, &replied, &unused)?;
-    let second = run_of(*rt, alloc, &mut readers, &unused, &asks, &replied)?;
     let mut spawner: TaskSpawner<Outcome, R> = TaskSpawner::new(*rt, alloc, true, Vec::new(alloc));
-    spawner.start(rt, first)?;
-    spawner.start(rt, second)?;
+    start_both(rt, alloc, readers, &mut spawner)?;
+    gather_both(rt, &mut spawner);
+    Ok(())
+}
+
+// The first worker is about to ask; the second one has replied; and what nobody waits for.
+#[derive(Drop)]
+struct Flags {
+    asks: Flag,
+    replied: Flag,
+    unused: Flag,
+}
+
+fn all_flags(alloc: Global) -> Result<Flags, Fail> {
+    let asks = flag(alloc)?;
+    let replied = flag(alloc)?;
+    let unused = flag(alloc)?;
+    Ok(Flags {
+        asks,
+        replied,
+        unused,
+    })
+}
+
+fn start_both<
+    N: StoreName + Send + Sync + 'static,
+    R: Threads + Wait + Clock + Copy + Drop + Send + Sync + 'static,
+>(
+    rt: &R,
+    alloc: Global,
+    readers: &mut Vec<PolicyReader<N>>,
+    spawner: &mut TaskSpawner<Outcome, R>,
+) -> Result<(), Fail> {
+    let Flags {
+        asks,
+        replied,
+        unused,
+    } = &all_flags(alloc)?;
+    spawner.start(rt, run_of(*rt, alloc, readers, asks, replied, unused)?)?;
+    spawner.start(rt, run_of(*rt, alloc, readers, unused, asks, replied)?)?;
+    Ok(())
+}
+
+fn gather_both<R: Threads + Wait + Abort + Drop>(rt: &R, spawner: &mut TaskSpawner<Outcome, R>) {
     for _ in 0..2 {
         let outcome = spawner.gather();
         assert_eq!(rt;
@@ -159,5 +220,4 @@ pub fn meet_all<
             })
         );
     }
-    Ok(())
 }

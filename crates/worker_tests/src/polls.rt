@@ -1,6 +1,7 @@
 //! Polls of a zone over streams in memory.
 
 use crate::stores::{Trial, attempt};
+use axfr_apply::TransferFault;
 use edge_io::{ListSink, ListSource};
 use policy_feed::{FeedError, FeedFault, Polled, poll_zone};
 use policy_publish::{Publication, Publisher, StoreName};
@@ -46,24 +47,65 @@ fn a_zone_is_polled(rt: HostRuntime) -> Result<(), Fail> {
     attempt(rt, rt.alloc(), Trial::Polls)
 }
 
-/// A write that fails, all of the zone, what is newer where there is nothing newer, and what is newer from a stream without a message,
-/// after which all of the zone is asked for.
+// A poll: the stream that it reads, the numbers of the writes that fail, what it gives, and what it writes.
+#[derive(Clone, Copy)]
+struct Poll {
+    stream: &'static [u8],
+    failing: &'static [u64],
+    gives: Result<Polled, FeedError>,
+    writes: &'static [u8],
+}
+
+const ENDED: Result<Polled, FeedError> = Err(FeedError::Fault(FeedFault::Transfer(
+    TransferFault::EndedEarly,
+)));
+
+// A write that fails, all of the zone, what is newer where there is nothing newer, and what is newer from a stream without a message,
+// after which all of the zone is asked for.
+static POLLS: [Poll; 5] = [
+    Poll {
+        stream: STREAM,
+        failing: &[2],
+        gives: Err(FeedError::Fault(FeedFault::WriteFault)),
+        writes: b"\0\x1d\0\0\0\0\0",
+    },
+    Poll {
+        stream: STREAM,
+        failing: &[],
+        gives: Ok(Polled::New(Publication { serial: 1, rows: 1 })),
+        writes: WHOLE,
+    },
+    Poll {
+        stream: CURRENT,
+        failing: &[],
+        gives: Ok(Polled::Current { theirs: 1 }),
+        writes: NEWER,
+    },
+    Poll {
+        stream: b"",
+        failing: &[],
+        gives: ENDED,
+        writes: NEWER,
+    },
+    Poll {
+        stream: b"",
+        failing: &[],
+        gives: ENDED,
+        writes: WHOLE,
+    },
+];
+
+/// Each poll gives and writes what it shall.
 pub fn poll_all<N: StoreName, R: Wait + Abort>(
     rt: &R,
     alloc: Global,
     publisher: &mut Publisher<N>,
 ) -> Result<(), Fail> {
-    let (failed, _) = polled(rt, alloc, publisher, STREAM, vec![in alloc; 2]?)?;
-    assert_eq!(rt; failed, Err(FeedError::Fault(FeedFault::WriteFault)));
-    let (new, sent) = polled(rt, alloc, publisher, STREAM, Vec::new(alloc))?;
-    assert_eq!(rt; sent.as_slice(), WHOLE);
-    assert_eq!(rt; new, Ok(Polled::New(Publication { serial: 1, rows: 1 })));
-    let (current, sent) = polled(rt, alloc, publisher, CURRENT, Vec::new(alloc))?;
-    assert_eq!(rt; sent.as_slice(), NEWER);
-    assert_eq!(rt; current, Ok(Polled::Current { theirs: 1 }));
-    let (ended, _) = polled(rt, alloc, publisher, b"", Vec::new(alloc))?;
-    assert!(rt; ended.is_err());
-    let (_, sent) = polled(rt, alloc, publisher, b"", Vec::new(alloc))?;
-    assert_eq!(rt; sent.as_slice(), WHOLE);
+    for poll in &POLLS {
+        let failing = poll.failing.to_vec(alloc)?;
+        let (gives, writes) = polled(rt, alloc, publisher, poll.stream, failing)?;
+        assert_eq!(rt; gives, poll.gives);
+        assert_eq!(rt; writes.as_slice(), poll.writes);
+    }
     Ok(())
 }

@@ -98,6 +98,9 @@ fn follow<N: StoreName, R: Wait>(
     unreachable!()
 }
 
+// The thread of a reader, with what `follow` says.
+type Following = JoinHandle<(u32, u64, bool)>;
+
 // A reader in a thread of its own.
 fn start<
     N: StoreName + Send + Sync + 'static,
@@ -107,7 +110,7 @@ fn start<
     alloc: Global,
     mut reader: PolicyReader<N>,
     news: Receiver<News<N>>,
-) -> Result<JoinHandle<(u32, u64, bool)>, Fail> {
+) -> Result<Following, Fail> {
     Ok(thread::spawn(&rt, move || follow(&rt, alloc, &mut reader, &news))?)
 }
 
@@ -134,22 +137,41 @@ fn publish_one<N: StoreName, R: Wait>(
     readers: &[Sender<News<N>>],
     serial: u32,
 ) -> bool {
-    if !publisher.has_zone(1) {
-        return false;
-    }
     let Some(transfer) = transfer(alloc, serial) else {
         return false;
     };
-    let published = publisher.publish(rt, 1, transfer).is_ok();
+    let published = publish(rt, publisher, transfer);
+    tell_all(rt, publisher, readers, serial) && published
+}
+
+/// Whether the first zone takes a transfer.
+pub fn publish<N: StoreName, R: Wait>(
+    rt: &R,
+    publisher: &mut Publisher<N>,
+    transfer: Transfer,
+) -> bool {
+    if !publisher.has_zone(1) {
+        return false;
+    }
+    publisher.publish(rt, 1, transfer).is_ok()
+}
+
+// Whether each reader is told of so many publications.
+fn tell_all<N: StoreName, R: Wait>(
+    rt: &R,
+    publisher: &Publisher<N>,
+    readers: &[Sender<News<N>>],
+    count: u32,
+) -> bool {
     let mut told = true;
     for reader in readers {
         let news = News {
             told: publisher.tell(),
-            count: u64::from(serial),
+            count: u64::from(count),
         };
         told = told && reader.send(rt, news).is_ok();
     }
-    published && told
+    told
 }
 
 #[test]
@@ -165,19 +187,40 @@ pub fn follow_all<
     rt: &R,
     alloc: Global,
     publisher: &mut Publisher<N>,
-    readers: Vec<PolicyReader<N>>,
+    readers: &mut Vec<PolicyReader<N>>,
 ) -> Result<(), Fail> {
     let mut to = Vec::new(alloc);
     let mut threads = Vec::new(alloc);
-    for reader in readers {
-        let (sender, receiver) = unbounded(alloc)?;
-        to.push(sender)?;
-        threads.push(start(*rt, alloc, reader, receiver)?)?;
-    }
+    start_all(*rt, alloc, readers, &mut to, &mut threads)?;
     assert_eq!(rt; publish_all(rt, alloc, publisher, to.as_slice()), 0);
     drop(to);
+    join_all(rt, threads);
+    Ok(())
+}
+
+// Starts each reader: where it is told of publications, and its thread.
+fn start_all<
+    N: StoreName + Send + Sync + 'static,
+    R: Threads + Wait + Copy + Drop + Send + Sync + 'static,
+>(
+    rt: R,
+    alloc: Global,
+    readers: &mut Vec<PolicyReader<N>>,
+    to: &mut Vec<Sender<News<N>>>,
+    threads: &mut Vec<Following>,
+) -> Result<(), Fail> {
+    for _ in 0..readers.len() {
+        let reader = readers.pop().ok_or("a reader")?;
+        let (sender, receiver) = unbounded(alloc)?;
+        to.push(sender)?;
+        threads.push(start(rt, alloc, reader, receiver)?)?;
+    }
+    Ok(())
+}
+
+// Each reader met no fault, and saw the last publication, with its rule.
+fn join_all<R: Threads + Wait + Abort>(rt: &R, threads: Vec<Following>) {
     for thread in threads {
         assert_eq!(rt; thread.join(rt), (0, u64::from(PUBLICATIONS), true));
     }
-    Ok(())
 }

@@ -1,6 +1,6 @@
 //! Runs of a worker over items in a list and in a channel.
 
-use crate::cases::{CASES, Case, Input, Stream};
+use crate::cases::{Case, Input, Stream, all_cases};
 use crate::messages::POLICY;
 use crate::polls::polled;
 use crate::stores::{Trial, attempt};
@@ -215,12 +215,21 @@ pub fn run_all<N: StoreName, R: Wait + Abort + Copy + Drop>(
     rt: &R,
     alloc: Global,
     publisher: &mut Publisher<N>,
-    mut readers: Vec<PolicyReader<N>>,
+    readers: &mut Vec<PolicyReader<N>>,
 ) -> Result<(), Fail> {
     load(rt, alloc, publisher)?;
-    let mut worker = list_worker(alloc, &mut readers, Vec::new(alloc), NoGate)?;
-    for case in &CASES {
-        run_case(rt, alloc, publisher, &mut worker, case)?;
+    let mut worker = list_worker(alloc, readers, Vec::new(alloc), NoGate)?;
+    run_cases(rt, alloc, publisher, &mut worker)
+}
+
+fn run_cases<N: StoreName, R: Wait + Abort + Copy + Drop>(
+    rt: &R,
+    alloc: Global,
+    publisher: &Publisher<N>,
+    worker: &mut ListWorker<N, NoGate>,
+) -> Result<(), Fail> {
+    for case in all_cases() {
+        run_case(rt, alloc, publisher, worker, case)?;
     }
     Ok(())
 }

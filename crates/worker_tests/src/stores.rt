@@ -47,8 +47,9 @@ fn open<
 >(rt: R, alloc: Global, parts: Parts, trial: Trial) -> Result<(), Fail>
     requires { parts ≡ N.store }
 {
-    let (mut publisher, readers) = parts.open::<N, R>(&rt, alloc)?;
-    let done = attempt_over(&rt, alloc, &mut publisher, readers, trial);
+    let (mut publisher, mut readers) = parts.open::<N, R>(&rt, alloc)?;
+    let done = attempt_over(&rt, alloc, &mut publisher, &mut readers, trial);
+    drop(readers);
     publisher.close(&rt);
     done
 }
@@ -60,7 +61,7 @@ fn attempt_over<
     rt: &R,
     alloc: Global,
     publisher: &mut Publisher<N>,
-    readers: Vec<PolicyReader<N>>,
+    readers: &mut Vec<PolicyReader<N>>,
     trial: Trial,
 ) -> Result<(), Fail> {
     match trial {

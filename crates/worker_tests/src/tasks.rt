@@ -27,16 +27,30 @@ pub fn start_one<
     rt: &R,
     alloc: Global,
     publisher: &mut Publisher<N>,
-    mut readers: Vec<PolicyReader<N>>,
+    readers: &mut Vec<PolicyReader<N>>,
 ) -> Result<(), Fail> {
     load(rt, alloc, publisher)?;
-    let worker = list_worker(alloc, &mut readers, Vec::new(alloc), NoGate)?;
+    let mut spawner: TaskSpawner<Report, R> = TaskSpawner::new(*rt, alloc, false, Vec::new(alloc));
+    start_task(rt, alloc, publisher, readers, &mut spawner)?;
+    let report = spawner.gather().ok_or("a report")?;
+    assert_eq!(rt; numbers(&report), MIXED.report);
+    Ok(())
+}
+
+fn start_task<
+    N: StoreName + Send + Sync + 'static,
+    R: Threads + Wait + Copy + Drop + Send + Sync + 'static,
+>(
+    rt: &R,
+    alloc: Global,
+    publisher: &Publisher<N>,
+    readers: &mut Vec<PolicyReader<N>>,
+    spawner: &mut TaskSpawner<Report, R>,
+) -> Result<(), Fail> {
     let items = sent(rt, alloc, publisher, MIXED.items)?;
     let replies: Kept = ListReplies::new(alloc, vec![in alloc; MIXED.failing_send]?);
     let clock = ListClock::new(alloc, VecDeque::new(alloc));
-    let mut spawner: TaskSpawner<Report, R> = TaskSpawner::new(*rt, alloc, false, Vec::new(alloc));
+    let worker = list_worker(alloc, readers, Vec::new(alloc), NoGate)?;
     spawner.start(rt, ServeTask::new(*rt, worker, items, replies, clock))?;
-    let report = spawner.gather().ok_or("a report")?;
-    assert_eq!(rt; numbers(&report), MIXED.report);
     Ok(())
 }

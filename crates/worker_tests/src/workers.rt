@@ -16,6 +16,14 @@ type Hashers = BuildHasherDefault<FoldHasher>;
 /// A worker over a link and IDs in memory.
 pub type ListWorker<N, G> = Worker<N, ListLink, Hashers, ListIds, G>;
 
+// The IDs 1 and 2.
+fn ids(alloc: Global) -> Result<ListIds, Fail> {
+    let mut ids = VecDeque::new(alloc);
+    ids.push_back(1)?;
+    ids.push_back(2)?;
+    Ok(ListIds::new(alloc, ids))
+}
+
 /// A worker with one of the readers, whose link gives these messages and then fails, and whose IDs are 1 and 2.
 pub fn list_worker<N: StoreName, G: Gate + Drop>(
     alloc: Global,
@@ -23,13 +31,11 @@ pub fn list_worker<N: StoreName, G: Gate + Drop>(
     messages: Vec<Octets>,
     gate: G,
 ) -> Result<ListWorker<N, G>, Fail> {
-    let reader = readers.pop().ok_or("a reader")?;
-    let link = ListLink::new(messages, Vec::new(alloc));
-    let mut ids = VecDeque::new(alloc);
-    ids.push_back(1)?;
-    ids.push_back(2)?;
+    let ids = ids(alloc)?;
     let cache = AnswerCache::open(alloc, 4_096, BuildHasherDefault::new())?;
-    Ok(Worker::new(alloc, reader, cache, link, ListIds::new(alloc, ids), gate))
+    let link = ListLink::new(messages, Vec::new(alloc));
+    let reader = readers.pop().ok_or("a reader")?;
+    Ok(Worker::new(alloc, reader, cache, link, ids, gate))
 }
 
 /// The client, at a port of the address 192.0.2.7.
