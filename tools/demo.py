@@ -1,12 +1,11 @@
 #!/usr/bin/env python3
-"""Runs the server on 127.0.0.1 with one policy zone, and asks it for a name that is blocked, one that is led elsewhere, and one that
-passes.
+"""Runs the server on 127.0.0.1 with one policy zone, and asks it for a name that is blocked, one that is rewritten, and one that passes.
 
     python3 tools/demo.py
 
-The program is crates/rpz/out/rpz; where there is none yet, `rt run` proves and builds it first. The zone comes from a primary, and the
-other answers from an upstream, both of which are tools/small_server.py on ports of their own. Queries are asked with dig, or with
-tools/ask.py where there is none.
+The program is crates/rpz/out/rpz, which `rt run` in crates/rpz proves and builds, as does the gate. Where there is none yet, `rt try`
+builds it without its proofs, in about a minute and a half. The zone comes from a primary, and the other answers from an upstream, both
+of which are tools/small_server.py on ports of their own. Queries are asked with dig, or with tools/ask.py where there is none.
 """
 import pathlib
 import shutil
@@ -16,20 +15,33 @@ import sys
 import time
 
 ROOT = pathlib.Path(__file__).resolve().parent.parent
-PROGRAM = ROOT / "crates" / "rpz"
+CRATE = ROOT / "crates" / "rpz"
 LISTEN, PRIMARY, UPSTREAM = 5300, 5301, 5302
 QUERIES = (("blocked.example", False), ("walled.example", False), ("www.example", True))
+BUILD_SECONDS = 600
+
+
+def is_open(port):
+    try:
+        socket.create_connection(("127.0.0.1", port), 1).close()
+        return True
+    except OSError:
+        return False
+
+
+def wait_for(port, process, seconds):
+    """Waits until somebody listens at the port; says so where the process that should has ended, or the time is over."""
+    end = time.monotonic() + seconds
+    while not is_open(port):
+        if process.poll() is not None or time.monotonic() > end:
+            sys.exit(f"nobody listens on port {port}")
+        time.sleep(0.05)
 
 
 def small_server(port, zone):
     words = [sys.executable, ROOT / "tools" / "small_server.py", "127.0.0.1", str(port), ROOT / "tools" / "demo" / zone]
     process = subprocess.Popen(words)
-    for _ in range(100):
-        try:
-            socket.create_connection(("127.0.0.1", port), 1).close()
-            break
-        except OSError:
-            time.sleep(0.05)
+    wait_for(port, process, 10)
     return process
 
 
@@ -38,19 +50,16 @@ def serve_words():
     return ["serve", f"127.0.0.1:{LISTEN}", f"127.0.0.1:{UPSTREAM}", str(len(QUERIES)), "2", f"rpz.example@127.0.0.1:{PRIMARY}"]
 
 
-def built():
-    """The program, which is proved and built where it isn't there yet."""
-    program = PROGRAM / "out" / "rpz"
-    if not program.exists():
-        print("proving and building the program, which then runs its stored script", flush=True)
-        with open(PROGRAM / "stdin", "rb") as script:
-            subprocess.run(["rt", "run", "--", "replay"], cwd=PROGRAM, stdin=script, check=True)
-    return program
-
-
-def start(program):
-    print("$ rpz", *serve_words(), flush=True)
-    return subprocess.Popen([program, *serve_words()], stdout=subprocess.PIPE, text=True)
+def start():
+    """The server, proved where it is built, and else built without its proofs."""
+    program = CRATE / "out" / "rpz"
+    if program.exists():
+        print("$ rpz", *serve_words(), flush=True)
+        return subprocess.Popen([program, *serve_words()], stdout=subprocess.PIPE, text=True)
+    print("This run isn't proved: the program is built without its proofs, in about a minute and a half. To prove and build it: .ci/run")
+    print("$ rt try --", *serve_words(), flush=True)
+    words = ["rt", "try", "--seconds", str(BUILD_SECONDS), "--", *serve_words()]
+    return subprocess.Popen(words, cwd=CRATE, stdout=subprocess.PIPE, stderr=subprocess.DEVNULL, text=True)
 
 
 def ask(name, tcp):
@@ -64,14 +73,14 @@ def ask(name, tcp):
 
 
 def main():
-    program = built()
     helpers = [small_server(PRIMARY, "rpz.example.zone"), small_server(UPSTREAM, "example.zone")]
     try:
-        server = start(program)
-        print(server.stdout.readline(), end="", flush=True)  # the zone is loaded
+        server = start()
+        wait_for(LISTEN, server, BUILD_SECONDS)  # what is asked before the zone is loaded waits until it is
         for name, tcp in QUERIES:
             ask(name, tcp)
-        print(server.stdout.read(), end="")
+        print()
+        print(*(line for line in server.stdout.read().splitlines() if line.startswith(("taken", "served"))), sep="\n")
         return server.wait()
     finally:
         for helper in helpers:
