@@ -4,9 +4,9 @@
     python3 tools/wrong.py [NAME ..] [--keep FOLDER]
 
 NAME is a crate; without names, all that have a folder crates/NAME/wrong/. The edits there have the form of those in must-fail/. They
-are tried in a clone of the last commit, in a folder that is removed behind it, unless --keep names one, where a later run goes on:
-each crate is checked there, and then `rt must-fail` tries its edits. Ends with status 1 where an edit is proved, can't be applied,
-or wasn't tried, and prints what became of each.
+are tried by `rt must-fail` in a clone of the last commit, in a folder that is removed behind it, unless --keep names a clone, which is
+brought up to that commit and stays: where the crates are built there already, that time is saved. Ends with status 1 where an edit is
+proved, can't be applied, or wasn't tried, and prints what became of each.
 
 Run it for a crate whose contracts or bodies change, and write the day into docs/PROOFS.md.
 """
@@ -44,25 +44,17 @@ def put_edits(folder, name):
     return len(list(target.glob("*.edit")))
 
 
-def try_crate(folder, name):
-    """The lines about the edits of a crate, and how many of them were refused and how many there are."""
-    count = put_edits(folder, name)
-    checked = subprocess.run(["rt", "check"], cwd=folder / "crates" / name, capture_output=True, text=True)
-    if checked.returncode:
-        return [f"{name}: it isn't proved, so none of its {count} edits was tried"], 0, count
-    done = subprocess.run(["rt", "must-fail", name], cwd=folder, capture_output=True, text=True)
-    lines = [line for line in (done.stdout + done.stderr).splitlines() if re.search(r"must-fail|edit", line)]
-    kept = sum(int(known) for known in re.findall(r": (\d+) of its \d+ must-fail edits were tried by an earlier run", done.stdout))
-    refused = kept + sum(REFUSED in line for line in lines)
-    return lines, refused, count
-
-
 def try_all(folder, names):
-    refused, total = 0, 0
-    for name in names:
-        lines, good, count = try_crate(folder, name)
-        print(*lines, sep="\n", flush=True)
-        refused, total = refused + good, total + count
+    """Tries the edits of the crates, with those of the gate out of the way, and prints what became of each."""
+    total = sum(put_edits(folder, name) for name in names)
+    process = subprocess.Popen(["rt", "must-fail", *names], cwd=folder, stdout=subprocess.PIPE, stderr=subprocess.STDOUT, text=True)
+    refused = 0
+    for line in process.stdout:
+        kept = re.search(r": (\d+) of its \d+ must-fail edits were tried by an earlier run", line)
+        refused += int(kept.group(1)) if kept else REFUSED in line
+        if kept or "must-fail" in line:
+            print(line, end="", flush=True)
+    process.wait()
     print(f"{refused} of {total} wrong bodies refused")
     return refused == total
 

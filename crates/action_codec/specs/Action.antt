@@ -3,10 +3,11 @@ use Rattle.std.specs.Prelude.{ℕ, Bool, false, not, ◌==◌, ◌+◌, ◌&&◌
 use Rattle.std.specs.List.{list_any}
 use Rattle.std.specs.Str.{bytes_eq}
 use Rattle.dns_name.specs.Alike.{PlainPattern}
-use Rattle.dns_name.specs.Labels.{name_octets}
+use Rattle.dns_name.specs.Labels.{name_octets, Name}
 use Rattle.trigger_codec.specs.declared.trigger.Trigger.{Trigger}
 use Rattle.trigger_codec.specs.declared.trigger.Trigger.TheVariants.{ClientIp, Qname, ResponseIp, NsDname, NsIp}
 use Rattle.dns_record.specs.Row.{PlainRow}
+use Rattle.dns_record.specs.declared.rtype.TheConstants.{CNAME, DNAME, DNSKEY, DS, NS, NSEC, NSEC3, NSEC3PARAM, RRSIG, SOA}
 use Rattle.action_codec.specs.declared.action.Action.{Action}
 use Rattle.action_codec.specs.declared.action.Action.TheVariants.{NxDomain, NoData, PassThru, Drop, TcpOnly, Local}
 use Rattle.action_codec.specs.Local.{local_row, rule_rows}
@@ -14,13 +15,14 @@ use Rattle.action_codec.specs.Local.{local_row, rule_rows}
 -- not NS, SOA, DNAME, DS, RRSIG, NSEC, DNSKEY, NSEC3 or NSEC3PARAM
 abbrev pub is_live_type : ℕ → Bool
 is_live_type rtype =
-    not (list_any (λ n. rtype == n) (2 ∷ 6 ∷ 39 ∷ 43 ∷ 46 ∷ 47 ∷ 48 ∷ 50 ∷ 51 ∷ []))
+    not (list_any (λ n. rtype == n)
+    (NS ∷ SOA ∷ DNAME ∷ DS ∷ RRSIG ∷ NSEC ∷ DNSKEY ∷ NSEC3 ∷ NSEC3PARAM ∷ []))
 
 abbrev pub is_cname : PlainRow → Bool
-is_cname row = row.rtype == 5
+is_cname row = row.rtype == CNAME
 
 -- the data is this name as it is written
-abbrev pub points_to : List ℕ → List (List ℕ) → Bool
+abbrev pub points_to : List ℕ → Name → Bool
 points_to rdata name = bytes_eq rdata (name_octets name)
 
 -- a name of a single label that begins `rpz-`: one length, its label, and the zero of the root
@@ -30,7 +32,7 @@ is_reserved_name rdata =
     && (slice_index rdata 0 + 2 == length rdata && bytes_eq (take 4 (drop 1 rdata)) (codes "rpz-"))
 
 -- the name that the owner of a pattern writes
-abbrev pub own_name : PlainPattern → List (List ℕ)
+abbrev pub own_name : PlainPattern → Name
 own_name pattern = if pattern.wild then codes "*" ∷ pattern.base else pattern.base
 
 -- the pattern of a trigger that is about a name that is asked for

@@ -5,16 +5,17 @@ use Rattle.dns_record.specs.declared.soa.Soa.{Soa}
 use Rattle.dns_record.specs.Record.{PlainRecord}
 use Rattle.dns_record.specs.Row.{PlainRow, row_of}
 use Rattle.dns_record.specs.Soa.{soa_in}
+use Rattle.dns_record.specs.declared.rtype.TheConstants.{SOA}
 use Rattle.zone_rows.specs.Steps.{PlainStep}
 use Rattle.zone_rows.specs.declared.transfer.Transfer.{Transfer}
 use Rattle.zone_rows.specs.declared.transfer.Transfer.TheVariants.{Whole, Steps}
 
 -- the SOA that a record holds, if it is a SOA record
 abbrev pub soa_held : PlainRecord → Option Soa
-soa_held r = if r.rtype == 6 then result_ok (soa_in r.ttl r.rdata) else None
+soa_held r = if r.rtype == SOA then result_ok (soa_in r.ttl r.rdata) else None
 
-abbrev pub is_soa : PlainRecord → Bool
-is_soa r = is_some (soa_held r)
+abbrev pub holds_soa : PlainRecord → Bool
+holds_soa r = is_some (soa_held r)
 
 -- a SOA, and the rows behind it up to the next SOA
 pub record Block : Type 0 where
@@ -24,7 +25,7 @@ pub record Block : Type 0 where
 -- the records before the first that holds a SOA
 abbrev pub until_soa : List PlainRecord → List PlainRecord
 until_soa [] = []
-until_soa (r ∷ rs) = if is_soa r then [] else r ∷ until_soa rs
+until_soa (r ∷ rs) = if holds_soa r then [] else r ∷ until_soa rs
 
 -- a block that begins with this SOA, if there is one, before others
 abbrev pub block_before : Option Soa → List PlainRow → List Block → List Block

@@ -2,10 +2,13 @@
 -- we are current (RFC 1995, section 4). It is read off the one list of all items.
 use Rattle.std.specs.Prelude.{ℕ, ◌+◌, ◌==◌, nat_le, Bool, not, ◌&&◌, ◌||◌, if◌then◌else◌, List, [], ◌∷◌, ◌++◌, length, Option, Some, None, option_map, is_some, Result, Ok, Err}
 use Rattle.std.specs.Option.{option_or}
+use Rattle.dns_name.specs.Labels.{Name}
 use Rattle.dns_name.specs.Alike.{same_name, ends_with}
 use Rattle.dns_record.specs.declared.soa.Soa.{Soa}
 use Rattle.dns_record.specs.Record.{PlainRecord}
 use Rattle.dns_record.specs.Serial.{is_newer}
+use Rattle.dns_record.specs.declared.rtype.TheConstants.{AXFR, IXFR}
+use Rattle.dns_record.specs.declared.class.TheConstants.{IN}
 use Rattle.dns_message.specs.declared.fault.MessageFault.{MessageFault}
 use Rattle.dns_message.specs.declared.message.Message.{Message}
 use Rattle.dns_message.specs.declared.question.Question.{Question}
@@ -18,13 +21,13 @@ use Rattle.axfr_apply.specs.declared.fault.TransferFault.{TransferFault}
 use Rattle.axfr_apply.specs.declared.fault.TransferFault.TheVariants.{BadMessage, WrongId, NotResponse, Truncated, Rcode, WrongQuestion, NoLeadingSoa, WrongClass, OutOfZone, WrongSoaOwner, SoaDiffers, Gap, SerialNotNewer, TrailingRecord, TooManyRecords}
 use Rattle.axfr_apply.specs.declared.taken.Taken.{Taken}
 use Rattle.axfr_apply.specs.declared.taken.Taken.TheVariants.{Current, New}
-use Rattle.axfr_apply.specs.Block.{Block, blocks, is_empty, is_incremental, is_soa, soa_held, transfer_of}
-use Rattle.axfr_apply.specs.Item.{Item, items, records}
+use Rattle.axfr_apply.specs.Block.{Block, blocks, is_empty, is_incremental, holds_soa, soa_held, transfer_of}
+use Rattle.axfr_apply.specs.Item.{TransferItem, items, records}
 use Rattle.axfr_apply.specs.Item as item
 
 -- how a transfer ends
-abbrev pub Outcome : Type 0
-Outcome = Result Taken TransferFault
+abbrev pub TransferOutcome : Type 0
+TransferOutcome = Result Taken TransferFault
 
 -- how an item ends a transfer: we are current, at this serial; or a fault
 abbrev pub End : Type 0
@@ -33,13 +36,13 @@ End = Result ℕ TransferFault
 -- The types of the question: the whole zone is asked for by AXFR; what is newer by IXFR, and may come as an answer to AXFR
 -- too.
 abbrev pub asks_type : Wanted → ℕ → Bool
-asks_type (wants.Whole have) qtype = qtype == 252
-asks_type (wants.Newer have) qtype = qtype == 251 || qtype == 252
+asks_type (wants.Whole have) qtype = qtype == AXFR
+asks_type (wants.Newer have) qtype = qtype == IXFR || qtype == AXFR
 
 -- the question for the zone
 abbrev pub asks_for : TransferRequest → Question → Bool
 asks_for asked q =
-    same_name q.name asked.origin && (q.qclass == 1 && asks_type asked.wanted q.qtype)
+    same_name q.name asked.origin && (q.qclass == IN && asks_type asked.wanted q.qtype)
 
 -- the first message has the question, later ones have it or none
 abbrev pub question_fits : TransferRequest → Bool → Option Question → Bool
@@ -62,9 +65,9 @@ message_fault asked is_first (Ok m) = head_fault asked is_first m
 message_fault asked is_first (Err fault) = Some BadMessage
 
 -- A record is of class IN. A SOA record belongs to the zone's name, and another one to that name or to one below it.
-abbrev pub place_fault : List (List ℕ) → Bool → PlainRecord → Option TransferFault
+abbrev pub place_fault : Name → Bool → PlainRecord → Option TransferFault
 place_fault origin holds_soa r =
-    if not (r.class == 1) then Some WrongClass
+    if not (r.class == IN) then Some WrongClass
     else (if holds_soa then (if same_name r.owner origin then None else Some WrongSoaOwner)
     else (if ends_with r.owner origin then None else Some OutOfZone))
 
@@ -144,34 +147,34 @@ record_end wanted alone bs soa fault =
 -- how an answer record ends the transfer, behind these blocks
 abbrev pub answer_end : TransferRequest → Bool → List Block → PlainRecord → Option End
 answer_end asked alone bs r =
-    record_end asked.wanted alone bs (soa_held r) (place_fault asked.origin (is_soa r) r)
+    record_end asked.wanted alone bs (soa_held r) (place_fault asked.origin (holds_soa r) r)
 
-abbrev pub item_end : TransferRequest → List Item → Item → Option End
+abbrev pub item_end : TransferRequest → List TransferItem → TransferItem → Option End
 item_end asked before (item.head octets) =
     option_map Err (message_fault asked (length before == 0) (message_of octets))
 item_end asked before (item.answer alone r) = answer_end asked alone (blocks (records before)) r
 
 -- How an item ends the transfer, behind these items; None where it doesn't. The item of the number `most` is one too many.
-abbrev pub end_by : TransferRequest → List Item → Item → Option End
+abbrev pub end_by : TransferRequest → List TransferItem → TransferItem → Option End
 end_by asked before it =
     if nat_le asked.most (length before + 1) then Some (Err (TooManyRecords asked.most))
     else item_end asked before it
 
 -- how the first of the items that ends the transfer does so, where they stand behind those before
-unfoldable pub first_end : TransferRequest → List Item → List Item → Option End
+unfoldable pub first_end : TransferRequest → List TransferItem → List TransferItem → Option End
 first_end asked before [] = None
 first_end asked before (it ∷ others) =
     option_or (end_by asked before it) (first_end asked (before ++ it ∷ []) others)
 
-abbrev pub end_outcome : End → Outcome
+abbrev pub end_outcome : End → TransferOutcome
 end_outcome (Ok theirs) = Ok (Current theirs)
 end_outcome (Err fault) = Err fault
 
-abbrev pub new_outcome : Transfer → Outcome
+abbrev pub new_outcome : Transfer → TransferOutcome
 new_outcome transfer = Ok (New transfer)
 
 -- how these messages end the transfer: by the first item that does, else by the SOA that closes it; None where they don't
-unfoldable pub outcome_of : TransferRequest → List (List ℕ) → Option Outcome
+unfoldable pub outcome_of : TransferRequest → List (List ℕ) → Option TransferOutcome
 outcome_of asked messages =
     option_or (option_map end_outcome (first_end asked [] (items messages)))
     (option_map new_outcome (transfer_of (blocks (records (items messages)))))

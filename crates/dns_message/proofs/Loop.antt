@@ -7,7 +7,7 @@ use Rattle.dns_record.specs.declared.fault.RecordError.TheVariants as of_record
 use Rattle.dns_record.specs.Reading as reading
 use Rattle.dns_record.specs.Reading.{record_at}
 use Rattle.dns_record.specs.Record.{PlainRecord}
-use Rattle.dns_message.specs.Becomes.{Becomes, as_record}
+use Rattle.dns_message.specs.Becomes.{BecomesMessageError, as_record}
 use Rattle.dns_message.specs.declared.fault.MessageFault.{MessageFault}
 use Rattle.dns_message.specs.declared.fault.MessageError.{MessageError}
 use Rattle.dns_message.specs.Reading.{Fails, records_at}
@@ -40,7 +40,7 @@ goes_on bytes front count i at x after total lt h so_far =
     sym one ∙ so_far
 
 -- a record that can't be read
-pub stops : (e : RecordError) (e' : MessageError) (bytes : List ℕ) (front : List PlainRecord) (count i at : ℕ) (total : Outcome) → i < count → Becomes e e' → reading.Fails e (record_at bytes at)
+pub stops : (e : RecordError) (e' : MessageError) (bytes : List ℕ) (front : List PlainRecord) (count i at : ℕ) (total : Outcome) → i < count → BecomesMessageError e e' → reading.Fails e (record_at bytes at)
     → with_front front (records_at (count - i) bytes at) ≡ total → Fails e' total
 unfolding records_at
 stops of_record.OutOfMemory e' bytes front count i at total lt b h so_far = rw b tt

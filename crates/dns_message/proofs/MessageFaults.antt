@@ -21,7 +21,7 @@ use Rattle.dns_message.specs.declared.message.Message.{Message}
 use Rattle.dns_message.specs.declared.question.Question.{Question}
 use Rattle.dns_message.specs.Faults.{HasNoQuestion, count_before, count_in_all, HasRecords, MessageShows}
 use Rattle.dns_message.specs.Grammar.{RecordsAt, OneQuestionAt, QuestionAt}
-use Rattle.dns_message.specs.Reading.{is_opt, edns_in, end_at, question_at, questions_at, some_question, records_at, unless_trailing, sections_of, message_of}
+use Rattle.dns_message.specs.Reading.{is_opt, edns_in, after_octets, question_at, questions_at, some_question, records_at, unless_trailing, sections_of, message_of}
 use Rattle.dns_message.proofs.MessageReads.{at_edns, at_additional, at_authority, at_answer, at_question}
 use Rattle.dns_message.proofs.QuestionGrammar.{question_only, question_reads, question_stands, questions_stand, questions_only, question_inside}
 use Rattle.dns_message.proofs.RecordsGrammar.{ReadsRecords, record_from, records_stand, records_inside}
@@ -39,16 +39,16 @@ then_short : {A B : Type 0} (r : Result A MessageFault) (f : A → Result B Mess
 then_short (Ok x) f h g = g x
 then_short (Err fault) f h g = h
 
-name_short : (read : reading.Outcome) → IsShort (as_question read)
+name_short : (read : reading.NameOutcome) → IsShort (as_question read)
 name_short (Ok x) = tt
 name_short (Err fault) = refl
 
-end_short : (bytes : List ℕ) (place count : ℕ) → IsShort (end_at bytes place count)
+end_short : (bytes : List ℕ) (place count : ℕ) → IsShort (after_octets bytes place count)
 end_short bytes place count = cond_both (ltb (length bytes) (place + count)) (Err Short) (Ok (place + count)) IsShort (λ t. refl) (λ t. tt)
 
 question_short : (bytes : List ℕ) (place : ℕ) → IsShort (question_at bytes place)
 unfolding question_at
-question_short bytes place = then_short (as_question (name_at bytes place)) _ (name_short (name_at bytes place)) (λ name. then_short (end_at bytes name.1 4) _ (end_short bytes name.1 4) (λ after. tt))
+question_short bytes place = then_short (as_question (name_at bytes place)) _ (name_short (name_at bytes place)) (λ name. then_short (after_octets bytes name.1 4) _ (end_short bytes name.1 4) (λ after. tt))
 
 err_short : (r : Result (Question × ℕ) MessageFault) (fault : MessageFault) → IsShort r → r ≡ Err fault → fault ≡ Short
 err_short (Ok x) fault h e = absurd cc

@@ -4,7 +4,7 @@ use Rattle.std.specs.Prelude.{IfSome}
 use Rattle.std.proofs.lemmas.Bool.{cond_both, eqb-true, ltb-false, le-ltb}
 use Rattle.dns_name.specs.Grammar.{NameAt}
 use Rattle.dns_name.specs.Labels.{name_octets}
-use Rattle.dns_name.specs.Reading.{◌>>=◌, Outcome, name_at}
+use Rattle.dns_name.specs.Reading.{◌>>=◌, NameOutcome, name_at}
 use Rattle.dns_name.specs.Standing.{Stands}
 use Rattle.dns_name.proofs.GrammarLemmas.{name_stands, name_only}
 use Rattle.dns_name.proofs.Standing.{name_written, stands_both}
@@ -17,7 +17,7 @@ use Rattle.dns_message.specs.declared.fault.MessageFault.{MessageFault}
 use Rattle.dns_message.specs.declared.fault.MessageFault.TheVariants.{Short, Question as Questions}
 use Rattle.dns_message.specs.declared.question.Question.{Question}
 use Rattle.dns_message.specs.Grammar.{OneQuestionAt, QuestionAt}
-use Rattle.dns_message.specs.Reading.{end_at, question_at, questions_at, some_question}
+use Rattle.dns_message.specs.Reading.{after_octets, question_at, questions_at, some_question}
 use Rattle.dns_message.specs.Spelling.{question_count, question_octets, IsQuestion}
 
 abbrev numbers : Question → List ℕ
@@ -55,11 +55,11 @@ pub record ReadsQuestion (q : Question) (bytes : List ℕ) (at after : ℕ) : Ty
   pub end : place + 4 ≡ after
   pub within : after ≤ length bytes
 
-name_from_question : (read : Outcome) (x : List (List ℕ) × ℕ) → as_question read ≡ Ok x → read ≡ Ok x
+name_from_question : (read : NameOutcome) (x : List (List ℕ) × ℕ) → as_question read ≡ Ok x → read ≡ Ok x
 name_from_question (Ok y) x e = ap (λ (z : List (List ℕ) × ℕ). Ok z) (ok_is {E = MessageFault} y x e)
 name_from_question (Err fault) x e = absurd cc
 
-end_read : (bytes : List ℕ) (place count end : ℕ) → end_at bytes place count ≡ Ok end → (place + count ≤ length bytes) × (place + count ≡ end)
+end_read : (bytes : List ℕ) (place count end : ℕ) → after_octets bytes place count ≡ Ok end → (place + count ≤ length bytes) × (place + count ≡ end)
 end_read bytes place count end =
     cond_both (ltb (length bytes) (place + count)) (Err Short) (Ok (place + count)) (λ (r : Result ℕ MessageFault). r ≡ Ok end → (place + count ≤ length bytes) × (place + count ≡ end))
     (λ t e. absurd cc)
@@ -71,9 +71,9 @@ whole bytes name after = (record { name = name.0; qtype = number_at 2 bytes name
 pub question_reads : (bytes : List ℕ) (at : ℕ) (x : Question × ℕ) → question_at bytes at ≡ Ok x → ReadsQuestion x.0 bytes at x.1
 unfolding question_at
 question_reads bytes at x e =
-    let a = bind_ok (as_question (name_at bytes at)) (λ name. end_at bytes name.1 4 >>= λ after. Ok (whole bytes name after)) x e in
+    let a = bind_ok (as_question (name_at bytes at)) (λ name. after_octets bytes name.1 4 >>= λ after. Ok (whole bytes name after)) x e in
     let name = a.0 in
-    let b = bind_ok (end_at bytes name.1 4) (λ after. Ok (whole bytes name after)) x a.2 in
+    let b = bind_ok (after_octets bytes name.1 4) (λ after. Ok (whole bytes name after)) x a.2 in
     let end = end_read bytes name.1 4 b.0 b.1 in
     subst (λ (y : Question × ℕ). ReadsQuestion y.0 bytes at y.1) (ok_is {E = MessageFault} (whole bytes name b.0) x b.2) (record {
       place = name.1;
@@ -94,7 +94,7 @@ question_stands q bytes after octets h =
     let qclass = number_stands bytes q.qclass (place + 2) after octets h.qclass (omega (arith, h.end)) h.within in
     record {
       place = place;
-      name = subst (λ (o : Outcome). NameAt bytes 12 o) h.name (name_stands bytes 12);
+      name = subst (λ (o : NameOutcome). NameAt bytes 12 o) h.name (name_stands bytes 12);
       numbers = stands_both (number_octets 2 q.qtype) (number_octets 2 q.qclass) bytes place (place + 2) after qtype qclass;
       inside = h.within;
       type_fits = subst (λ (n : ℕ). n < 2 ^ 16) h.qtype (number_fits 2 bytes place octets);
@@ -141,7 +141,7 @@ one_written q bytes after is s =
     let read : name_at bytes 12 ≡ Ok (q.name, place) = name_written q.name bytes 12 place is.is_name both.0 in
     record {
       place = place;
-      name = subst (λ (o : Outcome). NameAt bytes 12 o) read (name_stands bytes 12);
+      name = subst (λ (o : NameOutcome). NameAt bytes 12 o) read (name_stands bytes 12);
       numbers = both.1;
       inside = stands_within (question_octets (Some q)) bytes 12 after long s;
       type_fits = is.type_fits;

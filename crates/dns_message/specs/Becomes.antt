@@ -9,10 +9,11 @@ use Rattle.dns_message.specs.declared.fault.MessageFault.TheVariants.{Short, Rec
 use Rattle.dns_message.specs.declared.fault.MessageError.{MessageError}
 use Rattle.dns_message.specs.declared.fault.MessageError.TheVariants as errors
 
--- the error of a record
-abbrev pub Becomes : RecordError → MessageError → Type 0
-Becomes of_record.OutOfMemory e = e ≡ errors.OutOfMemory
-Becomes (of_record.Fault fault) e = e ≡ errors.Fault (Record fault)
+-- The `?` of code that reads a message: a record that can't be read is the message's fault `Record`, with the record's own fault in
+-- it. Out of memory stays out of memory.
+abbrev pub BecomesMessageError : RecordError → MessageError → Type 0
+BecomesMessageError of_record.OutOfMemory e = e ≡ errors.OutOfMemory
+BecomesMessageError (of_record.Fault fault) e = e ≡ errors.Fault (Record fault)
 
 -- what is read as a record
 abbrev pub as_record : {A : Type 0} → Result A RecordFault → Result A MessageFault

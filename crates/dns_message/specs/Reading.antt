@@ -5,6 +5,7 @@ use Rattle.dns_name.specs.Reading.{◌>>=◌, name_at}
 use Rattle.dns_record.specs.Number.{number_at}
 use Rattle.dns_record.specs.Reading.{record_at}
 use Rattle.dns_record.specs.Record.{PlainRecord}
+use Rattle.dns_record.specs.declared.rtype.TheConstants.{OPT}
 use Rattle.dns_message.specs.declared.edns.Edns.{Edns}
 use Rattle.dns_message.specs.declared.fault.MessageFault.{MessageFault}
 use Rattle.dns_message.specs.declared.fault.MessageFault.TheVariants.{Short, Question as Questions, Trailing, TwoOpts}
@@ -36,15 +37,15 @@ header_in bytes =
     }
 
 -- the place after so many octets, which the message must have
-abbrev pub end_at : List ℕ → ℕ → ℕ → Result ℕ MessageFault
-end_at bytes place count =
+abbrev pub after_octets : List ℕ → ℕ → ℕ → Result ℕ MessageFault
+after_octets bytes place count =
     if nat_lt (length bytes) (place + count) then Err Short else Ok (place + count)
 
 -- the question at a place, and the place after it
 unfoldable pub question_at : List ℕ → ℕ → Result (Question × ℕ) MessageFault
 question_at bytes place = do
   name ← as_question (name_at bytes place)
-  after ← end_at bytes name.1 4
+  after ← after_octets bytes name.1 4
   Ok (
     record {
       name = name.0;
@@ -73,7 +74,7 @@ records_at (suc count) bytes place = do
 
 -- an OPT record (RFC 6891, section 6.1.2): the type 41, owned by the root
 abbrev pub is_opt : PlainRecord → Bool
-is_opt r = r.rtype == 41 && length r.owner == 0
+is_opt r = r.rtype == OPT && length r.owner == 0
 
 -- what an OPT record says (RFC 6891, section 6.1.3), but for its flags and its options
 abbrev pub edns_of : PlainRecord → Edns

@@ -2,6 +2,8 @@
 use Rattle.std.specs.Prelude.{ℕ, ◌==◌, nat_le, nat_lt, Bool, true, false, not, ◌&&◌, ◌||◌, if◌then◌else◌, List, [], length, Option, Some, None, Result, Ok, Err}
 use Rattle.ip_prefix.specs.declared.Addr.{Addr}
 use Rattle.ip_prefix.specs.declared.Transport.{Transport}
+use Rattle.dns_record.specs.declared.rtype.TheConstants.{AXFR, IXFR}
+use Rattle.dns_record.specs.declared.class.TheConstants.{IN}
 use Rattle.dns_message.specs.declared.edns.Edns.{Edns}
 use Rattle.dns_message.specs.declared.edns.TheConstants.{EDNS_VERSION, UDP_PAYLOAD, BAD_VERSION}
 use Rattle.dns_message.specs.declared.fault.MessageFault.{MessageFault}
@@ -91,7 +93,7 @@ has_later_version (Some edns) = nat_lt EDNS_VERSION edns.version
 -- The question is one of class IN, for no transfer of a zone (the types 251 and 252), and recursion is desired.
 abbrev pub is_served : Header → Question → Bool
 is_served h question =
-    question.qclass == 1 && (not (question.qtype == 251 || question.qtype == 252) && h.rd)
+    question.qclass == IN && (not (question.qtype == IXFR || question.qtype == AXFR) && h.rd)
 
 -- A well formed request. The response code 16 (BADVERS; RFC 6891, section 9) says that the version isn't served: its
 -- lower 4 bits, in the header, are 0.

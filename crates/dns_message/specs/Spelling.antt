@@ -4,6 +4,7 @@ use Rattle.std.specs.List.{flat_map, AllByRecursion}
 use Rattle.dns_name.specs.Labels.{IsName, name_octets}
 use Rattle.dns_record.specs.Number.{number_octets}
 use Rattle.dns_record.specs.Record.{PlainRecord, IsRecord, record_octets}
+use Rattle.dns_record.specs.declared.rtype.TheConstants.{OPT}
 use Rattle.dns_message.specs.declared.edns.Edns.{Edns}
 use Rattle.dns_message.specs.declared.header.Header.{Header}
 use Rattle.dns_message.specs.declared.message.Message.{Message}
@@ -63,7 +64,7 @@ opt_count (Some edns) = 1
 unfoldable pub opt_octets : Option Edns → List ℕ
 opt_octets None = []
 opt_octets (Some edns) =
-    0 ∷ [] ++ number_octets 2 41 ++ number_octets 2 edns.payload
+    0 ∷ [] ++ number_octets 2 OPT ++ number_octets 2 edns.payload
     ++ (edns.extended ∷ edns.version ∷ 0 ∷ 0 ∷ []) ++ number_octets 2 0
 
 -- a message of these parts, with these bits Z; the OPT record stands last

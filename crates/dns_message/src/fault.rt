@@ -2,7 +2,7 @@
 
 ghost use Rattle.std.specs.Prelude.{◌≡◌};
 ghost use Rattle.dns_message.specs.declared.fault.MessageError.TheVariants.{OutOfMemory, Fault as AFault};
-ghost use Rattle.dns_message.specs.Becomes.{Becomes};
+ghost use Rattle.dns_message.specs.Becomes.{BecomesMessageError};
 
 use dns_record::{RecordError, RecordFault};
 use std::alloc::{AllocError, AllocFailed};
@@ -55,7 +55,7 @@ impl From<MessageFault> for MessageError {
 }
 
 impl From<RecordError> for MessageError {
-    ghost from_gives = { Becomes };
+    ghost from_gives = { BecomesMessageError };
 
     fn from(error: RecordError) -> MessageError {
         match error {

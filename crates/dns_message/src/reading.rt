@@ -1,7 +1,7 @@
 //! Reads a message.
 
 ghost use Rattle.std.specs.Prelude.{◌≡◌, ◌+◌, ◌/◌, ◌%◌, ◌<◌, ◌≤◌, length, slice_index, IfOk};
-ghost use Rattle.dns_message.specs.Reading.{Gives, is_set as bit_is_set, header_in, end_at, question_at, questions_at, records_at, sections_of, message_of};
+ghost use Rattle.dns_message.specs.Reading.{Gives, is_set as bit_is_set, header_in, after_octets, question_at, questions_at, records_at, sections_of, message_of};
 
 use crate::fault::{MessageError, MessageFault};
 use crate::header::Header;
@@ -130,7 +130,7 @@ fn read_question(
 
 // The place after so many bytes, which the message must have.
 fn end_of(bytes: &[u8], place: usize, count: usize) -> Result<usize, MessageFault>
-    ensures end { result ≡ end_at bytes.now place count }
+    ensures end { result ≡ after_octets bytes.now place count }
     ensures within { IfOk result (λ end. (end ≡ place + count) × (end ≤ length bytes.now)) }
 {
     match bytes.len().checked_sub(place) {

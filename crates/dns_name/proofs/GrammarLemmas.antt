@@ -6,7 +6,7 @@ use Rattle.dns_name.specs.declared.fault.NameFault.{NameFault}
 use Rattle.dns_name.specs.declared.fault.NameFault.TheVariants.{Short, LabelType, Pointer, TooLong}
 use Rattle.dns_name.specs.Labels.{label_octets}
 use Rattle.dns_name.specs.Reading as reading
-use Rattle.dns_name.specs.Reading.{Piece, piece_at, pointer_at, Outcome, with_labels, with_after, ◌>>=◌, follow, name_from, name_at}
+use Rattle.dns_name.specs.Reading.{Piece, piece_at, pointer_at, NameOutcome, with_labels, with_after, ◌>>=◌, follow, name_from, name_at}
 use Rattle.dns_name.specs.Grammar as grammar
 use Rattle.dns_name.specs.Grammar.{Begins, HasRoom, Shows, target_of, GoesOn, NameAt}
 use Rattle.dns_name.proofs.Loop.{one_piece, no_piece}
@@ -159,7 +159,7 @@ fault_is run used (n ∷ low ∷ bs) Pointer s =
     let e : ltb (target_of n low) run ≡ false = le-ltb (target_of n low) run s.1 in
     large_is run used n (low ∷ bs) s.0 ∙ rw e refl
 
-pub read_from : (message : List ℕ) (left : ℕ) (run used place : ℕ) (o : Outcome) → GoesOn message run used place o → used ≤ 254 → 256 * run + 256 ≤ left + used → name_from left message run used place ≡ o
+pub read_from : (message : List ℕ) (left : ℕ) (run used place : ℕ) (o : NameOutcome) → GoesOn message run used place o → used ≤ 254 → 256 * run + 256 ≤ left + used → name_from left message run used place ≡ o
 read_from message left run used place o (grammar.ends _ _ _ begins) room enough = one_piece left message run used place reading.end (omega arith) (end_is run used (drop place message) begins)
 read_from message left run used place o (grammar.label _ _ _ first others has begins rest) room enough =
     one_piece left message run used place (reading.label first) (omega arith) (label_is run used (drop place message) first has begins)
@@ -170,6 +170,6 @@ read_from message left run used place o (grammar.pointer _ _ _ high low others h
 read_from message left run used place o (grammar.fails _ _ _ fault shows) room enough = no_piece left message run used place fault (omega arith) (fault_is run used (drop place message) fault shows)
 
 -- nothing else stands there by the rules
-pub name_only : (message : List ℕ) (at : ℕ) (o : Outcome) → NameAt message at o → name_at message at ≡ o
+pub name_only : (message : List ℕ) (at : ℕ) (o : NameOutcome) → NameAt message at o → name_at message at ≡ o
 unfolding name_at
 name_only message at o h = read_from message (256 * at + 256) at 0 at o h (omega arith) (omega arith)

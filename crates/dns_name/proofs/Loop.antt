@@ -6,10 +6,10 @@ use Rattle.std.proofs.lemmas.List.Concat.{flat_map-append}
 use Rattle.dns_name.specs.declared.fault.NameFault.{NameFault}
 use Rattle.dns_name.specs.Labels.{IsLabel, IsName, label_octets}
 use Rattle.dns_name.specs.Reading as reading
-use Rattle.dns_name.specs.Reading.{Piece, piece_at, Outcome, with_labels, with_after, follow, name_from, name_at}
+use Rattle.dns_name.specs.Reading.{Piece, piece_at, NameOutcome, with_labels, with_after, follow, name_from, name_at}
 
 -- what is read: labels, what follows, and the place after the first pointer
-abbrev pub join_outcome : List (List ℕ) → Option ℕ → Outcome → Outcome
+abbrev pub join_outcome : List (List ℕ) → Option ℕ → NameOutcome → NameOutcome
 join_outcome front after (Ok (labels, end)) = Ok (front ++ labels, unwrap_or after end)
 join_outcome front after (Err fault) = Err fault
 
@@ -22,15 +22,15 @@ pub record HasRead (message : List ℕ) (at run used place : ℕ) (labels : List
   pub used_is : length (flat_map label_octets labels) ≡ used
   pub room : used ≤ 254
 
-joined-nil : (o : Outcome) → join_outcome [] None o ≡ o
+joined-nil : (o : NameOutcome) → join_outcome [] None o ≡ o
 joined-nil (Ok x) = refl
 joined-nil (Err fault) = refl
 
-joined-push : (front : List (List ℕ)) (after : Option ℕ) (first : List ℕ) (o : Outcome) → join_outcome front after (with_labels (first ∷ []) o) ≡ join_outcome (front ++ first ∷ []) after o
+joined-push : (front : List (List ℕ)) (after : Option ℕ) (first : List ℕ) (o : NameOutcome) → join_outcome front after (with_labels (first ∷ []) o) ≡ join_outcome (front ++ first ∷ []) after o
 joined-push front after first (Ok x) = ap (λ (ls : List (List ℕ)). Ok (ls, unwrap_or after x.1)) (simp append_assoc)
 joined-push front after first (Err fault) = refl
 
-joined-after : (front : List (List ℕ)) (after : Option ℕ) (end : ℕ) (o : Outcome) → join_outcome front after (with_after end o) ≡ join_outcome front (Some (unwrap_or after end)) o
+joined-after : (front : List (List ℕ)) (after : Option ℕ) (end : ℕ) (o : NameOutcome) → join_outcome front after (with_after end o) ≡ join_outcome front (Some (unwrap_or after end)) o
 joined-after front after end (Ok x) = refl
 joined-after front after end (Err fault) = refl
 
@@ -60,7 +60,7 @@ pub HasRead-label : (message : List ℕ) (at run used place : ℕ) (labels : Lis
 HasRead-label message at run used place labels after first used' place' u p h piece is_label room = record {
   left = h.left - 1;
   enough = omega (arith, h.enough, h.room);
-  so_far = sym (joined-push labels after first (name_from (h.left - 1) message run used' place')) ∙ ap (λ (o : Outcome). join_outcome labels after (with_labels (first ∷ []) o)) (rw (u, p) refl) ∙ ap (join_outcome labels after) (sym (one_piece h.left message run used place (reading.label first) (omega (arith, h.enough, h.room)) piece)) ∙ h.so_far;
+  so_far = sym (joined-push labels after first (name_from (h.left - 1) message run used' place')) ∙ ap (λ (o : NameOutcome). join_outcome labels after (with_labels (first ∷ []) o)) (rw (u, p) refl) ∙ ap (join_outcome labels after) (sym (one_piece h.left message run used place (reading.label first) (omega (arith, h.enough, h.room)) piece)) ∙ h.so_far;
   each = AllByRecursion-push labels first h.each is_label;
   used_is = ap length (flat_map-append label_octets labels (first ∷ [])) ∙ omega (arith, length-append (flat_map label_octets labels) (label_octets first ++ []), length-append (label_octets first) [], h.used_is);
   room = omega (arith, room);

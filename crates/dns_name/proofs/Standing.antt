@@ -7,7 +7,7 @@ use Rattle.std.proofs.lemmas.List.{length-take, take_at, drop_at, drop-drop}
 use Rattle.dns_name.specs.Grammar as grammar
 use Rattle.dns_name.specs.Grammar.{HasRoom, GoesOn}
 use Rattle.dns_name.specs.Labels.{IsLabel, IsName, label_octets, name_octets}
-use Rattle.dns_name.specs.Reading.{Outcome, with_labels, with_after, name_at}
+use Rattle.dns_name.specs.Reading.{NameOutcome, with_labels, with_after, name_at}
 use Rattle.dns_name.specs.Standing.{Stands}
 use Rattle.dns_name.proofs.GrammarLemmas.{name_stands, name_only}
 use Rattle.dns_name.proofs.WireLemmas.{name_octets-cons}
@@ -71,13 +71,13 @@ name_written name message at after is h =
     name_only message at (Ok (name, after)) (written_goes_on message at 0 at name after is.labels (omega (arith, is.short, length-append (flat_map label_octets name) (0 ∷ []))) h)
 
 -- what is known of each name that is read
-abbrev pub Of : (List (List ℕ) × ℕ → Type 0) → Outcome → Type 0
+abbrev pub Of : (List (List ℕ) × ℕ → Type 0) → NameOutcome → Type 0
 Of is outcome = MatchResult outcome is (λ fault. ⊤)
 
-pub same_outcome : (o : Outcome) (x y : List (List ℕ) × ℕ) → o ≡ Ok x → o ≡ Ok y → x ≡ y
+pub same_outcome : (o : NameOutcome) (x y : List (List ℕ) × ℕ) → o ≡ Ok x → o ≡ Ok y → x ≡ y
 same_outcome o x y e f = cc
 
-pub of_read : (is : List (List ℕ) × ℕ → Type 0) (o : Outcome) (x : List (List ℕ) × ℕ) → Of is o → o ≡ Ok x → is x
+pub of_read : (is : List (List ℕ) × ℕ → Type 0) (o : NameOutcome) (x : List (List ℕ) × ℕ) → Of is o → o ≡ Ok x → is x
 of_read is (Ok y) x h e = subst is (same_outcome (Ok y) y x refl e) h
 of_read is (Err fault) x h e = absurd cc
 
@@ -86,15 +86,15 @@ record Fits (used : ℕ) (x : List (List ℕ) × ℕ) : Type 0 where
   pub each : AllByRecursion IsLabel x.0
   pub room : used + length (flat_map label_octets x.0) ≤ 254
 
-fits_more : (used : ℕ) (first : List ℕ) (o : Outcome) → HasRoom used first → Of (Fits (used + length first + 1)) o → Of (Fits used) (with_labels (first ∷ []) o)
+fits_more : (used : ℕ) (first : List ℕ) (o : NameOutcome) → HasRoom used first → Of (Fits (used + length first + 1)) o → Of (Fits used) (with_labels (first ∷ []) o)
 fits_more used first (Ok (ls, after)) has h = record { each = (has.is_label, h.each); room = omega (arith, h.room, length-append (label_octets first) (flat_map label_octets ls)) }
 fits_more used first (Err fault) has h = tt
 
-fits_after : (used after : ℕ) (o : Outcome) → Of (Fits used) o → Of (Fits used) (with_after after o)
+fits_after : (used after : ℕ) (o : NameOutcome) → Of (Fits used) o → Of (Fits used) (with_after after o)
 fits_after used after (Ok x) h = record { each = h.each; room = h.room }
 fits_after used after (Err fault) h = tt
 
-all_fits : (message : List ℕ) (run used place : ℕ) (o : Outcome) → GoesOn message run used place o → used ≤ 254 → Of (Fits used) o
+all_fits : (message : List ℕ) (run used place : ℕ) (o : NameOutcome) → GoesOn message run used place o → used ≤ 254 → Of (Fits used) o
 all_fits message run used place o (grammar.ends _ _ _ begins) room = record { each = tt; room = omega arith }
 all_fits message run used place o (grammar.label _ _ _ first others has begins rest) room =
     fits_more used first others has (all_fits message run (used + length first + 1) (place + length first + 1) others rest (omega (arith, has.room)))
@@ -111,7 +111,7 @@ name_is name message at after e =
 abbrev InFull : List ℕ → ℕ → List (List ℕ) × ℕ → Type 0
 InFull message place x = Stands (name_octets x.0) message place x.1
 
-full_more : (message : List ℕ) (place : ℕ) (first : List ℕ) (o : Outcome) → grammar.Begins (drop place message) (label_octets first) → Of (InFull message (place + length first + 1)) o → Of (InFull message place) (with_labels (first ∷ []) o)
+full_more : (message : List ℕ) (place : ℕ) (first : List ℕ) (o : NameOutcome) → grammar.Begins (drop place message) (label_octets first) → Of (InFull message (place + length first + 1)) o → Of (InFull message place) (with_labels (first ∷ []) o)
 full_more message place first (Ok (ls, after)) begins h =
     let parts : name_octets (first ∷ ls) ≡ label_octets first ++ name_octets ls = name_octets-cons first ls in
     let front : Stands (label_octets first) message place (place + length first + 1) = record { begins = begins; ends = omega arith } in
@@ -119,7 +119,7 @@ full_more message place first (Ok (ls, after)) begins h =
 full_more message place first (Err fault) begins h = tt
 
 -- before the start of a message nothing stands that a pointer could lead to
-all_full : (message : List ℕ) (run used place : ℕ) (o : Outcome) → GoesOn message run used place o → run ≡ 0 → Of (InFull message place) o
+all_full : (message : List ℕ) (run used place : ℕ) (o : NameOutcome) → GoesOn message run used place o → run ≡ 0 → Of (InFull message place) o
 all_full message run used place o (grammar.ends _ _ _ begins) start = record { begins = begins; ends = refl }
 all_full message run used place o (grammar.label _ _ _ first others has begins rest) start =
     full_more message place first others begins (all_full message run (used + length first + 1) (place + length first + 1) others rest start)

@@ -11,7 +11,7 @@ use Rattle.dns_name.specs.Grammar as grammar
 use Rattle.dns_name.specs.Grammar.{Begins, HasRoom, Shows, GoesOn, target_of}
 use Rattle.dns_name.specs.Labels.{IsLabel, label_octets, name_octets}
 use Rattle.dns_name.specs.Reading as reading
-use Rattle.dns_name.specs.Reading.{Outcome, piece_at, with_labels, with_after, name_from, name_at}
+use Rattle.dns_name.specs.Reading.{NameOutcome, piece_at, with_labels, with_after, name_from, name_at}
 use Rattle.dns_name.specs.Tails.{IsNameAt, IsTailAt, IsTail, AreTails}
 use Rattle.dns_name.specs.Wire.{labels_in, IsWire}
 use Rattle.dns_name.proofs.GrammarLemmas.{head, piece_said, stands_from, read_from, name_stands}
@@ -24,18 +24,18 @@ use Rattle.dns_name.proofs.WireLemmas.{name_octets-cons, labels_in-octets, IsWir
 abbrev Goes : List ℕ → ℕ → ℕ → ℕ → List (List ℕ) × ℕ → Type 0
 Goes message run used place x = GoesOn message run used place (Ok x)
 
-goes_label : (message : List ℕ) (run used place : ℕ) (first : List ℕ) (others : Outcome) → HasRoom used first → Begins (drop place message) (label_octets first)
+goes_label : (message : List ℕ) (run used place : ℕ) (first : List ℕ) (others : NameOutcome) → HasRoom used first → Begins (drop place message) (label_octets first)
     → Of (Goes message run (used + length first + 1) (place + length first + 1)) others → Of (Goes message run used place) (with_labels (first ∷ []) others)
 goes_label message run used place first (Ok x) has begins rest = grammar.label run used place first (Ok x) has begins rest
 goes_label message run used place first (Err fault) has begins rest = tt
 
-goes_pointer : (message : List ℕ) (run used place high low : ℕ) (others : Outcome) → 192 ≤ high → target_of high low < run → Begins (drop place message) (high ∷ low ∷ [])
+goes_pointer : (message : List ℕ) (run used place high low : ℕ) (others : NameOutcome) → 192 ≤ high → target_of high low < run → Begins (drop place message) (high ∷ low ∷ [])
     → Of (Goes message (target_of high low) used (target_of high low)) others → Of (Goes message run used place) (with_after (place + 2) others)
 goes_pointer message run used place high low (Ok x) h lt begins rest = grammar.pointer run used place high low (Ok x) h lt begins rest
 goes_pointer message run used place high low (Err fault) h lt begins rest = tt
 
 -- with labels that began later, and fewer bytes before, the same stands there
-pub looser : (message : List ℕ) (run used place : ℕ) (o : Outcome) → GoesOn message run used place o → (run' used' : ℕ) → run ≤ run' → used' ≤ used → Of (Goes message run' used' place) o
+pub looser : (message : List ℕ) (run used place : ℕ) (o : NameOutcome) → GoesOn message run used place o → (run' used' : ℕ) → run ≤ run' → used' ≤ used → Of (Goes message run' used' place) o
 looser message run used place o (grammar.ends _ _ _ begins) run' used' r u = grammar.ends run' used' place begins
 looser message run used place o (grammar.label _ _ _ first others has begins rest) run' used' r u =
     goes_label message run' used' place first others (record { is_label = has.is_label; room = omega (arith, has.room) }) begins
@@ -49,19 +49,19 @@ looser message run used place o (grammar.fails _ _ _ fault shows) run' used' r u
 abbrev Fits : List ℕ → ℕ → ℕ → ℕ → List (List ℕ) × ℕ → Type 0
 Fits message run used place x = used + length (flat_map label_octets x.0) ≤ 254 → GoesOn message run used place (Ok x)
 
-fits_label : (message : List ℕ) (run used place : ℕ) (first : List ℕ) (others : Outcome) → IsLabel first → Begins (drop place message) (label_octets first)
+fits_label : (message : List ℕ) (run used place : ℕ) (first : List ℕ) (others : NameOutcome) → IsLabel first → Begins (drop place message) (label_octets first)
     → Of (Fits message run (used + length first + 1) (place + length first + 1)) others → Of (Fits message run used place) (with_labels (first ∷ []) others)
 fits_label message run used place first (Ok x) is begins rest = λ room.
     let len = length-append (label_octets first) (flat_map label_octets x.0) in
     grammar.label run used place first (Ok x) (record { is_label = is; room = omega (arith, len, room) }) begins (rest (omega (arith, len, room)))
 fits_label message run used place first (Err fault) is begins rest = tt
 
-fits_pointer : (message : List ℕ) (run used place high low : ℕ) (others : Outcome) → 192 ≤ high → target_of high low < run → Begins (drop place message) (high ∷ low ∷ [])
+fits_pointer : (message : List ℕ) (run used place high low : ℕ) (others : NameOutcome) → 192 ≤ high → target_of high low < run → Begins (drop place message) (high ∷ low ∷ [])
     → Of (Fits message (target_of high low) used (target_of high low)) others → Of (Fits message run used place) (with_after (place + 2) others)
 fits_pointer message run used place high low (Ok x) h lt begins rest = λ room. grammar.pointer run used place high low (Ok x) h lt begins (rest room)
 fits_pointer message run used place high low (Err fault) h lt begins rest = tt
 
-fits : (message : List ℕ) (run used place : ℕ) (o : Outcome) → GoesOn message run used place o → (used' : ℕ) → Of (Fits message run used' place) o
+fits : (message : List ℕ) (run used place : ℕ) (o : NameOutcome) → GoesOn message run used place o → (used' : ℕ) → Of (Fits message run used' place) o
 fits message run used place o (grammar.ends _ _ _ begins) used' = λ room. grammar.ends run used' place begins
 fits message run used place o (grammar.label _ _ _ first others has begins rest) used' =
     fits_label message run used' place first others has.is_label begins (fits message run (used + length first + 1) (place + length first + 1) others rest (used' + length first + 1))
@@ -90,17 +90,17 @@ exceeds_here message run used place first x false test is begins rest long =
     let len = length-append (label_octets first) (flat_map label_octets x.0) in
     grammar.label run used place first (Err TooLong) (record { is_label = is; room = omega (arith, room) }) begins (rest (omega (arith, room)) (omega (arith, len, long)))
 
-exceeds_label : (message : List ℕ) (run used place : ℕ) (first : List ℕ) (others : Outcome) → IsLabel first → Begins (drop place message) (label_octets first)
+exceeds_label : (message : List ℕ) (run used place : ℕ) (first : List ℕ) (others : NameOutcome) → IsLabel first → Begins (drop place message) (label_octets first)
     → Of (Exceeds message run (used + length first + 1) (place + length first + 1)) others → Of (Exceeds message run used place) (with_labels (first ∷ []) others)
 exceeds_label message run used place first (Ok x) is begins rest = λ small long. exceeds_here message run used place first x (ltb 255 (used + length first + 2)) refl is begins rest long
 exceeds_label message run used place first (Err fault) is begins rest = tt
 
-exceeds_pointer : (message : List ℕ) (run used place high low : ℕ) (others : Outcome) → 192 ≤ high → target_of high low < run → Begins (drop place message) (high ∷ low ∷ [])
+exceeds_pointer : (message : List ℕ) (run used place high low : ℕ) (others : NameOutcome) → 192 ≤ high → target_of high low < run → Begins (drop place message) (high ∷ low ∷ [])
     → Of (Exceeds message (target_of high low) used (target_of high low)) others → Of (Exceeds message run used place) (with_after (place + 2) others)
 exceeds_pointer message run used place high low (Ok x) h lt begins rest = λ small long. grammar.pointer run used place high low (Err TooLong) h lt begins (rest small long)
 exceeds_pointer message run used place high low (Err fault) h lt begins rest = tt
 
-exceeds : (message : List ℕ) (run used place : ℕ) (o : Outcome) → GoesOn message run used place o → (used' : ℕ) → Of (Exceeds message run used' place) o
+exceeds : (message : List ℕ) (run used place : ℕ) (o : NameOutcome) → GoesOn message run used place o → (used' : ℕ) → Of (Exceeds message run used' place) o
 exceeds message run used place o (grammar.ends _ _ _ begins) used' = λ small long. absurd (omega arith)
 exceeds message run used place o (grammar.label _ _ _ first others has begins rest) used' =
     exceeds_label message run used' place first others has.is_label begins (exceeds message run (used + length first + 1) (place + length first + 1) others rest (used' + length first + 1))
@@ -198,7 +198,7 @@ record IsBehind (message : List ℕ) (next : ℕ) (name : List (List ℕ)) (firs
   is : name ≡ first ∷ others
   stands : IsNameAt message next others
 
-taken_label : (message : List ℕ) (next : ℕ) (first : List ℕ) (o : Outcome) (name : List (List ℕ)) (after : ℕ) → with_labels (first ∷ []) o ≡ Ok (name, after)
+taken_label : (message : List ℕ) (next : ℕ) (first : List ℕ) (o : NameOutcome) (name : List (List ℕ)) (after : ℕ) → with_labels (first ∷ []) o ≡ Ok (name, after)
     → Of (Goes message next 0 next) o → IsBehind message next name first
 unfolding name_at
 taken_label message next first (Ok x) name after e goes =
@@ -223,7 +223,7 @@ behind_label message place name first known piece is =
     let e : with_labels (first ∷ []) o ≡ Ok (name, known.0) = sym (one_piece (256 * place + 256) message place 0 place (reading.label first) (omega arith) piece) ∙ known.1 in
     taken_label message next first o name known.0 e (looser message place used next o goes next 0 (omega arith) (omega arith))
 
-taken_pointer : (message : List ℕ) (target end : ℕ) (o : Outcome) (name : List (List ℕ)) (after : ℕ) → with_after end o ≡ Ok (name, after) → name_at message target ≡ o → IsNameAt message target name
+taken_pointer : (message : List ℕ) (target end : ℕ) (o : NameOutcome) (name : List (List ℕ)) (after : ℕ) → with_after end o ≡ Ok (name, after) → name_at message target ≡ o → IsNameAt message target name
 taken_pointer message target end (Ok x) name after e is =
     let same : (x.0, end) ≡ (name, after) = same_outcome (Ok (x.0, end)) (x.0, end) (name, after) refl e in
     (x.1, is ∙ ap (λ (n : List (List ℕ)). Ok (n, x.1)) (ap (λ (y : List (List ℕ) × ℕ). y.0) same))

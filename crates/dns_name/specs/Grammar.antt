@@ -4,7 +4,7 @@ use Rattle.dns_name.specs.declared.fault.NameFault.{NameFault}
 use Rattle.dns_name.specs.declared.fault.NameFault.TheVariants.{Short, LabelType, Pointer, TooLong}
 use Rattle.dns_name.specs.declared.limits.TheConstants.{NAME_LIMIT, LABEL_LIMIT}
 use Rattle.dns_name.specs.Labels.{IsLabel, label_octets}
-use Rattle.dns_name.specs.Reading.{Outcome, with_labels, with_after}
+use Rattle.dns_name.specs.Reading.{NameOutcome, with_labels, with_after}
 
 -- the bytes begin with these octets
 abbrev pub Begins : List ℕ → List ℕ → Type 0
@@ -38,17 +38,17 @@ Shows run used bytes fault = ⊥
 
 -- What stands at a place of a message, in a name of which `used` bytes are read, and whose labels stand one
 -- after another from the place `run` on.
-pub data GoesOn (message : List ℕ) : ℕ → ℕ → ℕ → Outcome → Type 0 where
+pub data GoesOn (message : List ℕ) : ℕ → ℕ → ℕ → NameOutcome → Type 0 where
   -- a zero ends the name
   ends : (run used place : ℕ) → Begins (drop place message) (0 ∷ []) →
       GoesOn message run used place (Ok ([], place + 1))
   -- a label, and what follows it
-  label : (run used place : ℕ) (first : List ℕ) (others : Outcome) → HasRoom used first →
+  label : (run used place : ℕ) (first : List ℕ) (others : NameOutcome) → HasRoom used first →
       Begins (drop place message) (label_octets first) →
       GoesOn message run (used + length first + 1) (place + length first + 1) others →
       GoesOn message run used place (with_labels (first ∷ []) others)
   -- a pointer to an earlier place, and what stands there; the name's end is behind the pointer
-  pointer : (run used place high low : ℕ) (others : Outcome) → 192 ≤ high →
+  pointer : (run used place high low : ℕ) (others : NameOutcome) → 192 ≤ high →
       target_of high low < run → Begins (drop place message) (high ∷ low ∷ []) →
       GoesOn message (target_of high low) used (target_of high low) others →
       GoesOn message run used place (with_after (place + 2) others)
@@ -57,5 +57,5 @@ pub data GoesOn (message : List ℕ) : ℕ → ℕ → ℕ → Outcome → Type 
       GoesOn message run used place (Err fault)
 
 -- the name at a place of a message and the place after it, or the fault
-abbrev pub NameAt : List ℕ → ℕ → Outcome → Type 0
+abbrev pub NameAt : List ℕ → ℕ → NameOutcome → Type 0
 NameAt message at outcome = GoesOn message at 0 at outcome

@@ -1,5 +1,6 @@
 -- Which name stands at a place of a message, or which fault does (RFC 1035, sections 3.1 and 4.1.4).
 use Rattle.std.specs.Prelude.{◌≡◌, ℕ, zero, suc, nat_lt, ◌==◌, if◌then◌else◌, ◌+◌, ◌-◌, ◌*◌, List, [], ◌∷◌, ◌++◌, length, take, drop, Result, Ok, Err}
+use Rattle.dns_name.specs.Labels.{Name}
 use Rattle.dns_name.specs.declared.fault.NameFault.{NameFault}
 use Rattle.dns_name.specs.declared.fault.NameFault.TheVariants.{Short, LabelType, Pointer, TooLong}
 use Rattle.dns_name.specs.declared.limits.TheConstants.{NAME_LIMIT}
@@ -37,35 +38,35 @@ abbrev pub ◌>>=◌ : {E A B : Type 0} → Result A E → (A → Result B E) �
 (Err e) >>= f = Err e
 
 -- a name and the place after it, or a fault
-abbrev pub Outcome : Type 0
-Outcome = Result (List (List ℕ) × ℕ) NameFault
+abbrev pub NameOutcome : Type 0
+NameOutcome = Result (Name × ℕ) NameFault
 
 -- labels before what is read
-abbrev pub with_labels : List (List ℕ) → Outcome → Outcome
+abbrev pub with_labels : Name → NameOutcome → NameOutcome
 with_labels front (Ok (labels, after)) = Ok (front ++ labels, after)
 with_labels front (Err fault) = Err fault
 
 -- the place after what is read
-abbrev pub with_after : ℕ → Outcome → Outcome
+abbrev pub with_after : ℕ → NameOutcome → NameOutcome
 with_after after (Ok (labels, _)) = Ok (labels, after)
 with_after after (Err fault) = Err fault
 
 -- what follows a piece
-abbrev pub follow : (ℕ → ℕ → ℕ → Outcome) → ℕ → ℕ → ℕ → Piece → Outcome
+abbrev pub follow : (ℕ → ℕ → ℕ → NameOutcome) → ℕ → ℕ → ℕ → Piece → NameOutcome
 follow go run used place end = Ok ([], place + 1)
 follow go run used place (label first) =
     with_labels (first ∷ []) (go run (used + length first + 1) (place + length first + 1))
 follow go run used place (pointer target) = with_after (place + 2) (go target used target)
 
 -- the name from a place on, in at most so many pieces
-unfoldable pub name_from : ℕ → List ℕ → ℕ → ℕ → ℕ → Outcome
+unfoldable pub name_from : ℕ → List ℕ → ℕ → ℕ → ℕ → NameOutcome
 name_from zero message run used place = Err Short
 name_from (suc pieces) message run used place =
     piece_at run used (drop place message) >>= follow (name_from pieces message) run used place
 
 -- The name at a place of a message and the place after it, or the fault. Each pointer leads before the place
 -- of the one before it, and a name has at most 127 labels, so the number of pieces never ends the reading.
-unfoldable pub name_at : List ℕ → ℕ → Outcome
+unfoldable pub name_at : List ℕ → ℕ → NameOutcome
 name_at message at = name_from (256 * at + 256) message at 0 at
 
 -- What a function returned, seen by view, is what reading gives, unless memory ran out.

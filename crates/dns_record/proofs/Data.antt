@@ -4,7 +4,7 @@ use Rattle.std.specs.Prelude.{MatchOption, ⊤}
 use Rattle.std.proofs.lemmas.Bool.{cond_both, ltb-false}
 use Rattle.std.proofs.lemmas.List.{length-take, length-drop}
 use Rattle.dns_name.specs.Labels.{name_octets}
-use Rattle.dns_name.specs.Reading.{◌>>=◌, Outcome, name_at}
+use Rattle.dns_name.specs.Reading.{◌>>=◌, NameOutcome, name_at}
 use Rattle.dns_name.proofs.Standing.{name_is}
 use Rattle.dns_record.specs.declared.fault.RecordFault.{RecordFault}
 use Rattle.dns_record.specs.declared.fault.RecordFault.TheVariants.{Data}
@@ -69,7 +69,7 @@ is_any_data rtype class rdata e short = record { parts = subst (λ (o : Option (
 part_has : (part : Part) (message : List ℕ) (place : ℕ) (parts : List Part) (x : List ℕ × ℕ) (rest : List ℕ) → part_at part message place ≡ Ok x → HasParts parts rest → HasParts (part ∷ parts) (x.0 ++ rest)
 part_has Name message place parts x rest e h = name_has (name_at message place) refl e
   where
-    name_has : (read : Outcome) → name_at message place ≡ read → as_data read >>= (λ name. Ok (name_octets name.0, name.1)) ≡ Ok x → HasParts (Name ∷ parts) (x.0 ++ rest)
+    name_has : (read : NameOutcome) → name_at message place ≡ read → as_data read >>= (λ name. Ok (name_octets name.0, name.1)) ≡ Ok x → HasParts (Name ∷ parts) (x.0 ++ rest)
     name_has (Ok (name, after)) r e =
         let same : (name_octets name, after) ≡ x = same_octets (Ok (name_octets name, after)) (name_octets name, after) x refl e in
         (name, rest, name_is name message place after r, ap (λ (y : List ℕ × ℕ). y.0 ++ rest) (sym same), h)

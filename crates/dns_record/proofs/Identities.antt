@@ -2,14 +2,14 @@
 use Rattle.std.proofs.Common.{◌≡◌, ℕ, ◌<◌, ◌^◌, ◌↔◌, List, ◌++◌, length, take, drop, Ok, refl, sym, ap, ◌∙◌, append_assoc, arith}
 use Rattle.std.proofs.lemmas.List.{take_at, drop_at}
 use Rattle.dns_name.specs.Labels.{IsName, name_octets}
-use Rattle.dns_name.specs.Reading.{Outcome, name_at}
+use Rattle.dns_name.specs.Reading.{NameOutcome, name_at}
 use Rattle.dns_name.specs.Standing.{Stands}
 use Rattle.dns_record.specs.Number.{number_at, number_octets}
 use Rattle.dns_record.proofs.Numbers.{length-number_octets, number_read}
 use Rattle.dns_record.specs.Row.{PlainRow, IsRow, AreAlike, identity}
 use Rattle.dns_record.proofs.LowerCase.{name_first, name_rest}
 
-same_name : (read : Outcome) (x y : List (List ℕ) × ℕ) → read ≡ Ok x → read ≡ Ok y → x ≡ y
+same_name : (read : NameOutcome) (x y : List (List ℕ) × ℕ) → read ≡ Ok x → read ≡ Ok y → x ≡ y
 same_name read x y e f = cc
 
 -- the name in front is told by the octets

@@ -4,7 +4,7 @@ use Rattle.std.proofs.lemmas.Bool.{cond_both, ltb-false}
 use Rattle.std.proofs.lemmas.List.{length-take, length-drop}
 use Rattle.dns_name.specs.Grammar.{NameAt}
 use Rattle.dns_name.specs.Labels.{name_octets}
-use Rattle.dns_name.specs.Reading.{Outcome, name_at}
+use Rattle.dns_name.specs.Reading.{NameOutcome, name_at}
 use Rattle.dns_name.specs.Standing.{Stands}
 use Rattle.dns_name.proofs.GrammarLemmas.{name_stands, name_only}
 use Rattle.dns_record.specs.declared.fault.RecordFault.{RecordFault}
@@ -24,7 +24,7 @@ spelling name = (name_octets name.0, name.1)
 abbrev read_spelled : List (List ℕ) × ℕ → Result (List ℕ × ℕ) RecordFault
 read_spelled name = Ok (spelling name)
 
-data_read : (read : Outcome) (x : List (List ℕ) × ℕ) → as_data read ≡ Ok x → read ≡ Ok x
+data_read : (read : NameOutcome) (x : List (List ℕ) × ℕ) → as_data read ≡ Ok x → read ≡ Ok x
 data_read (Ok y) x e = ap (λ (z : List (List ℕ) × ℕ). Ok z) (ok_is {E = RecordFault} y x e)
 data_read (Err fault) x e = absurd cc
 
@@ -34,7 +34,7 @@ part_stands Name parts message place first rest e =
     let p = bind_ok (as_data (name_at message place)) read_spelled first e in
     let name = p.0 in
     let same : spelling name ≡ first = ok_is {E = RecordFault} (spelling name) first p.2 in
-    let stands : NameAt message place (Ok name) = subst (λ (o : Outcome). NameAt message place o) (data_read (name_at message place) name p.1) (name_stands message place) in
+    let stands : NameAt message place (Ok name) = subst (λ (o : NameOutcome). NameAt message place o) (data_read (name_at message place) name p.1) (name_stands message place) in
     subst (λ (x : List ℕ × ℕ). PartsAt parts message x.1 rest.0 rest.1 → PartsAt (Name ∷ parts) message place (x.0 ++ rest.0) rest.1) same (λ h. (name.0, name.1, rest.0, stands, refl, h))
 part_stands (Fixed count) parts message place first rest e = fixed e
   where

@@ -28,7 +28,7 @@ abbrev IsData : {A : Type 0} → Result A RecordFault → Type 0
 IsData (Ok x) = Unit {0}
 IsData (Err fault) = fault ≡ Data
 
-name_data : (read : reading.Outcome) → IsData (as_data read)
+name_data : (read : reading.NameOutcome) → IsData (as_data read)
 name_data (Ok x) = tt
 name_data (Err fault) = refl
 
@@ -67,7 +67,7 @@ err_data {A = A} (Err f) fault h e = sym (err_is {A = A} f fault e) ∙ h
 
 -- from what is told to the rules
 
-owner_fault : (read : reading.Outcome) (fault : RecordFault) → as_owner read ≡ Err fault → (name : NameFault) × (read ≡ Err name) × (InName name ≡ fault)
+owner_fault : (read : reading.NameOutcome) (fault : RecordFault) → as_owner read ≡ Err fault → (name : NameFault) × (read ≡ Err name) × (InName name ≡ fault)
 owner_fault (Ok x) fault e = absurd cc
 owner_fault (Err name) fault e = (name, refl, err_is {A = List (List ℕ) × ℕ} (InName name) fault e)
 
@@ -84,7 +84,7 @@ fields_at : (message : List ℕ) (at : ℕ) (owner : List (List ℕ) × ℕ) →
     → FieldsAt message at owner.1 (number_at 2 message owner.1) (number_at 2 message (owner.1 + 2)) (number_at 2 message (owner.1 + 8))
 fields_at message at owner octets named inside = record {
   owner = owner.0;
-  named = subst (λ (o : reading.Outcome). NameAt message at o) named (name_stands message at);
+  named = subst (λ (o : reading.NameOutcome). NameAt message at o) named (name_stands message at);
   type_stands = number_at_place message owner.1 (owner.1 + 2) octets refl (omega arith);
   class_stands = number_at_place message (owner.1 + 2) (owner.1 + 4) octets (omega arith) (omega arith);
   size_stands = number_at_place message (owner.1 + 8) (owner.1 + 10) octets (omega arith) (omega arith);
@@ -146,7 +146,7 @@ behind_owner message at owner fault octets named e =
     elim (bind_err (end_at message owner.1 10) (at_fixed message owner) fault e) [
       | inl f ↦
           let cut = end_fault message owner.1 10 fault f in
-          let stands : NameAt message at (Ok owner) = subst (λ (o : reading.Outcome). NameAt message at o) named (name_stands message at) in
+          let stands : NameAt message at (Ok owner) = subst (λ (o : reading.NameOutcome). NameAt message at o) named (name_stands message at) in
           let shows : RecordShows message at Short = inl (record { owner = owner.0; place = owner.1; named = stands; cut = cut.0 }) in
           subst (RecordShows message at) cut.1 shows
       | inr p ↦
@@ -161,7 +161,7 @@ record_shows message at fault octets e =
     elim (bind_err (as_owner (name_at message at)) (at_owner message) fault e) [
       | inl f ↦
           let name = owner_fault (name_at message at) fault f in
-          let shows : RecordShows message at (InName name.0) = subst (λ (o : reading.Outcome). NameAt message at o) name.1 (name_stands message at) in
+          let shows : RecordShows message at (InName name.0) = subst (λ (o : reading.NameOutcome). NameAt message at o) name.1 (name_stands message at) in
           subst (RecordShows message at) name.2 shows
       | inr p ↦ behind_owner message at p.0 fault octets (owner_read (name_at message at) p.0 p.1) p.2
     ]

@@ -1,7 +1,7 @@
 -- Records are read exactly where they stand by the rules of the grammar.
 use Rattle.std.proofs.Common.{◌≡◌, ℕ, ◌+◌, ◌<◌, ◌^◌, List, Ok, sym, subst, arith}
 use Rattle.dns_name.specs.Grammar.{NameAt}
-use Rattle.dns_name.specs.Reading.{Outcome}
+use Rattle.dns_name.specs.Reading.{NameOutcome}
 use Rattle.dns_name.proofs.GrammarLemmas.{name_stands, name_only}
 use Rattle.dns_record.specs.Grammar.{RecordAt}
 use Rattle.dns_record.specs.Number.{number_at, AreOctets}
@@ -21,7 +21,7 @@ record_stands r message at after octets e =
     record {
       owner_end = place;
       size = size;
-      owner = subst (λ (o : Outcome). NameAt message at o) h.owner (name_stands message at);
+      owner = subst (λ (o : NameOutcome). NameAt message at o) h.owner (name_stands message at);
       fields = fields_together r size message place (fields_stand r message at after octets h);
       type_fits = subst (λ (n : ℕ). n < 2 ^ 16) h.rtype (number_fits 2 message place octets);
       class_fits = subst (λ (n : ℕ). n < 2 ^ 16) h.class (number_fits 2 message (place + 2) octets);

@@ -30,7 +30,7 @@ at_fixed message owner fixed = end_at message fixed (number_at 2 message (owner.
 abbrev pub at_owner : List ℕ → List (List ℕ) × ℕ → Outcome
 at_owner message owner = end_at message owner.1 10 >>= at_fixed message owner
 
-pub owner_read : (read : reading.Outcome) (x : List (List ℕ) × ℕ) → as_owner read ≡ Ok x → read ≡ Ok x
+pub owner_read : (read : reading.NameOutcome) (x : List (List ℕ) × ℕ) → as_owner read ≡ Ok x → read ≡ Ok x
 owner_read (Ok y) x e = ap (λ (z : List (List ℕ) × ℕ). Ok z) (ok_is {E = RecordFault} y x e)
 owner_read (Err fault) x e = absurd cc
 

@@ -3,7 +3,7 @@ use Rattle.std.proofs.Common.{◌≡◌, ℕ, ◌+◌, ◌≤◌, List, [], ◌�
 use Rattle.std.specs.Prelude.{IsOk}
 use Rattle.std.proofs.lemmas.List.{append-nil, take_at, drop_at, take_all}
 use Rattle.dns_name.specs.Labels.{IsName, name_octets}
-use Rattle.dns_name.specs.Reading.{Outcome, name_at}
+use Rattle.dns_name.specs.Reading.{NameOutcome, name_at}
 use Rattle.dns_name.specs.Standing.{Stands}
 use Rattle.dns_name.proofs.Standing.{name_written, stands_both}
 use Rattle.dns_record.specs.declared.part.Part.TheVariants.{Name, Fixed}
@@ -72,7 +72,7 @@ holds_soa rdata h =
       long = omega (arith, numbers.2, ap length h.3, ap length second.3, ap length numbers.3, ap length numbers.4, length-append m h.1, length-append r second.1, length-append numbers.0 numbers.1);
     }
 
-same_name : (read : Outcome) (x y : List (List ℕ) × ℕ) → read ≡ Ok x → read ≡ Ok y → x ≡ y
+same_name : (read : NameOutcome) (x y : List (List ℕ) × ℕ) → read ≡ Ok x → read ≡ Ok y → x ≡ y
 same_name read x y e f = cc
 
 -- two names that were read in the data of a SOA stand there in full, and its numbers behind them

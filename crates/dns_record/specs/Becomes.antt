@@ -8,10 +8,11 @@ use Rattle.dns_record.specs.declared.fault.RecordFault.TheVariants.{Name, Data}
 use Rattle.dns_record.specs.declared.fault.RecordError.{RecordError}
 use Rattle.dns_record.specs.declared.fault.RecordError.TheVariants as errors
 
--- the error of the owner
-abbrev pub Becomes : NameError → RecordError → Type 0
-Becomes of_name.OutOfMemory e = e ≡ errors.OutOfMemory
-Becomes (of_name.Fault fault) e = e ≡ errors.Fault (Name fault)
+-- The `?` of code that reads a record: an owner that can't be read is the record's fault `Name`, with the name's own fault in it. Out
+-- of memory stays out of memory.
+abbrev pub BecomesRecordError : NameError → RecordError → Type 0
+BecomesRecordError of_name.OutOfMemory e = e ≡ errors.OutOfMemory
+BecomesRecordError (of_name.Fault fault) e = e ≡ errors.Fault (Name fault)
 
 -- what is read as the owner
 abbrev pub as_owner : {A : Type 0} → Result A NameFault → Result A RecordFault

@@ -1,10 +1,10 @@
 -- Records in messages, by rules (RFC 1035, section 3.2.1): what a record is, apart from how it is read.
 use Rattle.std.specs.Prelude.{◌≡◌, ℕ, ◌+◌, ◌<◌, ◌≤◌, ◌^◌, List, [], ◌∷◌, ◌++◌, length, MatchOption, Ok}
 use Rattle.dns_name.specs.Grammar.{NameAt}
-use Rattle.dns_name.specs.Labels.{name_octets}
+use Rattle.dns_name.specs.Labels.{name_octets, Name}
 use Rattle.dns_name.specs.Standing.{Stands}
 use Rattle.dns_record.specs.declared.part.Part.{Part}
-use Rattle.dns_record.specs.declared.part.Part.TheVariants.{Name, Fixed}
+use Rattle.dns_record.specs.declared.part.Part.TheVariants.{Name as NamePart, Fixed}
 use Rattle.dns_record.specs.Number.{number_octets}
 use Rattle.dns_record.specs.Part.{layout_of}
 use Rattle.dns_record.specs.Record.{PlainRecord}
@@ -13,8 +13,8 @@ use Rattle.dns_record.specs.Record.{PlainRecord}
 -- may be compressed where it stands (RFC 1035, section 4.1.4).
 abbrev pub PartsAt : List Part → List ℕ → ℕ → List ℕ → ℕ → Type 0
 PartsAt [] message place octets after = (octets ≡ []) × (after ≡ place)
-PartsAt (Name ∷ parts) message place octets after =
-    (name : List (List ℕ)) × (middle : ℕ) × (rest : List ℕ)
+PartsAt (NamePart ∷ parts) message place octets after =
+    (name : Name) × (middle : ℕ) × (rest : List ℕ)
     × NameAt message place (Ok (name, middle)) × (octets ≡ name_octets name ++ rest)
     × PartsAt parts message middle rest after
 PartsAt (Fixed count ∷ parts) message place octets after =

@@ -1,11 +1,11 @@
 -- A resource record (RFC 1035, section 3.2.1).
 use Rattle.std.specs.Prelude.{ℕ, ◌<◌, ◌^◌, List, ◌++◌, length, MatchOption, ⊤}
-use Rattle.dns_name.specs.Labels.{IsName, name_octets}
+use Rattle.dns_name.specs.Labels.{IsName, name_octets, Name}
 use Rattle.dns_record.specs.Number.{number_octets}
 use Rattle.dns_record.specs.Part.{layout_of, HasParts}
 
 pub record PlainRecord : Type 0 where
-  pub owner : List (List ℕ)
+  pub owner : Name
   pub rtype : ℕ
   pub class : ℕ
   pub ttl : ℕ

@@ -1,28 +1,29 @@
 -- A row of a zone: a record of class IN with its owner and the names of its data in lower case. Names compare without case
 -- (RFC 1035, section 2.3.3), so that rows that say the same are alike.
 use Rattle.std.specs.Prelude.{◌≡◌, ℕ, ◌<◌, ◌^◌, List, [], ◌∷◌, ◌++◌, length, take, drop, Option, Some, None, Ok, Err}
-use Rattle.dns_name.specs.Labels.{IsName, name_octets, lowered}
-use Rattle.dns_name.specs.Reading.{Outcome, name_at}
+use Rattle.dns_name.specs.Labels.{IsName, name_octets, lowered, Name}
+use Rattle.dns_name.specs.Reading.{NameOutcome, name_at}
 use Rattle.dns_record.specs.declared.part.Part.{Part}
-use Rattle.dns_record.specs.declared.part.Part.TheVariants.{Name, Fixed}
+use Rattle.dns_record.specs.declared.part.Part.TheVariants.{Name as NamePart, Fixed}
 use Rattle.dns_record.specs.Number.{number_octets}
 use Rattle.dns_record.specs.Part.{layout_of}
 use Rattle.dns_record.specs.Record.{PlainRecord, IsData}
+use Rattle.dns_record.specs.declared.class.TheConstants.{IN}
 
 pub record PlainRow : Type 0 where
-  pub owner : List (List ℕ)
+  pub owner : Name
   pub rtype : ℕ
   pub ttl : ℕ
   pub rdata : List ℕ
 
 -- a name as it is written, in lower case, and how many octets it takes
-abbrev pub lower_case_name : Outcome → List ℕ × ℕ
+abbrev pub lower_case_name : NameOutcome → List ℕ × ℕ
 lower_case_name (Ok (name, after)) = (name_octets (lowered name), after)
 lower_case_name (Err fault) = ([], 0)
 
 -- the part that the octets begin with, a name in lower case, and how many octets it takes
 abbrev pub lower_case_part : Part → List ℕ → List ℕ × ℕ
-lower_case_part Name octets = lower_case_name (name_at octets 0)
+lower_case_part NamePart octets = lower_case_name (name_at octets 0)
 lower_case_part (Fixed count) octets = (take count octets, count)
 
 -- the parts with their names in lower case
@@ -39,13 +40,13 @@ lowered_layout (Some parts) rdata = lowered_parts parts rdata
 
 -- the data of a record of the type, in class IN, with its names in lower case
 unfoldable pub lowered_data : ℕ → List ℕ → List ℕ
-lowered_data rtype rdata = lowered_layout (layout_of rtype 1) rdata
+lowered_data rtype rdata = lowered_layout (layout_of rtype IN) rdata
 
 -- The second octets are the first with their names in lower case: the same parts, of which each fixed one is as it was.
 abbrev pub AreLowered : List Part → List ℕ → List ℕ → Type 0
 AreLowered [] octets low = (octets ≡ []) × (low ≡ [])
-AreLowered (Name ∷ parts) octets low =
-    (name : List (List ℕ)) × (rest : List ℕ) × (low_rest : List ℕ) × IsName name
+AreLowered (NamePart ∷ parts) octets low =
+    (name : Name) × (rest : List ℕ) × (low_rest : List ℕ) × IsName name
     × (octets ≡ name_octets name ++ rest) × (low ≡ name_octets (lowered name) ++ low_rest)
     × AreLowered parts rest low_rest
 AreLowered (Fixed count ∷ parts) octets low =
@@ -59,7 +60,7 @@ IsLoweredBy (Some parts) rdata low = AreLowered parts rdata low
 
 -- the second data are those of a record of the type, in class IN, with their names in lower case
 abbrev pub IsLoweredData : ℕ → List ℕ → List ℕ → Type 0
-IsLoweredData rtype rdata low = IsLoweredBy (layout_of rtype 1) rdata low
+IsLoweredData rtype rdata low = IsLoweredBy (layout_of rtype IN) rdata low
 
 -- the record as a row
 abbrev pub row_of : PlainRecord → PlainRow
@@ -75,7 +76,7 @@ pub record IsRow (row : PlainRow) : Type 0 where
   pub is_owner : IsName row.owner
   pub type_fits : row.rtype < 2 ^ 16
   pub ttl_fits : row.ttl < 2 ^ 32
-  pub is_data : IsData row.rtype 1 row.rdata
+  pub is_data : IsData row.rtype IN row.rdata
   pub owner_is_lower_case : lowered row.owner ≡ row.owner
   pub data_is_lower_case : lowered_data row.rtype row.rdata ≡ row.rdata
 

@@ -1,11 +1,13 @@
 -- The start of a zone of authority (RFC 1035, section 3.3.13).
 use Rattle.std.specs.Prelude.{◌≡◌, ℕ, ◌+◌, List, ◌++◌, Result, Ok}
-use Rattle.dns_name.specs.Labels.{name_octets}
+use Rattle.dns_name.specs.Labels.{name_octets, Name}
 use Rattle.dns_name.specs.Reading.{◌>>=◌, name_at}
 use Rattle.dns_name.specs.declared.fault.NameFault.{NameFault}
 use Rattle.dns_record.specs.declared.soa.Soa.{Soa}
 use Rattle.dns_record.specs.Number.{number_at, number_octets}
 use Rattle.dns_record.specs.Record.{PlainRecord}
+use Rattle.dns_record.specs.declared.rtype.TheConstants.{SOA}
+use Rattle.dns_record.specs.declared.class.TheConstants.{IN}
 
 -- the data of a SOA record
 unfoldable pub soa_octets : Soa → List ℕ
@@ -15,9 +17,9 @@ soa_octets soa =
     ++ number_octets 4 soa.expire ++ number_octets 4 soa.minimum
 
 -- the SOA record of this owner
-abbrev pub soa_record : List (List ℕ) → Soa → PlainRecord
+abbrev pub soa_record : Name → Soa → PlainRecord
 soa_record owner soa =
-    record { owner = owner; rtype = 6; class = 1; ttl = soa.ttl; rdata = soa_octets soa }
+    record { owner = owner; rtype = SOA; class = IN; ttl = soa.ttl; rdata = soa_octets soa }
 
 -- the SOA that the data holds: two names, and numbers behind them
 unfoldable pub soa_in : ℕ → List ℕ → Result Soa NameFault
@@ -37,4 +39,4 @@ soa_in ttl rdata = do
 
 -- the record is a SOA record, and this is its SOA
 abbrev pub IsSoaOf : PlainRecord → Soa → Type 0
-IsSoaOf r soa = (r.rtype ≡ 6) × (soa_in r.ttl r.rdata ≡ Ok soa) × (soa_octets soa ≡ r.rdata)
+IsSoaOf r soa = (r.rtype ≡ SOA) × (soa_in r.ttl r.rdata ≡ Ok soa) × (soa_octets soa ≡ r.rdata)

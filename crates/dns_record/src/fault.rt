@@ -2,7 +2,7 @@
 
 ghost use Rattle.std.specs.Prelude.{◌≡◌};
 ghost use Rattle.dns_record.specs.declared.fault.RecordError.TheVariants.{OutOfMemory, Fault as AFault};
-ghost use Rattle.dns_record.specs.Becomes.{Becomes};
+ghost use Rattle.dns_record.specs.Becomes.{BecomesRecordError};
 
 use dns_name::{NameError, NameFault};
 use std::alloc::{AllocError, AllocFailed};
@@ -52,7 +52,7 @@ impl From<RecordFault> for RecordError {
 
 /// An error of a name is the error of the owner.
 impl From<NameError> for RecordError {
-    ghost from_gives = { Becomes };
+    ghost from_gives = { BecomesRecordError };
 
     fn from(error: NameError) -> RecordError {
         match error {

@@ -10,8 +10,8 @@ use Rattle.axfr_apply.specs.declared.fault.TransferError.TheVariants as errors
 use Rattle.axfr_apply.specs.declared.fault.TransferFault.{TransferFault}
 use Rattle.axfr_apply.specs.declared.taken.Taken.TheVariants as taken
 use Rattle.axfr_apply.specs.Block.{blocks, transfer_of}
-use Rattle.axfr_apply.specs.Item.{Item, items, items_of, records}
-use Rattle.axfr_apply.specs.Reading.{Outcome, first_end, outcome_of}
+use Rattle.axfr_apply.specs.Item.{TransferItem, items, items_of, records}
+use Rattle.axfr_apply.specs.Reading.{TransferOutcome, first_end, outcome_of}
 use Rattle.ixfr_apply.specs.declared.progress.Progress.{Progress}
 use Rattle.ixfr_apply.specs.declared.reader.Fed.{Fed}
 use Rattle.ixfr_apply.specs.declared.reader.Fed.TheVariants as fed
@@ -22,7 +22,7 @@ use Rattle.ixfr_apply.proofs.Ends.{first_end-behind}
 use Rattle.ixfr_apply.proofs.Standing.{Agrees, GoesByRecords, message_agrees}
 
 -- how a message ends a transfer, by what it does to the reader
-abbrev pub outcome_by : Result FeedOutcome TransferFault → Option Outcome
+abbrev pub outcome_by : Result FeedOutcome TransferFault → Option TransferOutcome
 outcome_by (Ok (more p)) = None
 outcome_by (Ok (current_at theirs)) = Some (Ok (taken.Current theirs))
 outcome_by (Ok (done transfer)) = Some (Ok (taken.New transfer))
@@ -30,7 +30,7 @@ outcome_by (Err fault) = Some (Err fault)
 
 items-more : (messages : List (List ℕ)) (octets : List ℕ) → items (messages ++ octets ∷ []) ≡ items messages ++ items_of octets
 unfolding items
-items-more messages octets = flat_map-append items_of messages (octets ∷ []) ∙ ap (λ (l : List Item). flat_map items_of messages ++ l) (append-nil (items_of octets))
+items-more messages octets = flat_map-append items_of messages (octets ∷ []) ∙ ap (λ (l : List TransferItem). flat_map items_of messages ++ l) (append-nil (items_of octets))
 
 same_more : (p q : Progress) → more p ≡ more q → p ≡ q
 same_more p q e = cc

@@ -17,7 +17,7 @@ use Rattle.axfr_apply.specs.declared.fault.TransferError.{TransferError}
 use Rattle.axfr_apply.specs.declared.fault.TransferError.TheVariants as errors
 use Rattle.axfr_apply.specs.declared.fault.TransferFault.{TransferFault}
 use Rattle.axfr_apply.specs.declared.fault.TransferFault.TheVariants.{WrongId, NotResponse, Truncated, Rcode, WrongQuestion, NoLeadingSoa, WrongClass, OutOfZone, WrongSoaOwner, SoaDiffers, Gap, SerialNotNewer, TrailingRecord, TooManyRecords}
-use Rattle.axfr_apply.specs.Block.{Block, is_empty, is_incremental, is_soa, soa_held, transfer_of}
+use Rattle.axfr_apply.specs.Block.{Block, is_empty, is_incremental, holds_soa, soa_held, transfer_of}
 use Rattle.axfr_apply.specs.Checks.{checked_head, checked_message, unless}
 use Rattle.axfr_apply.specs.Reading.{End, answer_end, soa_block, begin_fault, behind_step_fault, close_fault, first_soa_end, first_step_fault, forward_fault, head_fault, later_soa_fault, open_end, place_fault, place_or, question_fits, soa_end, step_soa_fault}
 use Rattle.ixfr_apply.specs.declared.progress.Progress.{Progress}
@@ -133,9 +133,9 @@ own_open wanted alone bs (Some soa) fault p = own_placed fault (soa_end wanted a
 
 own_record : (asked : TransferRequest) (alone : Bool) (bs : List Block) (r : PlainRecord) → EndsOwn (answer_end asked alone bs r)
 own_record asked alone bs r =
-    let fault : Option TransferFault = place_fault asked.origin (is_soa r) r in
+    let fault : Option TransferFault = place_fault asked.origin (holds_soa r) r in
     ends_if (is_some (transfer_of bs)) (Some (Err TrailingRecord)) (open_end asked.wanted alone bs (soa_held r) fault) tt
-    (own_open asked.wanted alone bs (soa_held r) fault (own_place asked.origin (is_soa r) r))
+    (own_open asked.wanted alone bs (soa_held r) fault (own_place asked.origin (holds_soa r) r))
 
 own_stepped : (p : Progress) (r : PlainRecord) (end : Option End) → EndsOwn end → FailsOwn (next_of p r end)
 own_stepped p r None h = tt

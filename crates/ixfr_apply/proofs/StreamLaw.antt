@@ -11,7 +11,7 @@ use Rattle.edge_io.specs.Frame.{cut, whole, frame_octets}
 use Rattle.axfr_apply.specs.declared.transfer_request.TransferRequest.{TransferRequest}
 use Rattle.axfr_apply.specs.declared.fault.TransferFault.TheVariants.{Cut, EndedEarly}
 use Rattle.axfr_apply.specs.Item.{items, records}
-use Rattle.axfr_apply.specs.Reading.{Outcome, first_end, outcome_of}
+use Rattle.axfr_apply.specs.Reading.{TransferOutcome, first_end, outcome_of}
 use Rattle.ixfr_apply.specs.Laws.{frames_of, FitFrames, NoneEnds, StreamReads, ends, is_cut, ends_early}
 use Rattle.ixfr_apply.specs.Stream.{Read, read_end, read_of_frame, read_from, reading}
 use Rattle.ixfr_apply.proofs.Streams.{Comes, Framed, none_comes, frame_comes, framed_comes, framed_ends, cut_ends, none_ends}
@@ -41,7 +41,7 @@ frames_of-more before message rest =
     ∙ append_assoc (frames_of before) (frame_octets message) rest
 
 -- a message behind others that don't end the transfer, where the reading that goes on behind it is known
-reads_by_end : (asked : TransferRequest) (go : List (List ℕ) → List ℕ → Read) (before : List (List ℕ)) (message rest : List ℕ) (end : Option Outcome)
+reads_by_end : (asked : TransferRequest) (go : List (List ℕ) → List ℕ → Read) (before : List (List ℕ)) (message rest : List ℕ) (end : Option TransferOutcome)
     → (FitFrames (before ++ message ∷ []) → NoneEnds asked (before ++ message ∷ []) → StreamReads asked (frames_of (before ++ message ∷ []) ++ rest) (go (before ++ message ∷ []) rest))
     → FitFrames (before ++ message ∷ []) → NoneEnds asked before → outcome_of asked (before ++ message ∷ []) ≡ end
     → StreamReads asked (frames_of (before ++ message ∷ []) ++ rest) (read_end go (before ++ message ∷ []) rest end)
@@ -114,10 +114,10 @@ comes_all asked bytes before (message ∷ messages) rest fit still comes =
     subst (λ (l : List (List ℕ)). Comes asked l bytes (Some rest)) joined
     (comes_all asked bytes (before ++ message ∷ []) messages rest (All-tail fits message messages fit) there (framed_comes asked (before ++ message ∷ []) bytes (Some (frames_of messages ++ rest)) framed none))
 
-read_is : (read : Read) (outcome : Outcome) (left : List ℕ) → (read.0 ≡ outcome) × (Some left ≡ Some read.1) → read ≡ (outcome, left)
+read_is : (read : Read) (outcome : TransferOutcome) (left : List ℕ) → (read.0 ≡ outcome) × (Some left ≡ Some read.1) → read ≡ (outcome, left)
 read_is read outcome left both =
     let rest : read.1 ≡ left = cc in
-    ap₂ (λ (o : Outcome) (l : List ℕ). let r : Read = (o, l) in r) both.0 rest
+    ap₂ (λ (o : TransferOutcome) (l : List ℕ). let r : Read = (o, l) in r) both.0 rest
 
 pub reads_only : (asked : TransferRequest) (bytes : List ℕ) (read : Read) → StreamReads asked bytes read → reading asked bytes ≡ read
 reads_only asked _ _ (ends before message rest outcome fit still e) =

@@ -14,7 +14,7 @@ use Rattle.ixfr_apply.specs.declared.reader.Fed.TheVariants as fed
 use Rattle.axfr_apply.specs.declared.taken.Taken.TheVariants as taken
 use Rattle.zone_rows.specs.declared.transfer.Transfer.{Transfer}
 use Rattle.ixfr_apply.specs.Feeding.{Reader, Feeds, IsFinished, IsOfReader, Waits, WaitsBehind}
-use Rattle.axfr_apply.specs.Reading.{Outcome, outcome_of}
+use Rattle.axfr_apply.specs.Reading.{TransferOutcome, outcome_of}
 use Rattle.ixfr_apply.specs.Stream.{Read, read_end, read_of_frame, read_from, reading, BlamesSource, Reads, ReadsAs, TakesMessage}
 
 -- a stream of which these messages were read, and the rest is left
@@ -122,7 +122,7 @@ frame_comes asked messages message bytes now after comes takes =
     }
 
 -- the message ends the transfer
-pub framed_ends : (asked : TransferRequest) (messages : List (List ℕ)) (bytes : List ℕ) (after : Option (List ℕ)) (outcome : Outcome) → Framed asked messages bytes after → outcome_of asked messages ≡ Some outcome
+pub framed_ends : (asked : TransferRequest) (messages : List (List ℕ)) (bytes : List ℕ) (after : Option (List ℕ)) (outcome : TransferOutcome) → Framed asked messages bytes after → outcome_of asked messages ≡ Some outcome
     → ((reading asked bytes).0 ≡ outcome) × (after ≡ Some (reading asked bytes).1)
 framed_ends asked messages bytes after outcome framed e =
     let read : reading asked bytes ≡ (outcome, framed.rest) = framed.goes ∙ ap (read_end (read_from framed.frames asked) messages framed.rest) e in
@@ -171,7 +171,7 @@ frame_taken message now after takes = (frame_octets message, takes.taken)
 abbrev FedAll : TransferRequest → Reader → Reader → List ℕ → Result Fed TransferError → Type 0
 FedAll asked old new message result = (messages : List (List ℕ)) → Waits old messages → Feeds result new (messages ++ message ∷ []) (outcome_of old.asked (messages ++ message ∷ []))
 
-ends_so : (asked : TransferRequest) (old : Reader) (before now after : Option (List ℕ)) (message : List ℕ) (outcome : Outcome) → (come : HasCome asked old before now) → TakesFrame message now after
+ends_so : (asked : TransferRequest) (old : Reader) (before now after : Option (List ℕ)) (message : List ℕ) (outcome : TransferOutcome) → (come : HasCome asked old before now) → TakesFrame message now after
     → outcome_of old.asked (come.messages ++ message ∷ []) ≡ Some outcome → ReadsAs asked outcome before after
 ends_so asked old before now after message outcome come takes e =
     let ended : outcome_of asked (come.messages ++ message ∷ []) ≡ Some outcome = rw (← come.same) e in

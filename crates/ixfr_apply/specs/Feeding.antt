@@ -9,8 +9,8 @@ use Rattle.axfr_apply.specs.declared.fault.TransferFault.{TransferFault}
 use Rattle.axfr_apply.specs.declared.fault.TransferFault.TheVariants.{ReadFault, Cut, EndedEarly, Finished}
 use Rattle.axfr_apply.specs.declared.taken.Taken.TheVariants.{Current, New}
 use Rattle.axfr_apply.specs.Block.{blocks, transfer_of}
-use Rattle.axfr_apply.specs.Item.{Item, items, records}
-use Rattle.axfr_apply.specs.Reading.{Outcome, first_end}
+use Rattle.axfr_apply.specs.Item.{TransferItem, items, records}
+use Rattle.axfr_apply.specs.Reading.{TransferOutcome, first_end}
 use Rattle.ixfr_apply.specs.declared.progress.Progress.{Progress}
 use Rattle.ixfr_apply.specs.declared.reader.Fed.{Fed}
 use Rattle.ixfr_apply.specs.declared.reader.Fed.TheVariants as fed
@@ -29,7 +29,7 @@ abbrev pub IsFinished : Reader → Type 0
 IsFinished reader = reader.progress ≡ None
 
 -- this is how far the items have brought the transfer, which none of them ends
-pub record Stands (asked : TransferRequest) (p : Progress) (its : List Item) : Type 0 where
+pub record Stands (asked : TransferRequest) (p : Progress) (its : List TransferItem) : Type 0 where
   pub count : p.count ≡ length its
   pub no_end : first_end asked [] its ≡ None
   pub gathered : p.gathered ≡ blocks (records its)
@@ -45,7 +45,8 @@ abbrev pub Waits : Reader → List (List ℕ) → Type 0
 Waits reader messages = WaitsBehind reader.asked reader.progress messages
 
 -- what a message did to a reader, by how all messages up to this one end the transfer, or that they don't
-abbrev pub Feeds : Result Fed TransferError → Reader → List (List ℕ) → Option Outcome → Type 0
+abbrev pub Feeds : Result Fed TransferError → Reader → List (List ℕ) → Option TransferOutcome →
+    Type 0
 Feeds (Ok fed.More) new messages outcome = (outcome ≡ None) × Waits new messages
 Feeds (Ok (fed.Current theirs)) new messages outcome =
     (outcome ≡ Some (Ok (Current theirs))) × IsFinished new

@@ -5,7 +5,7 @@ use Rattle.edge_io.specs.declared.frame.TheConstants.{FRAME_MAX}
 use Rattle.edge_io.specs.Frame.{frame_octets, IsCut}
 use Rattle.axfr_apply.specs.declared.transfer_request.TransferRequest.{TransferRequest}
 use Rattle.axfr_apply.specs.declared.fault.TransferFault.TheVariants.{Cut, EndedEarly}
-use Rattle.axfr_apply.specs.Reading.{Outcome, outcome_of}
+use Rattle.axfr_apply.specs.Reading.{TransferOutcome, outcome_of}
 use Rattle.ixfr_apply.specs.Stream.{Read}
 
 -- the frames of messages, one behind another
@@ -24,7 +24,7 @@ NoneEnds asked messages =
 -- How a stream ends the transfer, and which of its bytes are left: by the first message that ends it, or by its own end.
 pub data StreamReads (asked : TransferRequest) : List ℕ → Read → Type 0 where
   -- behind messages of which none ends the transfer stands one that does: what is behind its frame is left, whatever it is
-  ends : (before : List (List ℕ)) (message rest : List ℕ) (outcome : Outcome) →
+  ends : (before : List (List ℕ)) (message rest : List ℕ) (outcome : TransferOutcome) →
       FitFrames (before ++ message ∷ []) → NoneEnds asked before →
       outcome_of asked (before ++ message ∷ []) ≡ Some outcome →
       StreamReads asked (frames_of (before ++ message ∷ []) ++ rest) (outcome, rest)

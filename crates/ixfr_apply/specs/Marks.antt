@@ -1,9 +1,10 @@
 -- Which zones are marked, so that all of them is asked for next; the first of the list is zone 1.
 use Rattle.std.specs.Prelude.{ℕ, ◌-◌, Bool, false, List, map, slice_set}
 use Rattle.std.specs.List.{slice_index_or}
+use Rattle.dns_name.specs.Labels.{Name}
 
 -- no zone of these origins is marked
-abbrev pub no_marks : List (List (List ℕ)) → List Bool
+abbrev pub no_marks : List Name → List Bool
 no_marks origins = map (λ origin. false) origins
 
 abbrev pub mark_at : List Bool → ℕ → Bool

@@ -11,7 +11,7 @@ use Rattle.axfr_apply.specs.declared.transfer_request.TransferRequest.{TransferR
 use Rattle.axfr_apply.specs.declared.transfer_request.Wanted.{Wanted}
 use Rattle.axfr_apply.specs.declared.transfer_request.Wanted.TheVariants.{Whole, Newer}
 use Rattle.axfr_apply.specs.declared.taken.Taken.TheVariants as taken
-use Rattle.axfr_apply.specs.Reading.{Outcome}
+use Rattle.axfr_apply.specs.Reading.{TransferOutcome}
 use Rattle.ixfr_apply.specs.declared.refusal.Refusal.{Refusal}
 use Rattle.ixfr_apply.specs.declared.refusal.Refusal.TheVariants as refusal
 use Rattle.ixfr_apply.specs.Stream.{reading}
@@ -28,7 +28,7 @@ abbrev pub offer_by_outcome : Transfer → Result PlainZone ApplyFault → Offer
 offer_by_outcome transfer (Ok next) = takes transfer next
 offer_by_outcome transfer (Err fault) = refuses (refusal.Apply fault)
 
-abbrev pub offer_by_reading : PlainZone → Outcome → Offer
+abbrev pub offer_by_reading : PlainZone → TransferOutcome → Offer
 offer_by_reading zone (Ok (taken.Current theirs)) = is_current theirs
 offer_by_reading zone (Ok (taken.New transfer)) =
     offer_by_outcome transfer (apply_outcome zone transfer)

@@ -7,14 +7,14 @@ use Rattle.axfr_apply.specs.declared.transfer_request.TransferRequest.{TransferR
 use Rattle.axfr_apply.specs.declared.fault.TransferFault.{TransferFault}
 use Rattle.axfr_apply.specs.declared.fault.TransferFault.TheVariants.{ReadFault, Cut, EndedEarly}
 use Rattle.axfr_apply.specs.declared.taken.Taken.{Taken}
-use Rattle.axfr_apply.specs.Reading.{Outcome, outcome_of}
+use Rattle.axfr_apply.specs.Reading.{TransferOutcome, outcome_of}
 
 -- how a stream ends a transfer, and the bytes behind the message that ends it
 abbrev pub Read : Type 0
-Read = Outcome × List ℕ
+Read = TransferOutcome × List ℕ
 
-abbrev pub read_end : (List (List ℕ) → List ℕ → Read) → List (List ℕ) → List ℕ → Option Outcome →
-    Read
+abbrev pub read_end : (List (List ℕ) → List ℕ → Read) → List (List ℕ) → List ℕ →
+    Option TransferOutcome → Read
 read_end go messages rest (Some outcome) = (outcome, rest)
 read_end go messages rest None = go messages rest
 
@@ -39,7 +39,7 @@ unfoldable pub reading : TransferRequest → List ℕ → Read
 reading asked bytes = read_from (length bytes + 1) asked [] bytes
 
 -- where the bytes of the source are known: it is read as the stream that they are, and the bytes after the transfer are left
-abbrev pub ReadsAs : TransferRequest → Outcome → Option (List ℕ) → Option (List ℕ) → Type 0
+abbrev pub ReadsAs : TransferRequest → TransferOutcome → Option (List ℕ) → Option (List ℕ) → Type 0
 ReadsAs asked outcome before after =
     IfSome before
     (λ bytes. ((reading asked bytes).0 ≡ outcome) × (after ≡ Some (reading asked bytes).1))

@@ -14,7 +14,10 @@ fn laws_do_nothing() {
     upstream_link::laws::bytes_say_that_something_came();
     answer_cache::laws::questions_of_one_key_are_alike();
     answer_cache::laws::a_look_up_moves_an_entry_alone();
+    answer_cache::laws::a_cache_has_one_entry_about_a_question();
+    ixfr_apply::laws::a_stream_is_read_by_its_frames();
     policy_snapshot::laws::a_policy_takes_transfers_one_by_one();
+    policy_snapshot::laws::no_two_hits_are_at_one_rank();
     query_session::laws::a_reply_stands();
     query_session::laws::at_most_128_facts_bring_a_reply();
     query_session::laws::a_failure_has_a_cause();
@@ -24,4 +27,5 @@ fn laws_do_nothing() {
     rpz_core::laws::an_event_keeps_the_zones_and_the_workers();
     rpz_core::laws::a_refused_transfer_changes_nothing_but_the_mark();
     rpz_core::laws::the_cache_answers_before_the_upstream();
+    rpz_core::laws::each_reply_is_the_policys_answer();
 }

@@ -8,9 +8,9 @@ use Rattle.dns_name.specs.Standing.{Stands}
 use Rattle.dns_record.specs.declared.fault.RecordFault.{RecordFault}
 use Rattle.dns_record.specs.Reading.{record_at}
 use Rattle.dns_record.specs.Record.{IsRecord, PlainRecord}
-use Rattle.load_gen.specs.Rules.{alias_record}
+use Rattle.load_gen.specs.Rules.{drawn_alias}
 
-pub alias_is_record : (owner target : List (List ℕ)) → IsName owner → IsName target → IsRecord (alias_record owner target)
+pub alias_is_record : (owner target : List (List ℕ)) → IsName owner → IsName target → IsRecord (drawn_alias owner target)
 alias_is_record owner target o t = record {
   is_owner = o;
   type_fits = lit< tt;

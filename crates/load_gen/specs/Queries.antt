@@ -1,7 +1,10 @@
 -- The queries of a load, each from four draws.
 use Rattle.std.specs.Prelude.{ℕ, zero, suc, ◌+◌, ◌*◌, ◌/◌, ◌%◌, ◌^◌, ◌==◌, true, if◌then◌else◌, List, [], ◌∷◌, ◌++◌, Some, None, codes}
+use Rattle.dns_name.specs.Labels.{Name}
 use Rattle.ip_prefix.specs.declared.Addr.{Addr}
 use Rattle.ip_prefix.specs.declared.Addr.TheVariants.{V4}
+use Rattle.dns_record.specs.declared.rtype.TheConstants.{A}
+use Rattle.dns_record.specs.declared.class.TheConstants.{IN}
 use Rattle.dns_message.specs.declared.message.Message.{Message}
 use Rattle.dns_message.specs.Request.{request_header}
 use Rattle.dns_message.specs.Spelling.{spelling}
@@ -16,10 +19,10 @@ query_text a b c =
     else host_text (b % 4096) (c % 64) (codes ".example")
 
 -- a request with recursion desired, of type A and class IN, with no OPT record
-abbrev pub request_for : ℕ → List (List ℕ) → Message
-request_for id name = record {
+abbrev pub load_request : ℕ → Name → Message
+load_request id name = record {
   header = request_header id true;
-  question = Some (record { name = name; qtype = 1; qclass = 1 });
+  question = Some (record { name = name; qtype = A; qclass = IN });
   answer = [];
   authority = [];
   additional = [];
@@ -35,7 +38,7 @@ abbrev pub query_of : ℕ → ℕ → ℕ → ℕ → ℕ → LoadQuery
 query_of id a b c d =
     record {
       client = client_of d;
-      message = spelling (request_for id (written_name (query_text a b c)));
+      message = spelling (load_request id (written_name (query_text a b c)));
     }
 
 -- the query that comes after so many others, where this state stands before the first; IDs count from 1

@@ -1,7 +1,9 @@
 -- The rules of a load, each from three draws (draft-vixie-dnsop-dns-rpz, sections 3 and 4).
 use Rattle.std.specs.Prelude.{ℕ, zero, suc, ◌+◌, ◌*◌, ◌/◌, ◌%◌, ◌==◌, if◌then◌else◌, List, [], ◌∷◌, ◌++◌, codes, decimal}
-use Rattle.dns_name.specs.Labels.{name_octets}
+use Rattle.dns_name.specs.Labels.{name_octets, Name}
 use Rattle.dns_record.specs.Record.{PlainRecord}
+use Rattle.dns_record.specs.declared.rtype.TheConstants.{CNAME}
+use Rattle.dns_record.specs.declared.class.TheConstants.{IN}
 use Rattle.load_gen.specs.Draws.{after_three, after_two, draw, drawn_in, next_state}
 use Rattle.load_gen.specs.Written.{host_text, written_name}
 
@@ -27,14 +29,14 @@ owner_text kind b c =
     ++ (codes "." ++ (decimal (b % 256) ++ codes ".10.rpz-client-ip.rpz.example")))))
 
 -- a CNAME record (type 5) of class IN and TTL 60
-abbrev pub alias_record : List (List ℕ) → List (List ℕ) → PlainRecord
-alias_record owner target =
-    record { owner = owner; rtype = 5; class = 1; ttl = 60; rdata = name_octets target }
+abbrev pub drawn_alias : Name → Name → PlainRecord
+drawn_alias owner target =
+    record { owner = owner; rtype = CNAME; class = IN; ttl = 60; rdata = name_octets target }
 
 -- the record of a rule
 abbrev pub rule_record : ℕ → ℕ → ℕ → PlainRecord
 rule_record a b c =
-    alias_record (written_name (owner_text (a % 4) b c)) (written_name (target_text (a / 4 % 3)))
+    drawn_alias (written_name (owner_text (a % 4) b c)) (written_name (target_text (a / 4 % 3)))
 
 -- the rule that comes after so many others
 abbrev pub rule_at : ℕ → ℕ → PlainRecord

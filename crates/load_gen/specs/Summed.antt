@@ -1,5 +1,6 @@
 -- The summary of a load: what the replies to all its queries come to. It knows nothing of workers.
 use Rattle.std.specs.Prelude.{ℕ, ◌+◌, ◌*◌, ◌%◌, ◌^◌, ◌==◌, ◌&&◌, Bool, false, not, List, [], ◌∷◌, ◌++◌, length, map, flat_map, fold, count_by, slice_index, Option, Some, None, codes, decimal}
+use Rattle.dns_name.specs.Labels.{Name}
 use Rattle.ip_prefix.specs.declared.Transport.TheVariants.{Udp}
 use Rattle.dns_record.specs.declared.soa.Soa.{Soa}
 use Rattle.dns_record.specs.Record.{PlainRecord}
@@ -24,7 +25,7 @@ use Rattle.load_gen.specs.Upstream.{fact_for}
 use Rattle.load_gen.specs.Written.{written_name}
 
 -- the policy zone
-abbrev pub origin : List (List ℕ)
+abbrev pub origin : Name
 origin = written_name (codes "rpz.example")
 
 -- its SOA

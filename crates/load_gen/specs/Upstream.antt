@@ -1,6 +1,6 @@
 -- The upstream in memory, which answers each question, whatever its type, with one A record (RFC 1035, section 3.4.1).
 use Rattle.std.specs.Prelude.{ℕ, ◌+◌, ◌*◌, ◌/◌, ◌%◌, ◌^◌, List, [], ◌∷◌, None, Some, fold, true, false}
-use Rattle.dns_name.specs.Labels.{lowered, name_octets}
+use Rattle.dns_name.specs.Labels.{lowered, name_octets, Name}
 use Rattle.dns_record.specs.Record.{PlainRecord}
 use Rattle.dns_message.specs.declared.header.Header.{Header}
 use Rattle.dns_message.specs.declared.message.Message.{Message}
@@ -14,7 +14,7 @@ abbrev pub next_sum : ℕ → ℕ → ℕ
 next_sum sum byte = (31 * sum + byte) % 2 ^ 16
 
 -- what the bytes of a name in lower case come to
-abbrev pub name_sum : List (List ℕ) → ℕ
+abbrev pub name_sum : Name → ℕ
 name_sum name = fold next_sum 0 (name_octets (lowered name))
 
 -- 10.0.Y.Z, where 256 * Y + Z is the sum
@@ -22,7 +22,7 @@ abbrev pub address_octets : ℕ → List ℕ
 address_octets sum = 10 ∷ 0 ∷ sum / 256 ∷ sum % 256 ∷ []
 
 -- the A record of a name: class IN, TTL 60
-abbrev pub address_record : List (List ℕ) → PlainRecord
+abbrev pub address_record : Name → PlainRecord
 address_record name =
     record { owner = name; rtype = 1; class = 1; ttl = 60; rdata = address_octets (name_sum name) }
 

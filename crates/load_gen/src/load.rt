@@ -5,14 +5,15 @@ ghost use Rattle.load_gen.specs.Loads.{IsIn};
 
 use dns_name::Octets;
 use dns_record::Record;
+use edge_io::{LOAD_QUERY_LIMIT, LOAD_RULE_LIMIT};
 use ip_prefix::Addr;
 use std::marker::Model;
 
 /// The most rules of a load.
-pub const MOST_RULES: u32 = 1_000_000;
+pub const MOST_RULES: u32 = LOAD_RULE_LIMIT;
 
 /// The most queries of a load.
-pub const MOST_QUERIES: u32 = 1_000_000;
+pub const MOST_QUERIES: u32 = LOAD_QUERY_LIMIT;
 
 /// A query of a load, which comes over UDP.
 #[derive(Debug, Drop)]

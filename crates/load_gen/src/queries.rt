@@ -37,7 +37,7 @@ fn client_of(d: u32) -> Addr
 
 // The request of this ID for the addresses of a name.
 fn request_for(alloc: Global, id: u16, name: Name) -> Result<Octets, AllocError>
-    ensures { IfOk result (λ octets. octets ≡ spelling (form.request_for id name)) }
+    ensures { IfOk result (λ octets. octets ≡ spelling (form.load_request id name)) }
 {
     let mut octets = Octets::with_capacity(alloc, name.octets().len() + 16)?;
     let question = Question {

@@ -58,7 +58,7 @@ fn record_in(alloc: Global, octets: &[u8]) -> Result<Record, AllocError>
 
 // A CNAME record of class IN and TTL 60.
 fn alias_record(alloc: Global, owner: &Name, target: &Name) -> Result<Record, AllocError>
-    ensures { IfOk result (λ r. r ≡ form.alias_record owner.now target.now) }
+    ensures { IfOk result (λ r. r ≡ form.drawn_alias owner.now target.now) }
 {
     a_record_is_read_where_it_stands();
     let mut octets = Octets::new(alloc);

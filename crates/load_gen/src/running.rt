@@ -10,13 +10,14 @@ use crate::load::{Load, LoadQuery};
 use crate::policy::{load_policy, zone_rows};
 use crate::summary::Summary;
 use crate::tally::Tally;
+use edge_io::WORKER_LIMIT;
 use policy_snapshot::Snapshot;
 use std::alloc::{AllocError, Global};
 use std::thread;
 use std::thread::Threads;
 
 /// The most workers of a load run.
-pub const MOST_WORKERS: u32 = 16;
+pub const MOST_WORKERS: u32 = WORKER_LIMIT as u32;
 
 // How many queries each worker answers, but for the last.
 fn part_len(queries: usize, workers: u32) -> usize

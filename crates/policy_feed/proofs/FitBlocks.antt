@@ -13,7 +13,7 @@ use Rattle.axfr_apply.specs.declared.transfer_request.Wanted.{Wanted}
 use Rattle.axfr_apply.specs.declared.transfer_request.Wanted.TheVariants as wants
 use Rattle.axfr_apply.specs.declared.fault.TransferFault.{TransferFault}
 use Rattle.axfr_apply.specs.declared.fault.TransferFault.TheVariants.{SoaDiffers, Gap, TrailingRecord}
-use Rattle.axfr_apply.specs.Block.{Block, incremental_transfer, is_empty, is_incremental, is_soa, soa_held, step_between, steps_to, transfer_of, whole_transfer}
+use Rattle.axfr_apply.specs.Block.{Block, incremental_transfer, is_empty, is_incremental, holds_soa, soa_held, step_between, steps_to, transfer_of, whole_transfer}
 use Rattle.axfr_apply.specs.Gathered.{with_held, with_record, with_row}
 use Rattle.axfr_apply.specs.Reading.{End, answer_end, soa_block, close_fault, first_soa_end, first_step_fault, later_soa_fault, open_end, place_fault, place_or, soa_end}
 
@@ -76,7 +76,7 @@ fit_held wanted alone bs row (Some soa) fault e fit = fit_soa wanted alone bs so
 -- a record that doesn't end the transfer
 pub fit_record : (asked : TransferRequest) (alone : Bool) (bs : List Block) (r : PlainRecord) → answer_end asked alone bs r ≡ None → Fit asked.wanted bs → Fit asked.wanted (with_record bs r)
 fit_record asked alone bs r e fit =
-    let fault : Option TransferFault = place_fault asked.origin (is_soa r) r in
+    let fault : Option TransferFault = place_fault asked.origin (holds_soa r) r in
     fit_held asked.wanted alone bs (row_of r) (soa_held r) fault (no_more (is_some (transfer_of bs)) (Err TrailingRecord) (open_end asked.wanted alone bs (soa_held r) fault) e) fit
 
 -- the first step is one from what we have

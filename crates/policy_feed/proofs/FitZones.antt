@@ -19,7 +19,7 @@ use Rattle.zone_rows.specs.Zone.{apply_outcome, apply_outcome_within, fewer_rows
 use Rattle.axfr_apply.specs.declared.fault.TransferFault.{TransferFault}
 use Rattle.axfr_apply.specs.declared.fault.TransferFault.TheVariants as stream
 use Rattle.axfr_apply.specs.declared.taken.Taken.TheVariants as taken
-use Rattle.axfr_apply.specs.Reading.{End, Outcome, forward_fault}
+use Rattle.axfr_apply.specs.Reading.{End, TransferOutcome, forward_fault}
 use Rattle.ixfr_apply.specs.declared.refusal.Refusal.TheVariants as refusal
 use Rattle.ixfr_apply.specs.Offer.{refuses, offer, offer_by_outcome, offer_by_reading, request_of, wanted_by, wanted_of}
 use Rattle.ixfr_apply.specs.Stream.{reading}
@@ -114,7 +114,7 @@ applied_rows : (transfer : Transfer) (outcome : Result PlainZone ApplyFault) (fa
 applied_rows transfer (Ok next) fault rows e = absurd cc
 applied_rows transfer (Err other) fault rows e = let same : other ≡ fault = cc in subst IsAboutRows same rows
 
-read_rows : (id : ℕ) (marked : Bool) (zone : PlainZone) (stream : List ℕ) (fault : ApplyFault) (outcome : Outcome) → (reading (request_of id marked zone) stream).0 ≡ outcome
+read_rows : (id : ℕ) (marked : Bool) (zone : PlainZone) (stream : List ℕ) (fault : ApplyFault) (outcome : TransferOutcome) → (reading (request_of id marked zone) stream).0 ≡ outcome
     → offer_by_reading zone outcome ≡ refuses (refusal.Apply fault) → IsAboutRows fault
 read_rows id marked zone stream fault (Ok (taken.Current theirs)) read e = absurd cc
 read_rows id marked zone stream fault (Ok (taken.New transfer)) read e =

@@ -1,6 +1,7 @@
 -- What a poll of a zone does (RFC 1995; RFC 5936): the request is written, the transfer that comes is read, and what is new is
 -- published.
 use Rattle.std.specs.Prelude.{◌≡◌, ℕ, Bool, false, ◌||◌, if◌then◌else◌, List, Option, Some, None, Result, Ok, Err}
+use Rattle.dns_name.specs.Labels.{Name}
 use Rattle.edge_io.specs.Edge.{WritesPrefix, appended}
 use Rattle.edge_io.specs.Frame.{TakesSome, frame_octets}
 use Rattle.dns_message.specs.declared.message.Message.{Message}
@@ -25,7 +26,7 @@ use Rattle.policy_feed.specs.declared.polling.Polled.TheVariants.{Current, New}
 
 -- the message that asks for a zone of this origin that holds this: for what is newer, or for all of it where nothing is loaded or
 -- the zone is marked
-abbrev pub request_for : ℕ → Bool → List (List ℕ) → Option Content → Message
+abbrev pub request_for : ℕ → Bool → Name → Option Content → Message
 request_for id marked origin None = whole_request id origin
 request_for id marked origin (Some content) =
     if marked then whole_request id origin else newer_request id origin content.soa
@@ -37,7 +38,7 @@ request_octets id marked zone =
 
 -- what contracts see of a poll: the publisher, and the bytes that are left of the source and those that the sink holds, where
 -- they are known
-pub record Exchange : Type 0 where
+pub record PollState : Type 0 where
   pub published : Published
   pub left : Option (List ℕ)
   pub held : Option (List ℕ)
@@ -58,19 +59,19 @@ after_refusal published number zone =
     with_zone_mark published number (marked || asks_newer (wanted_of marked zone.content))
 
 -- the request was written whole
-abbrev pub Requests : ℕ → ℕ → PlainZone → Exchange → Exchange → Type 0
+abbrev pub Requests : ℕ → ℕ → PlainZone → PollState → PollState → Type 0
 Requests id number zone before after =
     after.held
     ≡ appended before.held (request_octets id (mark_at before.published.marks number) zone)
 
 -- the first bytes of the request were written, from none to all
-abbrev pub BeginsRequest : ℕ → ℕ → PlainZone → Exchange → Exchange → Type 0
+abbrev pub BeginsRequest : ℕ → ℕ → PlainZone → PollState → PollState → Type 0
 BeginsRequest id number zone before after =
     WritesPrefix (request_octets id (mark_at before.published.marks number) zone) before.held
     after.held
 
 -- where the bytes of the source are known: it is read as this transfer, or says that we are current
-abbrev pub ReadsTransfer : ℕ → ℕ → PlainZone → Taken → Exchange → Exchange → Type 0
+abbrev pub ReadsTransfer : ℕ → ℕ → PlainZone → Taken → PollState → PollState → Type 0
 ReadsTransfer id number zone read before after =
     ReadsAs (request_of id (mark_at before.published.marks number) zone) (Ok read) before.left
     after.left
@@ -78,7 +79,7 @@ ReadsTransfer id number zone read before after =
 -- What a poll of the zone of a number does, by its result, with a request of this ID: the zone is current; a transfer is published;
 -- memory ran out, and all that is published is as it was; the request could not be written; the stream has a fault; or the zone
 -- can't take what it has. Only a transfer that is published adds an entry to the list.
-abbrev pub Polls : ℕ → ℕ → PlainZone → Result Polled FeedError → Exchange → Exchange → Type 0
+abbrev pub Polls : ℕ → ℕ → PlainZone → Result Polled FeedError → PollState → PollState → Type 0
 Polls id number zone (Ok (Current theirs)) before after =
     Requests id number zone before after
     × ReadsTransfer id number zone (taken.Current theirs) before after

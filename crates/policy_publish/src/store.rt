@@ -11,14 +11,15 @@ use crate::publisher::Publisher;
 use crate::reader::PolicyReader;
 use crate::shown::Shown;
 use dns_name::Name;
+use edge_io::WORKER_LIMIT;
 use ixfr_apply::Marks;
 use policy_snapshot::Snapshot;
 use std::alloc::{AllocError, Global};
 use std::marker::Model;
 use std::sync::{Arc, Wait};
 
-/// How many readers a store has at most.
-pub const READER_LIMIT: usize = 16;
+/// How many readers a store has at most: one for each worker.
+pub const READER_LIMIT: usize = WORKER_LIMIT;
 
 /// A store that has no name yet. Contracts see the book of its publications, the origins of its zones, and how many readers it has.
 #[derive(Drop)]

@@ -1,6 +1,7 @@
 -- How code finds the best hit among the rules of one zone: kind by kind, by look-ups in an index.
 use Rattle.std.specs.Prelude.{◌≡◌, ℕ, ◌+◌, ◌==◌, nat_lt, nat_le, Bool, true, false, ◌&&◌, ◌||◌, if◌then◌else◌, List, [], ◌∷◌, fold, Option, Some, None}
 use Rattle.std.specs.Option.{option_map}
+use Rattle.dns_name.specs.Labels.{Name}
 use Rattle.dns_record.specs.Record.{PlainRecord}
 use Rattle.dns_record.specs.Soa.{soa_record}
 use Rattle.zone_rows.specs.declared.zone.Content.{Content}
@@ -56,7 +57,7 @@ client_hit number soa sight rules =
     then option_map (entry_hit ClientIp sight.position number soa)
     (longest sight.client rules.client_ip) else None
 
-abbrev pub server_hit : ℕ → ℕ → PlainRecord → PlainRules → List (List ℕ) → Option PlainHit
+abbrev pub server_hit : ℕ → ℕ → PlainRecord → PlainRules → Name → Option PlainHit
 server_hit position number soa rules server =
     option_map (entry_hit NsDname position number soa) (names.best server rules.nsdname)
 
@@ -75,7 +76,7 @@ index_hit number soa sight rules =
     (or_hit (best_over (best_over (server_hit sight.position number soa rules)) sight.servers)
     (best_over (address_hit sight.position number soa rules) sight.addresses))))
 
-abbrev pub content_hit : ℕ → PlainSight → List (List ℕ) → Option Content → Option PlainHit
+abbrev pub content_hit : ℕ → PlainSight → Name → Option Content → Option PlainHit
 content_hit number sight origin None = None
 content_hit number sight origin (Some content) =
     index_hit number (soa_record origin content.soa) sight (rules_of origin content.rows)
@@ -105,7 +106,7 @@ kind_could_decide kind number (Some hit) =
     || (number == hit.rank.zone && nat_le (place_of_kind kind) (kind_number hit.rank.trigger))
 
 -- the zone has rules of this kind
-abbrev pub has_kind_in : Kind → List (List ℕ) → Option Content → Bool
+abbrev pub has_kind_in : Kind → Name → Option Content → Bool
 has_kind_in kind origin None = false
 has_kind_in kind origin (Some content) = has_kind (rules_of origin content.rows) kind
 
@@ -117,6 +118,6 @@ zones_need kind number hit (zone ∷ zones) =
     || zones_need kind (number + 1) hit zones
 
 -- servers are looked at in lists where some zone has rules about them
-abbrev pub AreListsIf : Bool → List (List (List (List ℕ))) → List (List (List ℕ)) → Type 0
+abbrev pub AreListsIf : Bool → List (List Name) → List Name → Type 0
 AreListsIf true lists names = AreListsOf lists names
 AreListsIf false lists names = lists ≡ []

@@ -3,7 +3,9 @@ use Rattle.std.specs.Prelude.{ℕ, Bool, true, false, not, ◌&&◌, if◌then�
 use Rattle.std.specs.List.{find, list_all, list_any}
 use Rattle.std.specs.Option.{option_map}
 use Rattle.std.specs.Ordering.{nat_cmp, ordering_then, is_gt, is_lt}
+use Rattle.dns_name.specs.Labels.{Name}
 use Rattle.dns_name.specs.Order.{canonical_order}
+use Rattle.dns_record.specs.declared.rtype.TheConstants.{A, AAAA, NS}
 use Rattle.dns_message.specs.declared.question.Question.{Question}
 use Rattle.dns_message.specs.declared.request.Query.{Query}
 use Rattle.trigger_codec.specs.declared.trigger.Trigger.{Trigger}
@@ -59,29 +61,29 @@ abbrev pub first_unknown : PlainFacts → List Question → Option Question
 first_unknown facts questions = find (λ question. not (is_known facts question)) questions
 
 -- the NS questions of a name and of the names above it, from two labels upward
-abbrev pub server_questions : List (List ℕ) → List Question
-server_questions name = map (λ owner. question_of owner 2) (ancestors name)
+abbrev pub server_questions : Name → List Question
+server_questions name = map (λ owner. question_of owner NS) (ancestors name)
 
 -- both questions about the addresses of a server are answered
-abbrev pub has_known_addresses : PlainFacts → List (List ℕ) → Bool
+abbrev pub has_known_addresses : PlainFacts → Name → Bool
 has_known_addresses facts server =
-    is_known facts (question_of server 1) && is_known facts (question_of server 28)
+    is_known facts (question_of server A) && is_known facts (question_of server AAAA)
 
 -- no name of the list comes before this one in canonical order
-abbrev pub is_least : List (List (List ℕ)) → List (List ℕ) → Bool
+abbrev pub is_least : List Name → Name → Bool
 is_least names name = list_all (λ other. not (is_lt (canonical_order other name))) names
 
 -- the name that comes first in canonical order
-abbrev pub least_name : List (List (List ℕ)) → Option (List (List ℕ))
+abbrev pub least_name : List Name → Option Name
 least_name names = find (is_least names) names
 
 -- the question about the addresses of a server that isn't answered yet: A before AAAA
-abbrev pub address_question : PlainFacts → List (List ℕ) → Question
+abbrev pub address_question : PlainFacts → Name → Question
 address_question facts server =
-    if is_known facts (question_of server 1) then question_of server 28 else question_of server 1
+    if is_known facts (question_of server A) then question_of server AAAA else question_of server A
 
 -- the question about the first server, in canonical order, whose addresses aren't all known
-abbrev pub unknown_address : PlainFacts → List (List ℕ) → Option Question
+abbrev pub unknown_address : PlainFacts → Name → Option Question
 unknown_address facts name =
     option_map (address_question facts)
     (least_name (filter (λ server. not (has_known_addresses facts server)) (servers facts name)))
@@ -96,7 +98,7 @@ or_question None other = other
 -- The question that must be asked at a position, where this name stands, before it is known which rule decides there, by the
 -- best hit that is known: that of the query, if its answer isn't known and a rule needs it that could decide; then the first NS
 -- question of the name and those above it; then the first question about an address of a server.
-abbrev pub pending : List PlainRule → Query → PlainFacts → List (List ℕ) → Option PlainHit →
+abbrev pub pending : List PlainRule → Query → PlainFacts → Name → Option PlainHit →
     Option Question
 pending all query facts name hit =
     or_question
@@ -109,18 +111,18 @@ pending all query facts name hit =
 -- hit at any name of the chain; or the chain is too long.
 pub data Next : Type 0 where
   ask : Question → Next
-  decided_by : List (List (List ℕ)) → List (List ℕ) → PlainHit → Next
+  decided_by : List Name → Name → PlainHit → Next
   no_hit : Next
   chain_too_long : Next
 
-abbrev pub unless_pending : List (List (List ℕ)) → List (List ℕ) → Option PlainHit →
+abbrev pub unless_pending : List Name → Name → Option PlainHit →
     Option Question → Option Next
 unless_pending before name hit (Some question) = Some (ask question)
 unless_pending before name (Some hit) None = Some (decided_by before name hit)
 unless_pending before name None None = None
 
 -- what comes next at a name of the chain, behind these names; None where nothing is pending there and no rule is hit
-abbrev pub next_at : List PlainRule → Query → PlainFacts → List (List (List ℕ)) → List (List ℕ) →
+abbrev pub next_at : List PlainRule → Query → PlainFacts → List Name → Name →
     Option Next
 next_at all query facts before name =
     let hit = best (hits all query facts (length before) name) in
@@ -131,15 +133,15 @@ or_next None other = other
 or_next (Some next) other = next
 
 -- what comes next along names of the chain, behind these names
-abbrev pub next_along : List PlainRule → Query → PlainFacts → List (List (List ℕ)) →
-    List (List (List ℕ)) → Next
+abbrev pub next_along : List PlainRule → Query → PlainFacts → List Name →
+    List Name → Next
 next_along all query facts before [] = no_hit
 next_along all query facts before (name ∷ names) =
     or_next (next_at all query facts before name)
     (next_along all query facts (before ++ name ∷ []) names)
 
 -- what comes next behind the first name of a chain, which may be too long
-abbrev pub next_in_chain : List PlainRule → Query → PlainFacts → Option (List (List (List ℕ))) →
+abbrev pub next_in_chain : List PlainRule → Query → PlainFacts → Option (List Name) →
     Next
 next_in_chain all query facts None = chain_too_long
 next_in_chain all query facts (Some names) =

@@ -1,5 +1,6 @@
 -- Policies as plain zones, apart from any index, and what transfers do to them.
 use Rattle.std.specs.Prelude.{◌≡◌, ℕ, ◌-◌, ◌==◌, if◌then◌else◌, ⊤, List, [], ◌∷◌, map, fold, Option, Some, None, Result, Ok, Err, slice_get, slice_set}
+use Rattle.dns_name.specs.Labels.{Name}
 use Rattle.zone_rows.specs.declared.fault.ApplyFault.{ApplyFault}
 use Rattle.zone_rows.specs.declared.transfer.Transfer.{Transfer}
 use Rattle.zone_rows.specs.declared.zone.PlainZone.{PlainZone}
@@ -32,7 +33,7 @@ abbrev pub policy_with : PlainPolicy → Entry → PlainPolicy
 policy_with policy entry = with_zone_after policy entry (zone_at policy entry.zone)
 
 -- the policy after a list of accepted transfers, each taken as a whole, from zones of these origins with nothing loaded
-unfoldable pub policy_after : List (List (List ℕ)) → List Entry → PlainPolicy
+unfoldable pub policy_after : List Name → List Entry → PlainPolicy
 policy_after origins entries = fold policy_with (map unloaded origins) entries
 
 -- the zone of a number is there, and takes the transfer
@@ -48,5 +49,5 @@ AreTaken policy (entry ∷ entries) =
     × AreTaken (policy_with policy entry) entries
 
 -- the same from zones of these origins with nothing loaded: each entry is a transfer that was accepted
-abbrev pub AreAccepted : List (List (List ℕ)) → List Entry → Type 0
+abbrev pub AreAccepted : List Name → List Entry → Type 0
 AreAccepted origins entries = AreTaken (map unloaded origins) entries

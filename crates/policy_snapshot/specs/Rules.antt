@@ -1,5 +1,6 @@
 -- All rules of a policy as one list (draft-vixie-dnsop-dns-rpz, sections 3 to 5).
 use Rattle.std.specs.Prelude.{ℕ, ◌+◌, List, [], ◌∷◌, ◌++◌, map, Option, Some, None}
+use Rattle.dns_name.specs.Labels.{Name}
 use Rattle.dns_record.specs.Record.{PlainRecord}
 use Rattle.dns_record.specs.Soa.{soa_record}
 use Rattle.zone_rows.specs.declared.zone.Content.{Content}
@@ -16,7 +17,7 @@ pub record PlainRule : Type 0 where
   pub soa : PlainRecord
 
 -- the rules of a zone of this number, origin and content; none where nothing is loaded
-abbrev pub content_rules : ℕ → List (List ℕ) → Option Content → List PlainRule
+abbrev pub content_rules : ℕ → Name → Option Content → List PlainRule
 content_rules number origin None = []
 content_rules number origin (Some content) =
     map (λ r.

@@ -1,5 +1,6 @@
 -- What look-ups of rules take at a position of the chain of aliases.
 use Rattle.std.specs.Prelude.{ℕ, List, map}
+use Rattle.dns_name.specs.Labels.{Name}
 use Rattle.dns_record.specs.Record.{PlainRecord}
 use Rattle.dns_message.specs.declared.request.Query.{Query}
 use Rattle.ip_prefix.specs.declared.Addr.{Addr}
@@ -11,9 +12,9 @@ use Rattle.policy_snapshot.specs.declared.sight.Sight.{Sight}
 pub record PlainSight : Type 0 where
   pub position : ℕ
   pub client : Addr
-  pub name : List (List ℕ)
+  pub name : Name
   pub records : List PlainRecord
-  pub servers : List (List (List (List ℕ)))
+  pub servers : List (List Name)
   pub addresses : List Addr
 
 -- what the code holds by reference
@@ -29,7 +30,7 @@ sight_seen s =
     }
 
 -- by what is known, with these servers and addresses
-abbrev pub sight_of : Query → PlainFacts → ℕ → List (List ℕ) → List (List (List (List ℕ))) →
+abbrev pub sight_of : Query → PlainFacts → ℕ → Name → List (List Name) →
     List Addr → PlainSight
 sight_of query facts position name lists addresses = record {
   position = position;

@@ -1,6 +1,7 @@
 -- What a snapshot stands for: the policy after a list of accepted transfers.
 use Rattle.std.specs.Prelude.{◌≡◌, ℕ, ◌+◌, ◌-◌, ◌^◌, nat_lt, if◌then◌else◌, List, length, map, Result, Ok, Err, slice_set}
 use Rattle.std.specs.List.{AllByRecursion}
+use Rattle.dns_name.specs.Labels.{Name}
 use Rattle.zone_rows.specs.declared.fault.ApplyFault.{ApplyFault}
 use Rattle.zone_rows.specs.declared.zone.PlainZone.{PlainZone}
 use Rattle.zone_rows.specs.Content.{unloaded}
@@ -21,11 +22,11 @@ next_count count = if nat_lt count (2 ^ 64 - 1) then count + 1 else count
 abbrev pub count_of : ℕ → ℕ
 count_of length = if nat_lt length (2 ^ 64 - 1) then length else 2 ^ 64 - 1
 
-abbrev pub origins_of : PlainPolicy → List (List (List ℕ))
+abbrev pub origins_of : PlainPolicy → List Name
 origins_of zones = map (λ (zone : PlainZone). zone.origin) zones
 
 -- zones of these origins, with nothing loaded
-abbrev pub new_snapshot : List (List (List ℕ)) → PlainSnapshot
+abbrev pub new_snapshot : List Name → PlainSnapshot
 new_snapshot origins = record { zones = map unloaded origins; accepted = 0 }
 
 -- The snapshot's zones are those after the accepted transfers of the list, and its count is that of the list.
@@ -34,7 +35,7 @@ pub record Stands (snapshot : PlainSnapshot) (entries : List Entry) : Type 0 whe
   pub accepted : snapshot.accepted ≡ count_of (length entries)
 
 -- The snapshot is the policy of these origins after a list of accepted transfers.
-pub record StandsFor (origins : List (List (List ℕ))) (snapshot : PlainSnapshot)
+pub record StandsFor (origins : List Name) (snapshot : PlainSnapshot)
     (entries : List Entry) : Type 0 where
   pub origins_are : origins_of snapshot.zones ≡ origins
   pub stands : Stands snapshot entries

@@ -1,6 +1,7 @@
 //! Laws of policies and the transfers that they take. Each function is its clauses, and does nothing.
 
 ghost use Rattle.std.specs.Prelude.{◌≡◌, ◌↔◌, ℕ, ◌+◌, ◌-◌, ◌∷◌, [], ◌++◌, List, length, map, None, Option, Some, Ok, IsTrue, slice_set};
+ghost use Rattle.dns_name.specs.Labels.{Name};
 ghost use Rattle.zone_rows.specs.declared.transfer.Transfer.{Transfer};
 ghost use Rattle.zone_rows.specs.declared.zone.PlainZone.{PlainZone};
 ghost use Rattle.zone_rows.specs.Content.{unloaded};
@@ -25,20 +26,20 @@ use zone_index::laws::an_index_has_the_rules_of_its_zone;
 /// The policy after no transfer has nothing loaded; one more transfer that its zone takes changes this zone alone, and is accepted
 /// behind accepted ones. The number of zones stays.
 pub fn a_policy_takes_transfers_one_by_one()
-    ensures first { (origins : List (List (List ℕ))) →
+    ensures first { (origins : List Name) →
         policy_after origins [] ≡ map unloaded origins }
-    ensures next { (origins : List (List (List ℕ))) (entries : List Entry) (number : ℕ)
+    ensures next { (origins : List Name) (entries : List Entry) (number : ℕ)
         (transfer : Transfer)
         (zone next : PlainZone) → zone_at (policy_after origins entries) number ≡ Some zone →
         apply_outcome zone transfer ≡ Ok next →
         policy_after origins (entries ++ record { zone = number; transfer = transfer } ∷ [])
         ≡ slice_set (policy_after origins entries) (number - 1) next }
-    ensures accepted { (origins : List (List (List ℕ))) (entries : List Entry) (number : ℕ)
+    ensures accepted { (origins : List Name) (entries : List Entry) (number : ℕ)
         (transfer : Transfer) (zone next : PlainZone) → AreAccepted origins entries →
         zone_at (policy_after origins entries) number ≡ Some zone →
         apply_outcome zone transfer ≡ Ok next →
         AreAccepted origins (entries ++ record { zone = number; transfer = transfer } ∷ []) }
-    ensures zones { (origins : List (List (List ℕ))) (entries : List Entry) →
+    ensures zones { (origins : List Name) (entries : List Entry) →
         length (policy_after origins entries) ≡ length origins }
     ensures count { (n : ℕ) → next_count (count_of n) ≡ count_of (n + 1) }
 {}
@@ -47,10 +48,10 @@ pub fn a_policy_takes_transfers_one_by_one()
 /// the only one that is hit and that no other hit precedes; there is none only where nothing is hit.
 pub fn no_two_hits_are_at_one_rank()
     ensures apart { (zones : List PlainZone) (query : Query) (facts : PlainFacts) (position : ℕ)
-        (name : List (List ℕ)) → HaveRows zones →
+        (name : Name) → HaveRows zones →
         AreHits (hits (rules zones) query facts position name) }
     ensures decides { (zones : List PlainZone) (query : Query) (facts : PlainFacts) (position : ℕ)
-        (name : List (List ℕ)) (found : Option PlainHit) → HaveRows zones →
+        (name : Name) (found : Option PlainHit) → HaveRows zones →
         (found ≡ best (hits (rules zones) query facts position name))
         ↔ IsBest (hits (rules zones) query facts position name) found }
 {
@@ -63,14 +64,14 @@ pub fn no_two_hits_are_at_one_rank()
 /// it is the same whatever facts come behind.
 pub fn nothing_unasked_could_matter()
     ensures best { (zones : List PlainZone) (query : Query) (facts more : PlainFacts) (position : ℕ)
-        (name : List (List ℕ)) → HaveRows zones → Extends facts more →
+        (name : Name) → HaveRows zones → Extends facts more →
         pending (rules zones) query facts name (best (hits (rules zones) query facts position name))
         ≡ None →
         best (hits (rules zones) query more position name)
         ≡ best (hits (rules zones) query facts position name) }
     ensures pending { (zones : List PlainZone) (query : Query) (facts more : PlainFacts)
         (position : ℕ)
-        (name : List (List ℕ)) → HaveRows zones → Extends facts more →
+        (name : Name) → HaveRows zones → Extends facts more →
         pending (rules zones) query facts name (best (hits (rules zones) query facts position name))
         ≡ None →
         pending (rules zones) query more name (best (hits (rules zones) query more position name))

@@ -5,7 +5,7 @@ use Rattle.std.specs.Cmp.Lexicographic.{slice_cmp}
 use Rattle.std.specs.Ordering.{nat_cmp, bool_cmp, ordering_then}
 use Rattle.std.specs.declared.cmp.Ordering.{Ordering}
 use Rattle.dns_name.specs.Alike.{PlainPattern, matches}
-use Rattle.dns_name.specs.Labels.{name_octets}
+use Rattle.dns_name.specs.Labels.{name_octets, Name}
 
 -- Which of two patterns comes first where both are about a name: exact before wild, then the base of more labels
 -- (draft-vixie-dnsop-dns-rpz, section 5). Patterns that tie so, of which at most one is about a name, come in order of their bases as bytes.
@@ -16,5 +16,5 @@ pattern_order a b =
     (slice_cmp nat_cmp (name_octets a.base) (name_octets b.base)))
 
 -- The entry that comes first of those whose pattern is about the name, as a scan over all entries finds it.
-abbrev pub best : {V : Type 0} → List (List ℕ) → List (PlainPattern × V) → Option (PlainPattern × V)
+abbrev pub best : {V : Type 0} → Name → List (PlainPattern × V) → Option (PlainPattern × V)
 best name entries = find (λ e. matches e.0 name) entries

@@ -5,7 +5,7 @@ use Rattle.std.specs.Cmp.Lexicographic.{slice_cmp, nat_list_cmp_total}
 use Rattle.std.specs.Ordering.{nat_cmp, bool_cmp, ordering_then, is_eq}
 use Rattle.std.specs.declared.cmp.Ordering.{Ordering}
 use Rattle.dns_name.specs.Alike.{PlainPattern}
-use Rattle.dns_name.specs.Labels.{name_octets}
+use Rattle.dns_name.specs.Labels.{name_octets, Name}
 
 -- whether the pattern is wild, how many labels its base has, and the base as it is written
 pub record Rank : Type 0 where
@@ -30,11 +30,11 @@ rank_total =
     (on_total (λ r. r.octets) nat_list_cmp_total))
 
 -- the rank of the exact pattern of a name
-abbrev pub exact_rank : List (List ℕ) → Rank
+abbrev pub exact_rank : Name → Rank
 exact_rank name = record { wild = false; labels = length name; octets = name_octets name }
 
 -- the rank of the wild pattern whose base is so many labels of the name, its last ones
-abbrev pub wild_rank : List (List ℕ) → ℕ → Rank
+abbrev pub wild_rank : Name → ℕ → Rank
 wild_rank name count =
     record { wild = true; labels = count; octets = name_octets (drop (length name - count) name) }
 

@@ -17,9 +17,9 @@ use Rattle.upstream_link.specs.Fact.{same_question}
 use Rattle.upstream_link.specs.Facts.{PlainFacts, fact_about}
 use Rattle.upstream_link.specs.Kept.{IsAnswer, PlainAnswer}
 use Rattle.upstream_link.specs.Question.{question_of, main_question}
-use Rattle.reply_build.specs.Reply.{Outcome, Place, Sections, needs, gives, silent, alias_outcome, alias_record, by_action, by_alias, by_verdict, main_outcome, over_tcp, pass_outcome, place_of, sections, server_failure, target_outcome, truncation}
+use Rattle.reply_build.specs.Reply.{ReplyOutcome, Place, Sections, needs, gives, silent, alias_outcome, alias_record, by_action, by_alias, by_verdict, main_outcome, over_tcp, pass_outcome, place_of, sections, server_failure, target_outcome, truncation}
 use Rattle.reply_build.specs.Target.{alias_in, target_of}
-use Rattle.reply_build.specs.Verdict.{PlainVerdict, passes, fails, hits}
+use Rattle.reply_build.specs.Verdict.{PlainVerdict, passes, fails, applies}
 use Rattle.query_session.specs.Laws.{AreKept, HasCause, IsBroken, IsKept, LeadsTo, LetsPass, alias, no_answer, no_rule, no_target, pass_thru, tcp_only, too_long}
 
 abbrev Name : Type 0
@@ -27,16 +27,16 @@ Name = List (List ℕ)
 
 -- ---- an answer has another rcode
 
-abbrev pub rcode_in : Outcome → ℕ
+abbrev pub rcode_in : ReplyOutcome → ℕ
 rcode_in (needs question) = 0
 rcode_in (gives s) = s.rcode
 rcode_in silent = 0
 
 -- it is written as rcode 2
-abbrev pub Fails : Outcome → Type 0
+abbrev pub Fails : ReplyOutcome → Type 0
 Fails outcome = rcode_in outcome % 16 ≡ 2
 
-no_failure : (outcome : Outcome) → (rcode_in outcome ≡ 0) ⊎ (rcode_in outcome ≡ 3) → Fails outcome → ⊥
+no_failure : (outcome : ReplyOutcome) → (rcode_in outcome ≡ 0) ⊎ (rcode_in outcome ≡ 3) → Fails outcome → ⊥
 no_failure outcome (inl h) e = let zero : 0 % 16 ≡ 2 = ap (λ (n : ℕ). n % 16) (sym h) ∙ e in omega arith
 no_failure outcome (inr h) e = let three : 3 % 16 ≡ 2 = ap (λ (n : ℕ). n % 16) (sym h) ∙ e in omega arith
 
@@ -76,7 +76,7 @@ tcp_by query facts Udp k is e = absurd (no_failure (gives truncation) (inl refl)
 
 module _ (query : Query) (facts : PlainFacts) (kept : AreKept facts) (rows : List PlainLocal) (soa : PlainRecord) (before : List Name) (name : Name) where
   abbrev decided : PlainVerdict
-  decided = hits (Local rows) soa before name
+  decided = applies (Local rows) soa before name
 
   abbrev place : Place
   place = place_of query facts soa before name
@@ -101,7 +101,7 @@ module _ (query : Query) (facts : PlainFacts) (kept : AreKept facts) (rows : Lis
   alias_by None is e = absurd (no_failure (by_alias query rows place facts None) (inl refl) e)
   alias_by (Some row) is e = target_by row.ttl (target_of name row.rdata) (alias rows row soa before name (target_of name row.rdata) is refl) e
 
-action_cause : (query : Query) (facts : PlainFacts) (action : Action) (soa : PlainRecord) (before : List Name) (name : Name) → AreKept facts → Fails (by_action query facts (place_of query facts soa before name) action) → HasCause query (hits action soa before name) facts
+action_cause : (query : Query) (facts : PlainFacts) (action : Action) (soa : PlainRecord) (before : List Name) (name : Name) → AreKept facts → Fails (by_action query facts (place_of query facts soa before name) action) → HasCause query (applies action soa before name) facts
 action_cause query facts NxDomain soa before name k e = absurd (no_failure (by_action query facts (place_of query facts soa before name) NxDomain) (inr refl) e)
 action_cause query facts NoData soa before name k e = absurd (no_failure (by_action query facts (place_of query facts soa before name) NoData) (inl refl) e)
 action_cause query facts PassThru soa before name k e = no_answer (pass_thru soa before name) (main_broken query facts k e)
@@ -115,12 +115,12 @@ action_cause query facts (Local rows) soa before name k e = alias_by query facts
 abbrev pub IsByRules : PlainVerdict → Type 0
 IsByRules passes = Unit {0}
 IsByRules fails = ⊥
-IsByRules (hits action soa before name) = Unit {0}
+IsByRules (applies action soa before name) = Unit {0}
 
 pub cause : (query : Query) (verdict : PlainVerdict) (facts : PlainFacts) → AreKept facts → IsByRules verdict → Fails (by_verdict query verdict facts) → HasCause query verdict facts
 cause query passes facts k d e = no_answer no_rule (main_broken query facts k e)
 cause query fails facts k d e = absurd d
-cause query (hits action soa before name) facts k d e = action_cause query facts action soa before name k e
+cause query (applies action soa before name) facts k d e = action_cause query facts action soa before name k e
 
 -- ---- and what each of the causes gives
 

@@ -14,12 +14,12 @@ use Rattle.upstream_link.specs.Facts.{PlainFacts}
 use Rattle.reply_build.specs.declared.said.Said.TheVariants as said
 use Rattle.reply_build.specs.declared.turn.Turn.{Turn}
 use Rattle.reply_build.specs.declared.turn.Turn.TheVariants.{Ask, Said}
-use Rattle.reply_build.specs.Reply.{Outcome, Sections, by_verdict, gives, needs, outcome_turn, reply_of, server_failure, silent}
-use Rattle.reply_build.specs.Verdict.{PlainVerdict, passes, hits}
+use Rattle.reply_build.specs.Reply.{ReplyOutcome, Sections, by_verdict, gives, needs, outcome_turn, reply_of, server_failure, silent}
+use Rattle.reply_build.specs.Verdict.{PlainVerdict, passes, applies}
 use Rattle.policy_snapshot.specs.Next.{Next, ask, decided_by, no_hit, chain_too_long, next}
 use Rattle.policy_snapshot.specs.Policy.{PlainPolicy}
 use Rattle.query_session.specs.Laws.{AreKept, FailsBy, IsDecided, IsNeeded, by_cause, by_reply, by_rules, failure_turn, long_chain, many_facts, verdict_in}
-use Rattle.query_session.specs.Session.{turn_by, turn_by_next, verdict_turn, within_limit}
+use Rattle.query_session.specs.Session.{turn_by, turn_by_next, verdict_turn, within_fact_limit}
 use Rattle.query_session.proofs.FailureCauses.{Fails, IsByRules, cause, failure}
 
 -- ---- the fourth octet
@@ -59,7 +59,7 @@ limited : (query : Query) (facts : PlainFacts) (question : Question) (b : Bool) 
 limited query facts question true is e = absurd (asks_not question query e)
 limited query facts question false is e = ltb-false (length facts) FACT_LIMIT is
 
-beyond : (query : Query) (facts : PlainFacts) (question : Question) → FACT_LIMIT ≤ length facts → within_limit query facts (Ask question) ≡ failure_turn query
+beyond : (query : Query) (facts : PlainFacts) (question : Question) → FACT_LIMIT ≤ length facts → within_fact_limit query facts (Ask question) ≡ failure_turn query
 beyond query facts question le = cond_both (nat_lt (length facts) FACT_LIMIT) (Ask question) (failure_turn query) (λ (t : Turn). t ≡ failure_turn query)
     (λ lt. absurd (omega (arith, ltb-true (length facts) FACT_LIMIT lt))) (λ _. refl)
 
@@ -67,18 +67,18 @@ module _ (policy : PlainPolicy) (query : Query) (facts : PlainFacts) where
   -- ---- the turn has a cause
 
   module _ (kept : AreKept facts) where
-    by_outcome : (verdict : PlainVerdict) → IsByRules verdict → IsDecided policy query facts verdict → (outcome : Outcome) → by_verdict query verdict facts ≡ outcome
-        → within_limit query facts (outcome_turn (reply_limit query) query outcome) ≡ failure_turn query → FailsBy policy query facts
+    by_outcome : (verdict : PlainVerdict) → IsByRules verdict → IsDecided policy query facts verdict → (outcome : ReplyOutcome) → by_verdict query verdict facts ≡ outcome
+        → within_fact_limit query facts (outcome_turn (reply_limit query) query outcome) ≡ failure_turn query → FailsBy policy query facts
     by_outcome verdict rules decided (needs question) is e =
         many_facts question (by_reply verdict decided is) (limited query facts question (nat_lt (length facts) FACT_LIMIT) refl e)
     by_outcome verdict rules decided (gives s) is e =
         by_cause verdict decided (cause query verdict facts kept rules (subst Fails (sym is) (same_rcode (reply_limit query) query s e)))
     by_outcome verdict rules decided silent is e = absurd (says_not query e)
 
-    by_what_comes : (what : Next) → next policy query facts ≡ what → within_limit query facts (turn_by_next query facts what) ≡ failure_turn query → FailsBy policy query facts
+    by_what_comes : (what : Next) → next policy query facts ≡ what → within_fact_limit query facts (turn_by_next query facts what) ≡ failure_turn query → FailsBy policy query facts
     by_what_comes (ask question) is e = many_facts question (by_rules is) (limited query facts question (nat_lt (length facts) FACT_LIMIT) refl e)
     by_what_comes (decided_by before name hit) is e =
-        let verdict = hits hit.action hit.soa before name in
+        let verdict = applies hit.action hit.soa before name in
         by_outcome verdict tt (ap verdict_in is) (by_verdict query verdict facts) refl e
     by_what_comes no_hit is e = by_outcome passes tt (ap verdict_in is) (by_verdict query passes facts) refl e
     by_what_comes chain_too_long is e = long_chain is
@@ -90,7 +90,7 @@ module _ (policy : PlainPolicy) (query : Query) (facts : PlainFacts) where
 
   decided_turn : (what : Next) (verdict : PlainVerdict) → verdict_in what ≡ Some verdict → turn_by_next query facts what ≡ verdict_turn query facts verdict
   decided_turn (ask question) verdict e = absurd cc
-  decided_turn (decided_by before name hit) verdict e = let same : hits hit.action hit.soa before name ≡ verdict = cc in ap (verdict_turn query facts) same
+  decided_turn (decided_by before name hit) verdict e = let same : applies hit.action hit.soa before name ≡ verdict = cc in ap (verdict_turn query facts) same
   decided_turn no_hit verdict e = let same : passes ≡ verdict = cc in ap (verdict_turn query facts) same
   decided_turn chain_too_long verdict e = absurd cc
 
@@ -100,10 +100,10 @@ module _ (policy : PlainPolicy) (query : Query) (facts : PlainFacts) where
       decided_turn (next policy query facts) verdict decided ∙ ap (outcome_turn (reply_limit query) query) is
 
   pub failed_by : FailsBy policy query facts → turn_by policy (Asks query) facts ≡ failure_turn query
-  failed_by (long_chain is) = ap (λ (what : Next). within_limit query facts (turn_by_next query facts what)) is
-  failed_by (many_facts question needed le) = ap (within_limit query facts) (needed_turn question needed) ∙ beyond query facts question le
+  failed_by (long_chain is) = ap (λ (what : Next). within_fact_limit query facts (turn_by_next query facts what)) is
+  failed_by (many_facts question needed le) = ap (within_fact_limit query facts) (needed_turn question needed) ∙ beyond query facts question le
   failed_by (by_cause verdict decided has) =
-      ap (within_limit query facts) (decided_turn (next policy query facts) verdict decided ∙ ap (outcome_turn (reply_limit query) query) (failure query verdict facts has))
+      ap (within_fact_limit query facts) (decided_turn (next policy query facts) verdict decided ∙ ap (outcome_turn (reply_limit query) query) (failure query verdict facts has))
 
 pub failure_has_cause : (policy : PlainPolicy) (query : Query) (facts : PlainFacts) → AreKept facts → (turn_by policy (Asks query) facts ≡ failure_turn query) ↔ FailsBy policy query facts
 failure_has_cause policy query facts kept = (fails_by policy query facts kept, failed_by policy query facts)

@@ -25,10 +25,10 @@ use Rattle.policy_snapshot.specs.Policy.{PlainPolicy}
 use Rattle.policy_snapshot.specs.Rules.{PlainRule, rules}
 use Rattle.reply_build.specs.declared.turn.Turn.{Turn}
 use Rattle.reply_build.specs.declared.turn.Turn.TheVariants.{Ask, Said}
-use Rattle.reply_build.specs.Reply.{Outcome, Place, needs, gives, silent, alias_outcome, by_action, by_alias, by_verdict, main_outcome, outcome_turn, over_tcp, pass_outcome, place_of, target_outcome, truncation}
+use Rattle.reply_build.specs.Reply.{ReplyOutcome, Place, needs, gives, silent, alias_outcome, by_action, by_alias, by_verdict, main_outcome, outcome_turn, over_tcp, pass_outcome, place_of, target_outcome, truncation}
 use Rattle.reply_build.specs.Target.{alias_in, target_of}
-use Rattle.reply_build.specs.Verdict.{PlainVerdict, passes, fails, hits as decides}
-use Rattle.query_session.specs.Session.{AsksAnew, question_in, turn_by, turn_by_next, verdict_turn, within_limit}
+use Rattle.reply_build.specs.Verdict.{PlainVerdict, passes, fails, applies as decides}
+use Rattle.query_session.specs.Session.{AsksAnew, question_in, turn_by, turn_by_next, verdict_turn, within_fact_limit}
 
 abbrev IsNew : PlainFacts → Option Question → Type 0
 IsNew facts question = IfSome question (λ q. fact_about facts q ≡ None)
@@ -149,7 +149,7 @@ next_is_new policy query facts =
 
 -- ---- what a reply needs
 
-abbrev OutcomeIsNew : PlainFacts → Outcome → Type 0
+abbrev OutcomeIsNew : PlainFacts → ReplyOutcome → Type 0
 OutcomeIsNew facts (needs question) = fact_about facts question ≡ None
 OutcomeIsNew facts (gives s) = Unit {0}
 OutcomeIsNew facts silent = Unit {0}
@@ -171,7 +171,7 @@ alias_is_new query facts ttl target place None e = e
 alias_is_new query facts ttl target place (Some (Broken why)) e = tt
 alias_is_new query facts ttl target place (Some (Answer answer)) e = tt
 
-unless_asked_is_new : (facts : PlainFacts) (b : Bool) (s : Outcome) (other : Outcome) → OutcomeIsNew facts s → OutcomeIsNew facts other → OutcomeIsNew facts (cond b s other)
+unless_asked_is_new : (facts : PlainFacts) (b : Bool) (s : ReplyOutcome) (other : ReplyOutcome) → OutcomeIsNew facts s → OutcomeIsNew facts other → OutcomeIsNew facts (cond b s other)
 unless_asked_is_new facts true s other h k = h
 unless_asked_is_new facts false s other h k = k
 
@@ -200,7 +200,7 @@ verdict_is_new query facts (decides action soa before name) = action_is_new quer
 
 -- ---- what a turn asks
 
-outcome_turn_is_new : (facts : PlainFacts) (limit : ℕ) (query : Query) (outcome : Outcome) → OutcomeIsNew facts outcome → IsNew facts (question_in (outcome_turn limit query outcome))
+outcome_turn_is_new : (facts : PlainFacts) (limit : ℕ) (query : Query) (outcome : ReplyOutcome) → OutcomeIsNew facts outcome → IsNew facts (question_in (outcome_turn limit query outcome))
 outcome_turn_is_new facts limit query (needs question) h = h
 outcome_turn_is_new facts limit query (gives s) h = tt
 outcome_turn_is_new facts limit query silent h = tt
@@ -218,7 +218,7 @@ room_by : (query : Query) (facts : PlainFacts) (question : Question) (b : Bool) 
 room_by query facts question true e h = (h, ltb-true (length facts) FACT_LIMIT e)
 room_by query facts question false e h = tt
 
-within_is_new : (query : Query) (facts : PlainFacts) (turn : Turn) → IsNew facts (question_in turn) → AsksAnew facts (question_in (within_limit query facts turn))
+within_is_new : (query : Query) (facts : PlainFacts) (turn : Turn) → IsNew facts (question_in turn) → AsksAnew facts (question_in (within_fact_limit query facts turn))
 within_is_new query facts (Said s) h = tt
 within_is_new query facts (Ask question) h = room_by query facts question (nat_lt (length facts) FACT_LIMIT) refl h
 

@@ -24,22 +24,22 @@ use Rattle.policy_snapshot.specs.Rules.{PlainRule, rules}
 use Rattle.policy_snapshot.specs.Settled.{is_settled}
 use Rattle.reply_build.specs.declared.turn.Turn.{Turn}
 use Rattle.reply_build.specs.declared.turn.Turn.TheVariants.{Ask, Said}
-use Rattle.reply_build.specs.Reply.{Outcome, Place, needs, gives, silent, alias_outcome, alias_record, by_action, by_alias, by_verdict, main_outcome, outcome_turn, over_tcp, pass_outcome, place_of, sections, target_outcome, truncation}
+use Rattle.reply_build.specs.Reply.{ReplyOutcome, Place, needs, gives, silent, alias_outcome, alias_record, by_action, by_alias, by_verdict, main_outcome, outcome_turn, over_tcp, pass_outcome, place_of, sections, target_outcome, truncation}
 use Rattle.reply_build.specs.Target.{alias_in, target_of}
-use Rattle.reply_build.specs.Verdict.{PlainVerdict, passes, fails, hits as decides}
+use Rattle.reply_build.specs.Verdict.{PlainVerdict, passes, fails, applies as decides}
 use Rattle.query_session.specs.Laws.{is_said}
-use Rattle.query_session.specs.Session.{turn_by, turn_by_next, verdict_turn, within_limit}
+use Rattle.query_session.specs.Session.{turn_by, turn_by_next, verdict_turn, within_fact_limit}
 
 abbrev Name : Type 0
 Name = List (List ℕ)
 
 -- nothing is needed any more
-abbrev is_met : Outcome → Bool
+abbrev is_met : ReplyOutcome → Bool
 is_met (needs question) = false
 is_met (gives s) = true
 is_met silent = true
 
-met : (limit : ℕ) (query : Query) (outcome : Outcome) → is_said (outcome_turn limit query outcome) ≡ true → is_met outcome ≡ true
+met : (limit : ℕ) (query : Query) (outcome : ReplyOutcome) → is_said (outcome_turn limit query outcome) ≡ true → is_met outcome ≡ true
 met limit query (needs question) t = t
 met limit query (gives s) t = refl
 met limit query silent t = refl
@@ -66,7 +66,7 @@ module _ (query : Query) (facts more : PlainFacts) (known : StaysKnown facts mor
   alias_stays ttl target place None other same t = absurd (true≢false (sym t))
   alias_stays ttl target place (Some fact) other same t = ap (alias_outcome query ttl target place) (same fact refl)
 
-  unless_asked_stays : (b : Bool) (s outcome other : Outcome) → (is_met outcome ≡ true → other ≡ outcome) → is_met (cond b s outcome) ≡ true → cond b s other ≡ cond b s outcome
+  unless_asked_stays : (b : Bool) (s outcome other : ReplyOutcome) → (is_met outcome ≡ true → other ≡ outcome) → is_met (cond b s outcome) ≡ true → cond b s other ≡ cond b s outcome
   unless_asked_stays true s outcome other same t = refl
   unless_asked_stays false s outcome other same t = same t
 
@@ -170,8 +170,8 @@ module _ (query : Query) (facts more : PlainFacts) (known : StaysKnown facts mor
   room_asks question true turn e t = true≢false (sym t)
   room_asks question false turn e t = true≢false (sym e)
 
-  within_stays : (turn other : Turn) → nat_lt (length facts) FACT_LIMIT ≡ true → is_said (within_limit query facts turn) ≡ true → (is_said turn ≡ true → other ≡ turn) → within_limit query more other ≡ within_limit query facts turn
-  within_stays (Said s) other room t same = ap (within_limit query more) (same refl)
+  within_stays : (turn other : Turn) → nat_lt (length facts) FACT_LIMIT ≡ true → is_said (within_fact_limit query facts turn) ≡ true → (is_said turn ≡ true → other ≡ turn) → within_fact_limit query more other ≡ within_fact_limit query facts turn
+  within_stays (Said s) other room t same = ap (within_fact_limit query more) (same refl)
   within_stays (Ask question) other room t same = absurd (room_asks question (nat_lt (length facts) FACT_LIMIT) (verdict_turn query facts fails) room t)
 
   query_stays : (policy : PlainPolicy) → (is_settled (next policy query facts) ≡ true → next policy query more ≡ next policy query facts) → nat_lt (length facts) FACT_LIMIT ≡ true → is_said (turn_by policy (Asks query) facts) ≡ true → turn_by policy (Asks query) more ≡ turn_by policy (Asks query) facts

@@ -1,6 +1,7 @@
 -- What sessions come to: a reply after at most FACT_LIMIT facts, and why it may have rcode 2.
 use Rattle.std.specs.Prelude.{◌≡◌, ◌≤◌, ℕ, zero, suc, Bool, true, false, length, List, [], ◌∷◌, ◌++◌, Option, Some, None}
 use Rattle.std.specs.List.{AllByRecursion}
+use Rattle.dns_name.specs.Labels.{Name}
 use Rattle.dns_record.specs.Record.{PlainRecord}
 use Rattle.dns_message.specs.declared.question.Question.{Question}
 use Rattle.dns_message.specs.declared.request.Incoming.{Incoming}
@@ -22,7 +23,7 @@ use Rattle.reply_build.specs.declared.turn.Turn.{Turn}
 use Rattle.reply_build.specs.declared.turn.Turn.TheVariants.{Ask, Said}
 use Rattle.reply_build.specs.Reply.{by_verdict, needs, reply_of, server_failure}
 use Rattle.reply_build.specs.Target.{alias_in, target_of}
-use Rattle.reply_build.specs.Verdict.{PlainVerdict, passes, hits}
+use Rattle.reply_build.specs.Verdict.{PlainVerdict, passes, applies}
 use Rattle.policy_snapshot.specs.Next.{Next, ask, decided_by, no_hit, chain_too_long, next}
 use Rattle.policy_snapshot.specs.Policy.{PlainPolicy}
 use Rattle.query_session.specs.Session.{turn_by}
@@ -64,18 +65,18 @@ IsBroken facts question = (why : AnswerFault) × (fact_about facts question ≡ 
 -- and the query came over TCP (draft-vixie-dnsop-dns-rpz, sections 3.3 and 3.5).
 pub data LetsPass (query : Query) : PlainVerdict → Type 0 where
   no_rule : LetsPass query passes
-  pass_thru : (soa : PlainRecord) (before : List (List (List ℕ))) (name : List (List ℕ))
-      → LetsPass query (hits PassThru soa before name)
-  tcp_only : (soa : PlainRecord) (before : List (List (List ℕ))) (name : List (List ℕ))
-      → query.transport ≡ Tcp → LetsPass query (hits TcpOnly soa before name)
+  pass_thru : (soa : PlainRecord) (before : List Name) (name : Name)
+      → LetsPass query (applies PassThru soa before name)
+  tcp_only : (soa : PlainRecord) (before : List Name) (name : Name)
+      → query.transport ≡ Tcp → LetsPass query (applies TcpOnly soa before name)
 
 -- The rule that decides has one CNAME record as its local data, which leads to this name; None where that is longer
 -- than a name may be (section 3.6).
-pub data LeadsTo : PlainVerdict → Option (List (List ℕ)) → Type 0 where
+pub data LeadsTo : PlainVerdict → Option Name → Type 0 where
   alias : (rows : List PlainLocal) (row : PlainLocal) (soa : PlainRecord)
-      (before : List (List (List ℕ))) (name : List (List ℕ)) (target : Option (List (List ℕ)))
+      (before : List Name) (name : Name) (target : Option Name)
       → alias_in rows ≡ Some row → target_of name row.rdata ≡ target
-      → LeadsTo (hits (Local rows) soa before name) target
+      → LeadsTo (applies (Local rows) soa before name) target
 
 -- Why the reply to what is decided of a query has rcode 2, by what is known.
 pub data HasCause (query : Query) (verdict : PlainVerdict) (facts : PlainFacts) : Type 0 where
@@ -85,14 +86,14 @@ pub data HasCause (query : Query) (verdict : PlainVerdict) (facts : PlainFacts) 
   -- the name that the rule's CNAME record leads to is too long
   too_long : LeadsTo verdict None → HasCause query verdict facts
   -- the rule's CNAME record itself isn't asked for, and the upstream has no answer about the name that it leads to
-  no_target : (target : List (List ℕ)) → LeadsTo verdict (Some target)
+  no_target : (target : Name) → LeadsTo verdict (Some target)
       → asks_alias query.question.qtype ≡ false
       → IsBroken facts (question_of target query.question.qtype) → HasCause query verdict facts
 
 -- what is decided where this comes next: by the rule that is hit, or that no rule is hit; None where nothing is decided
 abbrev pub verdict_in : Next → Option PlainVerdict
 verdict_in (ask question) = None
-verdict_in (decided_by before name hit) = Some (hits hit.action hit.soa before name)
+verdict_in (decided_by before name hit) = Some (applies hit.action hit.soa before name)
 verdict_in no_hit = Some passes
 verdict_in chain_too_long = None
 

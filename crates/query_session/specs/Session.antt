@@ -13,7 +13,7 @@ use Rattle.reply_build.specs.declared.said.Said.TheVariants as said
 use Rattle.reply_build.specs.declared.turn.Turn.{Turn}
 use Rattle.reply_build.specs.declared.turn.Turn.TheVariants.{Ask, Said}
 use Rattle.reply_build.specs.Reply.{reply}
-use Rattle.reply_build.specs.Verdict.{PlainVerdict, passes, fails, hits}
+use Rattle.reply_build.specs.Verdict.{PlainVerdict, passes, fails, applies}
 use Rattle.policy_snapshot.specs.Next.{Next, ask, decided_by, no_hit, chain_too_long, next, next_at}
 use Rattle.policy_snapshot.specs.Policy.{PlainPolicy}
 use Rattle.policy_snapshot.specs.Rules.{rules}
@@ -28,14 +28,14 @@ verdict_turn query facts verdict = reply (reply_limit query) query verdict facts
 abbrev pub turn_by_next : Query → PlainFacts → Next → Turn
 turn_by_next query facts (ask question) = Ask question
 turn_by_next query facts (decided_by before name hit) =
-    verdict_turn query facts (hits hit.action hit.soa before name)
+    verdict_turn query facts (applies hit.action hit.soa before name)
 turn_by_next query facts no_hit = verdict_turn query facts passes
 turn_by_next query facts chain_too_long = verdict_turn query facts fails
 
 -- a question is asked while fewer than FACT_LIMIT facts are known; there is no answer where one more is needed
-abbrev pub within_limit : Query → PlainFacts → Turn → Turn
-within_limit query facts (Said s) = Said s
-within_limit query facts (Ask question) =
+abbrev pub within_fact_limit : Query → PlainFacts → Turn → Turn
+within_fact_limit query facts (Said s) = Said s
+within_fact_limit query facts (Ask question) =
     if nat_lt (length facts) FACT_LIMIT then Ask question else verdict_turn query facts fails
 
 -- What is done about a message under a policy, by what is known. A refusal has at most the question and the OPT record, and
@@ -44,7 +44,7 @@ abbrev pub turn_by : PlainPolicy → Incoming → PlainFacts → Turn
 turn_by policy Silent facts = Said said.Silent
 turn_by policy (Refuse message) facts = Said (said.Reply (spelling_within LEAST_LIMIT message))
 turn_by policy (Asks query) facts =
-    within_limit query facts (turn_by_next query facts (next policy query facts))
+    within_fact_limit query facts (turn_by_next query facts (next policy query facts))
 
 -- what a session does at this point
 abbrev pub turn_of : SessionState → Turn

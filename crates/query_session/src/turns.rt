@@ -4,7 +4,7 @@ ghost use Rattle.std.specs.Prelude.{◌≡◌, ◌≤◌, [], ◌∷◌, length,
 ghost use Rattle.dns_message.specs.declared.question.Question.{Question};
 ghost use Rattle.policy_snapshot.specs.Next.{next, next_along, next_at, next_behind, next_in_chain};
 ghost use Rattle.policy_snapshot.specs.Rules.{rules};
-ghost use Rattle.query_session.specs.Session.{PassesName, turn_by_next, within_limit};
+ghost use Rattle.query_session.specs.Session.{PassesName, turn_by_next, within_fact_limit};
 ghost use Rattle.reply_build.specs.Short.{SaysShort};
 ghost use Rattle.upstream_link.specs.Chain as chains;
 ghost use Rattle.upstream_link.specs.Facts.{fact_about};
@@ -30,7 +30,7 @@ pub(crate) fn turn_about(
 ) -> Result<(Turn, bool), AllocError>
     requires { passed ≡ true → PassesName policy.now.zones query.now facts.now }
     ensures turn { IfOk result (λ turn. turn.0
-        ≡ within_limit query.now facts.now
+        ≡ within_fact_limit query.now facts.now
         (turn_by_next query.now facts.now (next policy.now.zones query.now facts.now))) }
     ensures passes { IfOk result
         (λ turn. turn.1 ≡ true → PassesName policy.now.zones query.now facts.now) }
@@ -43,7 +43,7 @@ pub(crate) fn turn_about(
 // A question is asked while there is room for one fact more.
 fn limited(alloc: Global, query: &Query, facts: &Facts, turn: Turn) -> Result<Turn, AllocError>
     requires { SaysShort turn }
-    ensures turn { IfOk result (λ limited. limited ≡ within_limit query.now facts.now turn) }
+    ensures turn { IfOk result (λ limited. limited ≡ within_fact_limit query.now facts.now turn) }
     ensures short { IfOk result SaysShort }
 {
     match turn {

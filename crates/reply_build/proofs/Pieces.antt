@@ -17,7 +17,7 @@ use Rattle.reply_build.specs.declared.draft_outcome.DraftOutcome.TheVariants.{Ne
 use Rattle.reply_build.specs.Draft.{draft_octets, draft_of, draft_outcome}
 use Rattle.reply_build.specs.declared.said.Said.TheVariants.{Reply}
 use Rattle.reply_build.specs.declared.turn.Turn.TheVariants.{Said}
-use Rattle.reply_build.specs.Reply.{Outcome, needs, gives, silent, outcome_turn, Place, Sections, reply_header, reply_of, local_record, alias_record, is_asked, denial, local_answer, sections}
+use Rattle.reply_build.specs.Reply.{ReplyOutcome, needs, gives, silent, outcome_turn, Place, Sections, reply_header, reply_of, local_record, alias_record, is_asked, denial, local_answer, sections}
 use Rattle.reply_build.specs.Start.{empty_sections, rule_start, rule_sections, alias_reply}
 
 no_records : (octets : List ℕ) → octets ++ records_octets [] ≡ octets
@@ -179,7 +179,7 @@ draft_in other (Gives draft) = draft
 draft_in other Silent = other
 
 -- the turn where the outcome is a draft
-pub turn_gives : (limit : ℕ) (query : Query) (outcome : Outcome) (draft : Draft) (bytes : List ℕ) → Gives draft ≡ draft_outcome query outcome
+pub turn_gives : (limit : ℕ) (query : Query) (outcome : ReplyOutcome) (draft : Draft) (bytes : List ℕ) → Gives draft ≡ draft_outcome query outcome
     → ((s : Sections) → draft ≡ draft_of query s → bytes ≡ spelling_within limit (reply_of query s))
     → Said (Reply bytes) ≡ outcome_turn limit query outcome
 unfolding draft_in

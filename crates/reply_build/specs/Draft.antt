@@ -6,7 +6,7 @@ use Rattle.dns_message.specs.Spelling.{opt_count, records_octets, start_octets}
 use Rattle.reply_build.specs.declared.draft.Draft.{Draft}
 use Rattle.reply_build.specs.declared.draft_outcome.DraftOutcome.{DraftOutcome}
 use Rattle.reply_build.specs.declared.draft_outcome.DraftOutcome.TheVariants.{Needs, Gives, Silent}
-use Rattle.reply_build.specs.Reply.{Sections, Outcome, needs, gives, silent, reply_header}
+use Rattle.reply_build.specs.Reply.{Sections, ReplyOutcome, needs, gives, silent, reply_header}
 
 -- the reply but for its OPT record, which its counts have
 abbrev pub draft_octets : Query → Sections → List ℕ
@@ -20,7 +20,7 @@ draft_of query s =
     record { header = reply_header s.tc s.rcode query; octets = draft_octets query s }
 
 -- an outcome, with its reply as a draft
-abbrev pub draft_outcome : Query → Outcome → DraftOutcome
+abbrev pub draft_outcome : Query → ReplyOutcome → DraftOutcome
 draft_outcome query (needs question) = Needs question
 draft_outcome query (gives s) = Gives (draft_of query s)
 draft_outcome query silent = Silent

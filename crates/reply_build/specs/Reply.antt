@@ -2,7 +2,7 @@
 -- (draft-vixie-dnsop-dns-rpz, section 3).
 use Rattle.std.specs.Prelude.{ℕ, Bool, true, false, ◌==◌, ◌||◌, if◌then◌else◌, List, [], ◌∷◌, ◌++◌, map, filter, Option, Some, None}
 use Rattle.std.specs.Option.{option_to_list}
-use Rattle.dns_name.specs.Labels.{name_octets}
+use Rattle.dns_name.specs.Labels.{name_octets, Name}
 use Rattle.dns_record.specs.Record.{PlainRecord}
 use Rattle.dns_message.specs.declared.header.Header.{Header}
 use Rattle.dns_message.specs.declared.message.Message.{Message}
@@ -13,6 +13,8 @@ use Rattle.dns_message.specs.Limit.{spelling_within}
 use Rattle.dns_message.specs.Request.{reply_edns}
 use Rattle.ip_prefix.specs.declared.Transport.{Transport}
 use Rattle.ip_prefix.specs.declared.Transport.TheVariants.{Udp, Tcp}
+use Rattle.dns_record.specs.declared.rtype.TheConstants.{ANY, CNAME}
+use Rattle.dns_record.specs.declared.class.TheConstants.{IN}
 use Rattle.action_codec.specs.Local.{PlainLocal}
 use Rattle.action_codec.specs.declared.action.Action.{Action}
 use Rattle.action_codec.specs.declared.action.Action.TheVariants.{NxDomain, NoData, PassThru, Drop, TcpOnly, Local}
@@ -26,7 +28,7 @@ use Rattle.reply_build.specs.declared.said.Said.TheVariants.{Reply, Silent}
 use Rattle.reply_build.specs.declared.turn.Turn.{Turn}
 use Rattle.reply_build.specs.declared.turn.Turn.TheVariants.{Ask, Said}
 use Rattle.reply_build.specs.Target.{alias_in, target_of}
-use Rattle.reply_build.specs.Verdict.{PlainVerdict, passes, fails, hits}
+use Rattle.reply_build.specs.Verdict.{PlainVerdict, passes, fails, applies}
 
 -- a response that keeps the ID and RD of the query (RFC 1035, section 4.1.1)
 abbrev pub reply_header : Bool → ℕ → Query → Header
@@ -79,7 +81,7 @@ server_failure = sections 2 [] [] []
 -- the rule's zone.
 pub record Place : Type 0 where
   pub kept : List PlainRecord
-  pub name : List (List ℕ)
+  pub name : Name
   pub soa : PlainRecord
 
 -- no answer by the policy, with the SOA record of its zone: rcode 3 where the name doesn't exist (section 3.1), and 0
@@ -101,30 +103,30 @@ answer_sections answer = sections answer.rcode (aged_answers answer) (soa_list a
 
 -- What a query comes to, by what is decided of it and what is known: it needs the answer to a question, or gives a reply
 -- of these sections, or nothing is said.
-pub data Outcome : Type 0 where
-  needs : Question → Outcome
-  gives : Sections → Outcome
-  silent : Outcome
+pub data ReplyOutcome : Type 0 where
+  needs : Question → ReplyOutcome
+  gives : Sections → ReplyOutcome
+  silent : ReplyOutcome
 
 -- the answer of the upstream to this question passes (section 3.3)
-abbrev pub pass_outcome : Question → Option Fact → Outcome
+abbrev pub pass_outcome : Question → Option Fact → ReplyOutcome
 pass_outcome question None = needs question
 pass_outcome question (Some (Broken why)) = gives server_failure
 pass_outcome question (Some (Answer answer)) = gives (answer_sections answer)
 
 -- the answer of the upstream to the query's own question passes
-abbrev pub main_outcome : Query → PlainFacts → Outcome
+abbrev pub main_outcome : Query → PlainFacts → ReplyOutcome
 main_outcome query facts =
     pass_outcome (main_question query) (fact_about facts (main_question query))
 
 -- local data as a record of this owner, in class IN
-abbrev pub local_record : List (List ℕ) → PlainLocal → PlainRecord
+abbrev pub local_record : Name → PlainLocal → PlainRecord
 local_record owner row =
     record { owner = owner; rtype = row.rtype; class = 1; ttl = row.ttl; rdata = row.rdata }
 
 -- the row has the type that is asked for; ANY asks for all (RFC 1035, section 3.2.3)
 abbrev pub is_asked : ℕ → PlainLocal → Bool
-is_asked qtype row = qtype == 255 || row.rtype == qtype
+is_asked qtype row = qtype == ANY || row.rtype == qtype
 
 -- the rows that are asked for, whose owner is the name as it was asked or as the alias before it spells it, and the SOA record of
 -- the zone (section 3.6)
@@ -135,9 +137,9 @@ local_answer query rows place =
     (place.soa ∷ [])
 
 -- the alias of a name, to its target
-abbrev pub alias_record : List (List ℕ) → ℕ → List (List ℕ) → PlainRecord
+abbrev pub alias_record : Name → ℕ → Name → PlainRecord
 alias_record owner ttl target =
-    record { owner = owner; rtype = 5; class = 1; ttl = ttl; rdata = name_octets target }
+    record { owner = owner; rtype = CNAME; class = IN; ttl = ttl; rdata = name_octets target }
 
 -- an alias and the answer of the upstream about its target: its rcode, its answers, and its SOA in the authority section
 abbrev pub alias_sections : Place → PlainRecord → PlainAnswer → Sections
@@ -146,7 +148,7 @@ alias_sections place alias answer =
     (place.soa ∷ [])
 
 -- the alias to a target of which this is known
-abbrev pub alias_outcome : Query → ℕ → List (List ℕ) → Place → Option Fact → Outcome
+abbrev pub alias_outcome : Query → ℕ → Name → Place → Option Fact → ReplyOutcome
 alias_outcome query ttl target place None = needs (question_of target query.question.qtype)
 alias_outcome query ttl target place (Some (Broken why)) = gives server_failure
 alias_outcome query ttl target place (Some (Answer answer)) =
@@ -154,7 +156,7 @@ alias_outcome query ttl target place (Some (Answer answer)) =
 
 -- the alias to this target, which is None where it is longer than a name may be; the alias alone where the alias itself is
 -- asked for
-abbrev pub target_outcome : Query → ℕ → Place → PlainFacts → Option (List (List ℕ)) → Outcome
+abbrev pub target_outcome : Query → ℕ → Place → PlainFacts → Option Name → ReplyOutcome
 target_outcome query ttl place facts None = gives server_failure
 target_outcome query ttl place facts (Some target) =
     if asks_alias query.question.qtype
@@ -163,13 +165,14 @@ target_outcome query ttl place facts (Some target) =
     else alias_outcome query ttl target place
     (fact_about facts (question_of target query.question.qtype))
 
-abbrev pub by_alias : Query → List PlainLocal → Place → PlainFacts → Option PlainLocal → Outcome
+abbrev pub by_alias : Query → List PlainLocal → Place → PlainFacts → Option PlainLocal →
+    ReplyOutcome
 by_alias query rows place facts None = gives (local_answer query rows place)
 by_alias query rows place facts (Some row) =
     target_outcome query row.ttl place facts (target_of place.name row.rdata)
 
 -- local data, or the alias that it is
-abbrev pub local_outcome : Query → List PlainLocal → Place → PlainFacts → Outcome
+abbrev pub local_outcome : Query → List PlainLocal → Place → PlainFacts → ReplyOutcome
 local_outcome query rows place facts = by_alias query rows place facts (alias_in rows)
 
 abbrev pub over_tcp : Transport → Bool
@@ -177,12 +180,12 @@ over_tcp Udp = false
 over_tcp Tcp = true
 
 -- the answer of the upstream passes over TCP; over UDP the reply is truncated
-abbrev pub tcp_only_outcome : Query → PlainFacts → Outcome
+abbrev pub tcp_only_outcome : Query → PlainFacts → ReplyOutcome
 tcp_only_outcome query facts =
     if over_tcp query.transport then main_outcome query facts else gives truncation
 
 -- what a rule's action comes to; nothing is said for DROP (section 3.4)
-abbrev pub by_action : Query → PlainFacts → Place → Action → Outcome
+abbrev pub by_action : Query → PlainFacts → Place → Action → ReplyOutcome
 by_action query facts place NxDomain = gives (denial 3 place)
 by_action query facts place NoData = gives (denial 0 place)
 by_action query facts place PassThru = main_outcome query facts
@@ -192,7 +195,7 @@ by_action query facts place (Local rows) = local_outcome query rows place facts
 
 -- where a rule decides that is hit behind these names: the aliases are those of the answer to the query, with what is left of
 -- their TTLs
-abbrev pub place_of : Query → PlainFacts → PlainRecord → List (List (List ℕ)) → List (List ℕ) →
+abbrev pub place_of : Query → PlainFacts → PlainRecord → List Name → Name →
     Place
 place_of query facts soa before name =
     record {
@@ -201,14 +204,14 @@ place_of query facts soa before name =
       soa = soa;
     }
 
-abbrev pub by_verdict : Query → PlainVerdict → PlainFacts → Outcome
+abbrev pub by_verdict : Query → PlainVerdict → PlainFacts → ReplyOutcome
 by_verdict query passes facts = main_outcome query facts
 by_verdict query fails facts = gives server_failure
-by_verdict query (hits action soa before name) facts =
+by_verdict query (applies action soa before name) facts =
     by_action query facts (place_of query facts soa before name) action
 
 -- the question is asked, or the reply is sent, in its truncated form where it is longer than the limit
-abbrev pub outcome_turn : ℕ → Query → Outcome → Turn
+abbrev pub outcome_turn : ℕ → Query → ReplyOutcome → Turn
 outcome_turn limit query (needs question) = Ask question
 outcome_turn limit query (gives s) = Said (Reply (spelling_within limit (reply_of query s)))
 outcome_turn limit query silent = Said Silent

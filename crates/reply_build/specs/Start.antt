@@ -1,5 +1,6 @@
 -- How a reply by a rule is written: its start, and what follows.
 use Rattle.std.specs.Prelude.{ℕ, ◌+◌, Bool, List, [], ◌∷◌, ◌++◌, length, Some, is_some}
+use Rattle.dns_name.specs.Labels.{Name}
 use Rattle.dns_record.specs.Record.{PlainRecord}
 use Rattle.dns_message.specs.declared.header.Header.{Header}
 use Rattle.dns_message.specs.declared.request.Query.{Query}
@@ -9,7 +10,7 @@ use Rattle.upstream_link.specs.Chain.{alias_of}
 use Rattle.reply_build.specs.Reply.{Place, Sections, sections, alias_record}
 
 -- the records have an alias of this name
-abbrev pub has_alias : List PlainRecord → List (List ℕ) → Bool
+abbrev pub has_alias : List PlainRecord → Name → Bool
 has_alias records name = is_some (alias_of records name)
 
 -- the header, the question and the aliases that led to a place, where so many answers and authorities follow, and then the SOA
@@ -25,7 +26,7 @@ rule_sections rcode place answers authority =
     sections rcode (place.kept ++ answers) authority (place.soa ∷ [])
 
 -- the reply by a rule that is an alias to this target, with these answers behind it
-abbrev pub alias_reply : ℕ → Place → ℕ → List (List ℕ) → List PlainRecord → List PlainRecord →
+abbrev pub alias_reply : ℕ → Place → ℕ → Name → List PlainRecord → List PlainRecord →
     Sections
 alias_reply rcode place ttl target answers authority =
     rule_sections rcode place (alias_record place.name ttl target ∷ answers) authority

@@ -1,5 +1,6 @@
 -- What is decided of a query.
 use Rattle.std.specs.Prelude.{ℕ, List}
+use Rattle.dns_name.specs.Labels.{Name}
 use Rattle.dns_record.specs.Record.{PlainRecord}
 use Rattle.action_codec.specs.declared.action.Action.{Action}
 use Rattle.reply_build.specs.declared.verdict.Verdict.{Verdict}
@@ -10,10 +11,10 @@ use Rattle.reply_build.specs.declared.verdict.Verdict.TheVariants.{Pass, Fail, H
 pub data PlainVerdict : Type 0 where
   passes : PlainVerdict
   fails : PlainVerdict
-  hits : Action → PlainRecord → List (List (List ℕ)) → List (List ℕ) → PlainVerdict
+  applies : Action → PlainRecord → List Name → Name → PlainVerdict
 
 -- what the code holds by reference
 abbrev pub verdict_of : Verdict → PlainVerdict
 verdict_of Pass = passes
 verdict_of Fail = fails
-verdict_of (Hit action soa before name) = hits action.now soa.now before.now name.now
+verdict_of (Hit action soa before name) = applies action.now soa.now before.now name.now

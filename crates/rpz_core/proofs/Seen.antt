@@ -6,7 +6,7 @@ use Rattle.zone_rows.specs.declared.transfer.Transfer as transfers
 use Rattle.zone_rows.specs.declared.zone.PlainZone.{PlainZone}
 use Rattle.zone_rows.specs.Zone.{apply_outcome}
 use Rattle.axfr_apply.specs.declared.taken.Taken.TheVariants as taken
-use Rattle.axfr_apply.specs.Reading.{Outcome}
+use Rattle.axfr_apply.specs.Reading.{TransferOutcome}
 use Rattle.ixfr_apply.specs.Stream.{reading}
 use Rattle.policy_snapshot.specs.declared.entry.Entry.{Entry}
 use Rattle.policy_snapshot.specs.Policy.{PlainPolicy, zone_at, policy_after}
@@ -54,7 +54,7 @@ outcome_takes zone t (Ok after) is transfer next e =
     ap (apply_outcome zone) (sym same_transfer) ∙ is ∙ ap (λ (z : PlainZone). let r : Result PlainZone ApplyFault = Ok z in r) same_zone
 outcome_takes zone t (Err fault) is transfer next e = absurd cc
 
-pub reading_takes : (zone : PlainZone) (read : Outcome) (transfer : transfers.Transfer) (next : PlainZone) → offer_by_reading zone read ≡ takes transfer next → apply_outcome zone transfer ≡ Ok next
+pub reading_takes : (zone : PlainZone) (read : TransferOutcome) (transfer : transfers.Transfer) (next : PlainZone) → offer_by_reading zone read ≡ takes transfer next → apply_outcome zone transfer ≡ Ok next
 reading_takes zone (Ok (taken.Current theirs)) transfer next e = absurd cc
 reading_takes zone (Ok (taken.New t)) transfer next e = outcome_takes zone t (apply_outcome zone t) refl transfer next e
 reading_takes zone (Err fault) transfer next e = absurd cc

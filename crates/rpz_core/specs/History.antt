@@ -1,5 +1,6 @@
 -- What led to a reply of the core: what happened, the policy under which the query came, and the facts that were obtained for it.
 use Rattle.std.specs.Prelude.{◌≡◌, ℕ, ◌≤◌, List, [], ◌∷◌, length, take, Some, None, Ok, slice_get}
+use Rattle.dns_name.specs.Labels.{Name}
 use Rattle.answer_cache.specs.declared.cache.TheConstants.{MOST_ENTRIES}
 use Rattle.answer_cache.specs.Recent.{after_keep, live_entry}
 use Rattle.dns_message.specs.declared.request.Incoming.{Incoming}
@@ -24,7 +25,7 @@ use Rattle.rpz_core.specs.Sessions.{PendingQuery, facts_with, learned_by}
 use Rattle.rpz_core.specs.World.{World, new_world, policy_of, world_step}
 
 -- These events, the last one first, lead from zones of these origins with nothing loaded to this world.
-pub data Reaches (origins : List (List (List ℕ))) : List Event → World → Type 0 where
+pub data Reaches (origins : List Name) : List Event → World → Type 0 where
   begins : Reaches origins [] (new_world origins)
   goes_on : (events : List Event) (event : Event) (world next : World) (out : Output)
       → Reaches origins events world → world_step world event ≡ Ok (next, out)
@@ -36,7 +37,7 @@ IsPendingAt world worker pending = slice_get world.sessions.workers worker ≡ S
 
 -- After these events the last query of this worker is this one, it came under this policy, and these are the facts that were
 -- obtained for it, in order.
-pub data AreObtained (origins : List (List (List ℕ))) (worker : ℕ) : List Event → PlainPolicy →
+pub data AreObtained (origins : List Name) (worker : ℕ) : List Event → PlainPolicy →
     Incoming → PlainFacts → Type 0 where
   -- It comes, under the policy after the transfers accepted so far. What is known by then is what live entries of the cache say.
   comes : (events : List Event) (world : World) (transport : Transport) (client : Addr)
@@ -44,8 +45,8 @@ pub data AreObtained (origins : List (List (List ℕ))) (worker : ℕ) : List Ev
       → Reaches origins events world
       → AreAnswered world.clock (policy_of world) (incoming_of message client transport)
       world.sessions.cached [] facts
-      → AreObtained origins worker (Query worker transport client message ∷ events) (policy_of world)
-      (incoming_of message client transport) facts
+      → AreObtained origins worker (Query worker transport client message ∷ events)
+      (policy_of world) (incoming_of message client transport) facts
   -- Bytes come for the question that it asked, and are cached: the fact is what they say under the ID that was asked with. Behind
   -- it comes what live entries of the cache say.
   given : (events : List Event) (world : World) (message : List ℕ) (pending : PendingQuery)
@@ -80,7 +81,7 @@ pub record IsEarlierPolicy (world : World) (policy : PlainPolicy) : Type 0 where
   pub policy_is : policy ≡ policy_after world.origins (take count world.accepted)
 
 -- A pending query waits for the answer to what its policy asks, by the facts that were obtained for it.
-pub record IsPendingAs (origins : List (List (List ℕ))) (events : List Event) (world : World)
+pub record IsPendingAs (origins : List Name) (events : List Event) (world : World)
     (worker : ℕ) (pending : PendingQuery) : Type 0 where
   pub earlier : IsEarlierPolicy world pending.policy
   pub obtained : AreObtained origins worker events pending.policy pending.incoming pending.facts
@@ -95,7 +96,7 @@ pub record IsAskedAs (world : World) (worker : ℕ) (message : List ℕ) : Type 
 
 -- What is said to the last query of a worker is what the policy answers under which it came, by the facts that were obtained for
 -- it.
-pub record IsAnsweredAs (origins : List (List (List ℕ))) (events : List Event) (world : World)
+pub record IsAnsweredAs (origins : List Name) (events : List Event) (world : World)
     (worker : ℕ) (said : Said) : Type 0 where
   pub policy : PlainPolicy
   pub incoming : Incoming
@@ -105,7 +106,7 @@ pub record IsAnsweredAs (origins : List (List (List ℕ))) (events : List Event)
   pub answers : turn_by policy incoming facts ≡ turn.Said said
 
 -- By one of these events these bytes came for the question of a pending query, at that second, under the ID that was asked with.
-pub data IsLearned (origins : List (List (List ℕ))) : List Event → PlainLearned → Type 0 where
+pub data IsLearned (origins : List Name) : List Event → PlainLearned → Type 0 where
   now : (events : List Event) (world : World) (worker : ℕ) (message : List ℕ)
       (pending : PendingQuery)
       → Reaches origins events world → IsPendingAt world worker pending

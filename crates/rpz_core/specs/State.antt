@@ -1,6 +1,7 @@
 -- The state of the core in code, which sees of the accepted transfers the policy that they make, and what each event does to it.
 use Rattle.std.specs.Prelude.{◌≡◌, ℕ, ◌-◌, Bool, true, List, length, Option, Some, None, Result, Ok, Err, slice_set}
 use Rattle.std.specs.declared.alloc.AllocError.{AllocError}
+use Rattle.dns_name.specs.Labels.{Name}
 use Rattle.zone_rows.specs.declared.zone.PlainZone.{PlainZone}
 use Rattle.policy_snapshot.specs.Policy.{zone_at}
 use Rattle.policy_snapshot.specs.Stands.{PlainSnapshot, new_snapshot, next_count, count_of}
@@ -24,7 +25,7 @@ pub record CoreState : Type 0 where
   pub sessions : SessionsState
   pub clock : ℕ
 
-abbrev pub new_core : List (List (List ℕ)) → CoreState
+abbrev pub new_core : List Name → CoreState
 new_core origins =
     record {
       policy = new_snapshot origins;

@@ -1,5 +1,6 @@
 -- The world of the core, and what each event does to it.
 use Rattle.std.specs.Prelude.{ℕ, Bool, true, List, [], ◌∷◌, ◌++◌, Option, Some, None, Result, Ok, Err}
+use Rattle.dns_name.specs.Labels.{Name}
 use Rattle.zone_rows.specs.declared.zone.PlainZone.{PlainZone}
 use Rattle.policy_snapshot.specs.declared.entry.Entry.{Entry}
 use Rattle.policy_snapshot.specs.Policy.{PlainPolicy, zone_at, policy_after}
@@ -17,13 +18,13 @@ use Rattle.rpz_core.specs.Sessions.{SessionsState, no_sessions, take_query, take
 -- the origins of the policy's zones, the accepted transfers in order, which zones are marked, so that all of them is asked for
 -- next, the workers with their pending queries, what is cached, and the clock in seconds
 pub record World : Type 0 where
-  pub origins : List (List (List ℕ))
+  pub origins : List Name
   pub accepted : List Entry
   pub marks : List Bool
   pub sessions : SessionsState
   pub clock : ℕ
 
-abbrev pub new_world : List (List (List ℕ)) → World
+abbrev pub new_world : List Name → World
 new_world origins =
     record {
       origins = origins;

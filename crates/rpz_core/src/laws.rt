@@ -1,6 +1,7 @@
 //! Laws of the world and its steps. Each function is its clauses, and does nothing.
 
 ghost use Rattle.std.specs.Prelude.{◌≡◌, ◌≢◌, ◌↔◌, ◌-◌, ℕ, List, ◌∷◌, Contains, length, Some, None, Ok, Err};
+ghost use Rattle.dns_name.specs.Labels.{Name};
 ghost use Rattle.answer_cache.specs.Recent.{AreApart, HaveSameEntries, live_entry};
 ghost use Rattle.dns_message.specs.declared.question.Question.{Question};
 ghost use Rattle.dns_message.specs.declared.request.Incoming.{Incoming};
@@ -35,26 +36,26 @@ use query_session::laws::what_is_obtained_is_kept;
 /// is what the policy asks. The policy is that after the transfers that were accepted when the query came, each of which its zone
 /// took as those before it left the policy.
 pub fn each_reply_is_the_policys_answer()
-    ensures origins { (origins : List (List (List ℕ))) (events : List Event) (world : World) →
+    ensures origins { (origins : List Name) (events : List Event) (world : World) →
         Reaches origins events world → world.origins ≡ origins }
-    ensures accepted { (origins : List (List (List ℕ))) (events : List Event) (world : World) →
+    ensures accepted { (origins : List Name) (events : List Event) (world : World) →
         Reaches origins events world → AreAccepted world.origins world.accepted }
-    ensures pending { (origins : List (List (List ℕ))) (events : List Event) (world : World)
+    ensures pending { (origins : List Name) (events : List Event) (world : World)
         (worker : ℕ) (pending : PendingQuery) → Reaches origins events world →
         IsPendingAt world worker pending → IsPendingAs origins events world worker pending }
-    ensures cached { (origins : List (List (List ℕ))) (events : List Event) (world : World)
+    ensures cached { (origins : List Name) (events : List Event) (world : World)
         (entry : PlainLearned) → Reaches origins events world →
         Contains world.sessions.cached entry → IsLearned origins events entry }
-    ensures apart { (origins : List (List (List ℕ))) (events : List Event) (world : World) →
+    ensures apart { (origins : List Name) (events : List Event) (world : World) →
         Reaches origins events world → AreApart world.sessions.cached }
-    ensures kept { (origins : List (List (List ℕ))) (worker : ℕ) (events : List Event)
+    ensures kept { (origins : List Name) (worker : ℕ) (events : List Event)
         (policy : PlainPolicy) (incoming : Incoming) (facts : PlainFacts) →
         AreObtained origins worker events policy incoming facts → AreKept facts }
-    ensures asks { (origins : List (List (List ℕ))) (events : List Event) (event : Event)
+    ensures asks { (origins : List Name) (events : List Event) (event : Event)
         (world next : World) (worker : ℕ) (message : List ℕ) → Reaches origins events world →
         world_step world event ≡ Ok (next, output.Ask worker message) →
         IsAskedAs next worker message }
-    ensures replies { (origins : List (List (List ℕ))) (events : List Event) (event : Event)
+    ensures replies { (origins : List Name) (events : List Event) (event : Event)
         (world next : World) (worker : ℕ) (said : Said) → Reaches origins events world →
         world_step world event ≡ Ok (next, said_output worker said) →
         IsAnsweredAs origins (event ∷ events) next worker said }

@@ -11,7 +11,7 @@ use crate::pending::{NextMessage, Pending, Resumed, next_message};
 use crate::resolving::Cache;
 use answer_cache::{AnswerCache, MOST_ENTRIES};
 use dns_name::Octets;
-use edge_io::ListLink;
+use edge_io::{ListLink, WORKER_LIMIT};
 use ip_prefix::{Addr, Transport};
 use policy_snapshot::Snapshot;
 use query_session::Session;
@@ -23,7 +23,7 @@ use std::sync::Arc;
 use upstream_link::{AnswerFault, Fact, Learned};
 
 /// How many workers a core has; the first is worker 0.
-pub const WORKERS: usize = 16;
+pub const WORKERS: usize = WORKER_LIMIT;
 
 /// The workers with their pending queries, and one cache for all of them. Contracts see the pending queries, the ID of the last
 /// question, and the entries of the cache.

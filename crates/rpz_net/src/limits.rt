@@ -7,9 +7,6 @@ pub const FRAME_SECONDS: u64 = 5;
 /// How many connections of clients may wait for their next message. One more takes the place of the one that would be closed first.
 pub const WAITING_CONNECTIONS: usize = 400;
 
-/// How many messages of one connection are answered. Behind them it is closed.
-pub const CONNECTION_MESSAGES: u32 = 4_096;
-
 /// Milliseconds between two looks at which connections have waited too long.
 pub const LATE_MILLISECONDS: u64 = 250;
 

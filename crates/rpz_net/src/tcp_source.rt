@@ -3,10 +3,9 @@
 ghost use Rattle.std.specs.Prelude.{◌≡◌, ◌≤◌, None, IfOk, length};
 
 use crate::frame_gauge::FrameGauge;
-use crate::limits::CONNECTION_MESSAGES;
 use crate::read_buffer::ReadBuffer;
 use crate::time_limit::TimeLimit;
-use edge_io::{Endpoint, Failed, Source};
+use edge_io::{CONNECTION_MESSAGES, Endpoint, Failed, Source};
 use std::alloc::{AllocError, Global};
 use std::net::TcpStream;
 use std::sync::Arc;

@@ -2,6 +2,7 @@
 
 ghost use Rattle.std.specs.Prelude.{◌≡◌, ℕ, List, Bool, true, false, IsTrue, Option};
 ghost use Rattle.std.specs.Ordering.{is_lt};
+ghost use Rattle.dns_name.specs.Labels.{Name};
 ghost use Rattle.dns_name.specs.Alike.{PlainPattern, matches};
 ghost use Rattle.ip_prefix.specs.Prefix.{PlainPrefix, prefix_order};
 ghost use Rattle.qname_index.specs.Best.{pattern_order};
@@ -54,7 +55,7 @@ pub fn an_index_is_in_order_of_precedence()
         precedes (rank_at position zone (triggers.ResponseIp p))
         (rank_at position zone (triggers.ResponseIp q))
         ≡ is_lt (prefix_order p q) }
-    ensures ns_dname { (position zone : ℕ) (p q : PlainPattern) (server : List (List ℕ)) →
+    ensures ns_dname { (position zone : ℕ) (p q : PlainPattern) (server : Name) →
         IsTrue (matches p server) → IsTrue (matches q server) → is_lt (pattern_order q p) ≡ false →
         precedes (rank_at position zone (triggers.NsDname q))
         (rank_at position zone (triggers.NsDname p))

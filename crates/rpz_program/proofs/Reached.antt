@@ -23,17 +23,17 @@ use Rattle.rpz_core.specs.Sessions.{PendingQuery}
 use Rattle.rpz_core.specs.World.{World, policy_of, world_step}
 use Rattle.rpz_core.proofs.Outputs.{step_keeps}
 use Rattle.rpz_core.proofs.Refusals.{refused_by_state}
-use Rattle.rpz_program.specs.Script.{ScriptWorld, opening, running, IsReached, at_start, after_line, state_in, world_in, shown_outcome, event_outcome, zone_outcome, line_outcome, text_outcome}
+use Rattle.rpz_program.specs.Script.{ScriptWorld, opened, begun, IsReached, at_start, after_line, state_in, world_in, shown_outcome, event_outcome, zone_outcome, world_after_line, text_outcome}
 
 -- ---- a world that is reached has its workers
 
 abbrev HasWorkers : ScriptWorld → Type 0
-HasWorkers (opening origins) = ⊤
-HasWorkers (running world) = length world.sessions.workers ≡ WORKERS
+HasWorkers (opened origins) = ⊤
+HasWorkers (begun world) = length world.sessions.workers ≡ WORKERS
 
 workers_in : (w : ScriptWorld) → HasWorkers w → length (world_in w).sessions.workers ≡ WORKERS
-workers_in (opening origins) h = refl
-workers_in (running world) h = h
+workers_in (opened origins) h = refl
+workers_in (begun world) h = h
 
 abbrev Outcome : Type 0
 Outcome = Result (ScriptWorld × List ℕ) LineFault
@@ -47,19 +47,19 @@ done_is given next octets out e = ap (λ (p : ScriptWorld × List ℕ). p.0) (pa
 abbrev KeepsWorkers : ScriptWorld → Outcome → Type 0
 KeepsWorkers next outcome = (out : List ℕ) → outcome ≡ Ok (next, out) → HasWorkers next
 
-event_if : (world : World) (next : ScriptWorld) (e : Event) (r : Result (World × Output) CoreFault) → length world.sessions.workers ≡ WORKERS → world_step world e ≡ r → KeepsWorkers next (outcome_along running (shown_outcome r))
-event_if world next e (Ok given) h is out same = subst HasWorkers (done_is (running given.0) next _ out same) ((step_keeps world given.0 e given.1 is).workers ∙ h)
+event_if : (world : World) (next : ScriptWorld) (e : Event) (r : Result (World × Output) CoreFault) → length world.sessions.workers ≡ WORKERS → world_step world e ≡ r → KeepsWorkers next (outcome_along begun (shown_outcome r))
+event_if world next e (Ok given) h is out same = subst HasWorkers (done_is (begun given.0) next _ out same) ((step_keeps world given.0 e given.1 is).workers ∙ h)
 event_if world next e (Err fault) h is out same = absurd cc
 
 event_keeps : (w next : ScriptWorld) (e : Event) → HasWorkers w → KeepsWorkers next (event_outcome w e)
 event_keeps w next e h = event_if (world_in w) next e (world_step (world_in w) e) (workers_in w h) refl
 
 zone_keeps : (w next : ScriptWorld) (origin : List (List ℕ)) → KeepsWorkers next (zone_outcome w origin)
-zone_keeps (opening origins) next origin out is = subst HasWorkers (done_is (opening (origins ++ origin ∷ [])) next [] out is) tt
-zone_keeps (running world) next origin out is = absurd cc
+zone_keeps (opened origins) next origin out is = subst HasWorkers (done_is (opened (origins ++ origin ∷ [])) next [] out is) tt
+zone_keeps (begun world) next origin out is = absurd cc
 
-line_keeps : (w next : ScriptWorld) (line : Line) → HasWorkers w → KeepsWorkers next (line_outcome w line)
-unfolding line_outcome
+line_keeps : (w next : ScriptWorld) (line : Line) → HasWorkers w → KeepsWorkers next (world_after_line w line)
+unfolding world_after_line
 line_keeps w next (Zone origin) h = zone_keeps w next origin
 line_keeps w next (Transfer zone stream) h = event_keeps w next (event.Transfer zone stream) h
 line_keeps w next (Full zone) h = event_keeps w next (event.Full zone) h
@@ -108,12 +108,12 @@ none_pending (suc count) (suc k) = none_pending count k
 
 -- which workers are pending, in the world of the core
 pending_in : (w : ScriptWorld) (k : ℕ) → is_pending (state_in w) k ≡ slice_index_or (map is_some (world_in w).sessions.workers) k false
-pending_in (opening origins) k = sym (none_pending WORKERS k)
-pending_in (running world) k = refl
+pending_in (opened origins) k = sym (none_pending WORKERS k)
+pending_in (begun world) k = refl
 
 zones_in : (w : ScriptWorld) → length (policy_of (world_in w)) ≡ zone_count (state_in w)
-zones_in (opening origins) = policy_length origins []
-zones_in (running world) = policy_length world.origins world.accepted
+zones_in (opened origins) = policy_length origins []
+zones_in (begun world) = policy_length world.origins world.accepted
 
 zone_found : (w : ScriptWorld) (number : ℕ) → IsZone (state_in w) number → zone_fault (zone_at (policy_of (world_in w)) number) ≡ None
 zone_found w number h = number_there (policy_of (world_in w)) number h.0 (subst (λ (n : ℕ). number ≤ n) (sym (zones_in w)) h.1)
@@ -129,7 +129,7 @@ fact_found w k has h busy = fact_awaited (world_in w).sessions.workers k (worker
 
 -- ---- so it is done
 
-event_done_if : (world : World) (e : Event) (r : Result (World × Output) CoreFault) → fault_of world e ≡ None → world_step world e ≡ r → IsOk (outcome_along running (shown_outcome r))
+event_done_if : (world : World) (e : Event) (r : Result (World × Output) CoreFault) → fault_of world e ≡ None → world_step world e ≡ r → IsOk (outcome_along begun (shown_outcome r))
 event_done_if world e (Ok next) h is = refl
 event_done_if world e (Err fault) h is = let faulty = (refused_by_state world e fault).0 is in absurd cc
 
@@ -137,11 +137,11 @@ event_done : (w : ScriptWorld) (e : Event) → fault_of (world_in w) e ≡ None 
 event_done w e h = event_done_if (world_in w) e (world_step (world_in w) e) h refl
 
 zone_done : (w : ScriptWorld) (origin : List (List ℕ)) → MayOpen (state_in w) origin → IsOk (zone_outcome w origin)
-zone_done (opening origins) origin h = refl
-zone_done (running world) origin h = absurd h
+zone_done (opened origins) origin h = refl
+zone_done (begun world) origin h = absurd h
 
-within_done : (w : ScriptWorld) (line : Line) → HasWorkers w → IsWithin (state_in w) line → IsOk (line_outcome w line)
-unfolding line_outcome
+within_done : (w : ScriptWorld) (line : Line) → HasWorkers w → IsWithin (state_in w) line → IsOk (world_after_line w line)
+unfolding world_after_line
 within_done w (Zone origin) has h = zone_done w origin h.1
 within_done w (Transfer zone stream) has h = event_done w (event.Transfer zone stream) (zone_found w zone h)
 within_done w (Full zone) has h = event_done w (event.Full zone) (zone_found w zone h)
@@ -151,5 +151,5 @@ within_done w (Fail worker) has h = event_done w (event.Fail worker) (fact_found
 within_done w (Clock seconds) has h = event_done w (event.Clock seconds) refl
 
 -- A line of the grammar is done in every world that is reached.
-pub line_done : (w : ScriptWorld) (text : List ℕ) (line : Line) → IsReached w → unnumbered_line text (state_in w) ≡ Ok (Some line) → IsOk (line_outcome w line)
+pub line_done : (w : ScriptWorld) (text : List ℕ) (line : Line) → IsReached w → unnumbered_line text (state_in w) ≡ Ok (Some line) → IsOk (world_after_line w line)
 line_done w text line reached is = within_done w line (reached_workers w reached) (line_within text (state_in w) line is)

@@ -15,14 +15,14 @@ use Rattle.rpz_program.specs.Stage.{new_stage, stage_of, stage_step}
 use Rattle.script_loop.specs.Replay as replay
 use Rattle.script_loop.specs.Replay.{IsPrefix, Moves}
 use Rattle.rpz_program.specs.Run.{Ends, AnswersWholeLines, BeginsTranscript}
-use Rattle.rpz_program.specs.Script.{ScriptWorld, start, step, too_many, too_long, transcript, verdict}
+use Rattle.rpz_program.specs.Script.{ScriptWorld, start, step, too_many, too_long, script_transcript, script_verdict}
 use Rattle.script_loop.proofs.Abstraction.{run_of-along, transcript-along, verdict-along}
 use Rattle.rpz_program.proofs.Simulation.{step_seen, start_seen}
 
-same_transcript : (script : List ℕ) → fold.transcript too_many too_long stage_step new_stage script ≡ transcript script
+same_transcript : (script : List ℕ) → fold.transcript too_many too_long stage_step new_stage script ≡ script_transcript script
 same_transcript script = ap (λ (p : Stage). fold.transcript too_many too_long stage_step p script) (sym start_seen) ∙ transcript-along too_many too_long stage_of step stage_step step_seen start script
 
-same_verdict : (script : List ℕ) → fold.verdict too_many too_long stage_step new_stage script ≡ verdict_along stage_of (verdict script)
+same_verdict : (script : List ℕ) → fold.verdict too_many too_long stage_step new_stage script ≡ verdict_along stage_of (script_verdict script)
 same_verdict script = ap (λ (p : Stage). fold.verdict too_many too_long stage_step p script) (sym start_seen) ∙ verdict-along too_many too_long stage_of step stage_step step_seen start script
 
 same_run : (lines : List (List ℕ)) → run_of too_many too_long stage_step (1, new_stage) lines ≡ run_along stage_of (run_of too_many too_long step (1, start) lines)
@@ -72,14 +72,14 @@ pub ends_along : (result : Result (Unit {0}) (Stop LineFault)) (new : Stage) (le
 ends_along (Ok u) new None left_after held_before held_after h = tt
 ends_along (Ok u) new (Some script) left_after held_before held_after h =
     let ok = subst (λ (v : Result (ℕ × Stage) (ℕ × LineFault)). IsOkAnd v (λ end. end.1 ≡ new)) (same_verdict script) h.1 in
-    (h.0, ok_along (verdict script) (λ end. end.1 ≡ new) ok, h.2 ∙ ap (appended held_before) (same_transcript script))
+    (h.0, ok_along (script_verdict script) (λ end. end.1 ≡ new) ok, h.2 ∙ ap (appended held_before) (same_transcript script))
 ends_along (Err (BadLine line why)) new None left_after held_before held_after h = tt
 ends_along (Err (BadLine line why)) new (Some script) left_after held_before held_after h =
-    (err_along (verdict script) (line, why) (fold.verdict too_many too_long stage_step new_stage script) (same_verdict script) h.0, h.1 ∙ ap (appended held_before) (same_transcript script))
+    (err_along (script_verdict script) (line, why) (fold.verdict too_many too_long stage_step new_stage script) (same_verdict script) h.0, h.1 ∙ ap (appended held_before) (same_transcript script))
 ends_along (Err ReadFault) new left_before left_after held_before held_after h = moved_along (replay.AnswersWholeLines too_many too_long stage_step new_stage) AnswersWholeLines left_before left_after held_before held_after read_along h
 ends_along (Err WriteFault) new left_before left_after held_before held_after h = tt
 ends_along (Err OutOfMemory) new left_before left_after held_before held_after h = tt
 
 -- nothing was read or written
 pub untouched : (left held : Option (List ℕ)) → Moves left left held held BeginsTranscript
-untouched left held = record { read = []; written = []; from_source = sym (prepended-nil left); to_sink = sym (appended-nil held); have = (transcript [], refl) }
+untouched left held = record { read = []; written = []; from_source = sym (prepended-nil left); to_sink = sym (appended-nil held); have = (script_transcript [], refl) }

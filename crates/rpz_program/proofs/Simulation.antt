@@ -20,7 +20,7 @@ use Rattle.rpz_core.specs.State.{CoreState, core_step, state_of, as_core_outcome
 use Rattle.rpz_core.specs.World.{World, world_step}
 use Rattle.rpz_core.proofs.Seen as core
 use Rattle.rpz_program.specs.declared.stage.Stage.TheVariants.{Running}
-use Rattle.rpz_program.specs.Script.{ScriptWorld, opening, running, start, step, shown_outcome, world_in, event_outcome, zone_outcome, line_outcome, text_outcome}
+use Rattle.rpz_program.specs.Script.{ScriptWorld, opened, begun, start, step, shown_outcome, world_in, event_outcome, zone_outcome, world_after_line, text_outcome}
 use Rattle.rpz_program.specs.Script as script
 use Rattle.rpz_program.specs.Stage.{new_stage, stage_of, core_in, stage_zone, stage_event, stage_line, stage_text, stage_step}
 use Rattle.rpz_program.specs.Stage as stage
@@ -30,8 +30,8 @@ start_seen = refl
 
 -- lines are read by the same
 state_seen : (w : ScriptWorld) → stage.state_in (stage_of w) ≡ script.state_in w
-state_seen (opening origins) = refl
-state_seen (running world) = ap (λ (n : ℕ). state.running n (map is_some world.sessions.workers)) (policy_length world.origins world.accepted)
+state_seen (opened origins) = refl
+state_seen (begun world) = ap (λ (n : ℕ). state.running n (map is_some world.sessions.workers)) (policy_length world.origins world.accepted)
 
 new_state : List (List (List ℕ)) → PlainPolicy → CoreState
 new_state origins zones = record { policy = record { zones = zones; accepted = 0 }; marks = no_marks origins; sessions = no_sessions; clock = 0 }
@@ -39,10 +39,10 @@ new_state origins zones = record { policy = record { zones = zones; accepted = 0
 -- the core begins, or runs, in the state of the world
 core_seen : (w : ScriptWorld) → core_in (stage_of w) ≡ state_of (world_in w)
 unfolding new_state
-core_seen (opening origins) = sym (ap (new_state origins) (policy_after-none origins))
-core_seen (running world) = refl
+core_seen (opened origins) = sym (ap (new_state origins) (policy_after-none origins))
+core_seen (begun world) = refl
 
-output_seen : (r : Result (World × Output) CoreFault) → outcome_along Running (shown_outcome (as_core_outcome r)) ≡ outcome_along stage_of (outcome_along running (shown_outcome r))
+output_seen : (r : Result (World × Output) CoreFault) → outcome_along Running (shown_outcome (as_core_outcome r)) ≡ outcome_along stage_of (outcome_along begun (shown_outcome r))
 output_seen (Ok next) = refl
 output_seen (Err fault) = refl
 
@@ -53,11 +53,11 @@ event_seen w e =
     ∙ output_seen (world_step (world_in w) e)
 
 zone_seen : (w : ScriptWorld) (origin : List (List ℕ)) → stage_zone (stage_of w) origin ≡ outcome_along stage_of (zone_outcome w origin)
-zone_seen (opening origins) origin = refl
-zone_seen (running world) origin = refl
+zone_seen (opened origins) origin = refl
+zone_seen (begun world) origin = refl
 
-line_seen : (w : ScriptWorld) (line : Line) → stage_line (stage_of w) line ≡ outcome_along stage_of (line_outcome w line)
-unfolding stage_line line_outcome
+line_seen : (w : ScriptWorld) (line : Line) → stage_line (stage_of w) line ≡ outcome_along stage_of (world_after_line w line)
+unfolding stage_line world_after_line
 line_seen w (Zone origin) = zone_seen w origin
 line_seen w (Transfer zone stream) = event_seen w (event.Transfer zone stream)
 line_seen w (Full zone) = event_seen w (event.Full zone)

@@ -10,7 +10,7 @@ use Rattle.rpz_words.specs.declared.command.Command.TheVariants.{Serve}
 use Rattle.rpz_words.specs.declared.settings.Settings.{Settings}
 use Rattle.rpz_program.specs.Polls.{ConnectionViews, FeedState}
 use Rattle.rpz_program.specs.Run.{Ends, IsVerdict, StopsBy}
-use Rattle.rpz_program.specs.Script.{ScriptWorld, verdict}
+use Rattle.rpz_program.specs.Script.{ScriptWorld, script_verdict}
 use Rattle.rpz_program.specs.Serving.{StopsServing}
 use Rattle.rpz_program.specs.Status.{status_of_replay, status_of_server}
 use Rattle.rpz_program.specs.declared.serve_error.ServeError.{ServeError}
@@ -31,9 +31,9 @@ done_is (Err bad) ok = cc
 
 -- without a fault and with memory, the status is the verdict
 pub verdict_is : (ended : Result (Unit {0}) (Stop LineFault)) (left_before left_after held_before held_after : Option (List ℕ)) (source sink : Type 0) → Ends ended left_before left_after held_before held_after → IfErr ended (λ why. Blames why source sink) → (source → ⊥) → (sink → ⊥) → status_of_replay ended ≢ status.OutOfMemory
-    → IfSome left_before (λ bytes. IsVerdict (verdict bytes) (status_of_replay ended))
+    → IfSome left_before (λ bytes. IsVerdict (script_verdict bytes) (status_of_replay ended))
 verdict_is ended None left_after held_before held_after source sink ends blames no_source no_sink memory = tt
-verdict_is (Ok done) (Some script) left_after held_before held_after source sink ends blames no_source no_sink memory = done_is (verdict script) ends.1
+verdict_is (Ok done) (Some script) left_after held_before held_after source sink ends blames no_source no_sink memory = done_is (script_verdict script) ends.1
 verdict_is (Err (stop.BadLine line why)) (Some script) left_after held_before held_after source sink ends blames no_source no_sink memory =
     let P : Result (ℕ × ScriptWorld) (ℕ × LineFault) → Type 0 = λ world. IsVerdict world (status.BadLine line why) in
     subst P (sym ends.0) refl

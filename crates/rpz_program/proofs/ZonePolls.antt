@@ -6,7 +6,7 @@ use Rattle.edge_io.specs.Chain.{Chain, Stage}
 use Rattle.edge_io.specs.declared.endpoint.Endpoint.{Endpoint}
 use Rattle.policy_feed.specs.declared.polling.Polled.{Polled}
 use Rattle.script_codec.specs.declared.zone_fault.ZoneFault.{ZoneFault}
-use Rattle.rpz_program.specs.Polls.{ConnectionViews, FeedState, PollsZone, PollsZones, ZonePoll, due_zones, rounds, zones_of}
+use Rattle.rpz_program.specs.Polls.{ConnectionViews, FeedState, PollsZone, PollsZones, ZonePoll, due_zones, rounds, polled_zones}
 use Rattle.rpz_program.specs.Serving.{StopsPolls, StopsTurns, round_count}
 use Rattle.rpz_program.specs.Wires.{FetchesNothing, OnlyFetches, OnlyServes}
 use Rattle.rpz_program.specs.declared.serve_error.ServeError.{ServeError}
@@ -31,16 +31,16 @@ chained : {X T : Type 0} (step : X → T → X → Type 0) (a b c : X) (first ne
 chained step a b c first [] one two = let P : _ → Type 0 = λ x. Chain step a first x in subst P (sym two) one
 chained step a b c first (s ∷ ss) one two = (two.0, chained step a b s.before first ss one two.1)
 
-zones_both : {S K : Type 0} (first next : List (Stage (FeedState S K) ZonePoll)) → zones_of (next ++ first) ≡ zones_of first ++ zones_of next
-zones_both first [] = sym (append-nil (zones_of first))
-zones_both first (s ∷ ss) = ap (λ zs. zs ++ s.turn.zone ∷ []) (zones_both first ss) ∙ append_assoc (zones_of first) (zones_of ss) (s.turn.zone ∷ [])
+zones_both : {S K : Type 0} (first next : List (Stage (FeedState S K) ZonePoll)) → polled_zones (next ++ first) ≡ polled_zones first ++ polled_zones next
+zones_both first [] = sym (append-nil (polled_zones first))
+zones_both first (s ∷ ss) = ap (λ zs. zs ++ s.turn.zone ∷ []) (zones_both first ss) ∙ append_assoc (polled_zones first) (polled_zones ss) (s.turn.zone ∷ [])
 
 pub polled_both : {S K : Type 0} (views : ConnectionViews S K) (before middle after : FeedState S K) (first next : List ZoneSource) → PollsZones views before first middle → PollsZones views middle next after → PollsZones views before (first ++ next) after
 polled_both views before middle after first next one two =
     record {
       stages = two.stages ++ one.stages;
       chain = chained (PollsZone views) before middle after one.stages two.stages one.chain two.chain;
-      zones_are = zones_both one.stages two.stages ∙ ap (λ zs. zs ++ zones_of two.stages) one.zones_are ∙ ap (λ zs. first ++ zs) two.zones_are;
+      zones_are = zones_both one.stages two.stages ∙ ap (λ zs. zs ++ polled_zones two.stages) one.zones_are ∙ ap (λ zs. first ++ zs) two.zones_are;
     }
 
 -- a run that ended where nothing of this was written

@@ -18,10 +18,10 @@ poll_fault_of (feed_fault.Transfer fault) = zone_fault.Transfer fault
 poll_fault_of (feed_fault.Apply fault) = zone_fault.Apply fault
 
 -- what a poll gave; None out of memory
-abbrev pub outcome_of : Result Polled FeedError → Option (Result Polled ZoneFault)
-outcome_of (Ok told) = Some (Ok told)
-outcome_of (Err (feed_error.Fault fault)) = Some (Err (poll_fault_of fault))
-outcome_of (Err feed_error.OutOfMemory) = None
+abbrev pub poll_outcome : Result Polled FeedError → Option (Result Polled ZoneFault)
+poll_outcome (Ok told) = Some (Ok told)
+poll_outcome (Err (feed_error.Fault fault)) = Some (Err (poll_fault_of fault))
+poll_outcome (Err feed_error.OutOfMemory) = None
 
 -- what is shown of a poll of the zone of a number
 abbrev pub shown_poll : ℕ → Result Polled ZoneFault → Shown

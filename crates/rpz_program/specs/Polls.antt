@@ -16,7 +16,7 @@ use Rattle.policy_feed.specs.declared.fault.FeedError.{FeedError}
 use Rattle.policy_feed.specs.declared.polling.Polled.{Polled}
 use Rattle.script_codec.specs.declared.zone_fault.ZoneFault.{ZoneFault}
 use Rattle.script_codec.specs.declared.zone_fault.ZoneFault.TheVariants as zone_fault
-use Rattle.rpz_program.specs.PollLines.{outcome_of, poll_line}
+use Rattle.rpz_program.specs.PollLines.{poll_outcome, poll_line}
 use Rattle.rpz_program.specs.declared.zone_source.ZoneSource.{ZoneSource}
 
 -- what contracts see of the two sides of a connection
@@ -68,7 +68,7 @@ pub record PollsOver {S K : Type 0} (views : ConnectionViews S K) (poll : ZonePo
   pub plain : PlainZone
   pub is_zone : zone_at old.version.zones poll.zone.number ≡ Some plain
   pub told : Result Polled FeedError
-  pub outcome_is : outcome_of told ≡ Some poll.outcome
+  pub outcome_is : poll_outcome told ≡ Some poll.outcome
   pub left : Option (List ℕ)
   pub held : Option (List ℕ)
   pub polls : Polls id poll.zone.number plain told
@@ -111,16 +111,16 @@ BeginsPoll views before after =
     × WritesPoll views before poll (take n (poll_line poll.zone.number poll.outcome)) after
 
 -- the zones that were polled, in order; the last stands first in the stages
-abbrev pub zones_of : {S K : Type 0} → List (Stage (FeedState S K) ZonePoll) → List ZoneSource
-zones_of [] = []
-zones_of (stage ∷ stages) = zones_of stages ++ stage.turn.zone ∷ []
+abbrev pub polled_zones : {S K : Type 0} → List (Stage (FeedState S K) ZonePoll) → List ZoneSource
+polled_zones [] = []
+polled_zones (stage ∷ stages) = polled_zones stages ++ stage.turn.zone ∷ []
 
 -- these zones are polled one after another, and the line of each is written
 pub record PollsZones {S K : Type 0} (views : ConnectionViews S K) (before : FeedState S K)
     (zones : List ZoneSource) (after : FeedState S K) : Type 0 where
   pub stages : List (Stage (FeedState S K) ZonePoll)
   pub chain : Chain (PollsZone views) before stages after
-  pub zones_are : zones_of stages ≡ zones
+  pub zones_are : polled_zones stages ≡ zones
 
 -- all zones, so many times
 abbrev pub rounds : ℕ → List ZoneSource → List ZoneSource

@@ -18,7 +18,7 @@ use Rattle.rpz_program.specs.Serving.{StopsServing}
 use Rattle.rpz_program.specs.Status.{status_of_error}
 use Rattle.rpz_program.specs.declared.serve_error.ServeError.{ServeError}
 use Rattle.rpz_program.specs.declared.zone_source.ZoneSource.{ZoneSource}
-use Rattle.rpz_program.specs.Script.{ScriptWorld, start, step, too_many, too_long, transcript, verdict}
+use Rattle.rpz_program.specs.Script.{ScriptWorld, start, step, too_many, too_long, script_transcript, script_verdict}
 
 -- what the words ask for; None where they are none of the command set
 abbrev pub command_in : List (String Global) → Option Command
@@ -39,13 +39,14 @@ pub record StopsBy {S K : Type 0} (status : Status) (views : ConnectionViews S K
 -- The script was read to its end, each line is of the form, and its transcript was written.
 abbrev pub IsWholeScript : List ℕ → Option (List ℕ) → Option (List ℕ) → Option (List ℕ) → Type 0
 IsWholeScript script left held_before held_after =
-    (left ≡ Some []) × IsOk (verdict script)
-    × (held_after ≡ appended held_before (transcript script))
+    (left ≡ Some []) × IsOk (script_verdict script)
+    × (held_after ≡ appended held_before (script_transcript script))
 
 -- The line is the first that is refused, and what the lines before it output was written.
 abbrev pub IsFirstBadLine : List ℕ → ℕ → LineFault → Option (List ℕ) → Option (List ℕ) → Type 0
 IsFirstBadLine script line why held_before held_after =
-    (verdict script ≡ Err (line, why)) × (held_after ≡ appended held_before (transcript script))
+    (script_verdict script ≡ Err (line, why))
+    × (held_after ≡ appended held_before (script_transcript script))
 
 -- each line whose line feed was read is of the form, and what these lines output was written
 abbrev pub AnswersWholeLines : List ℕ → List ℕ → Type 0
@@ -55,7 +56,7 @@ AnswersWholeLines read written =
 
 -- what was written begins the transcript of what was read
 abbrev pub BeginsTranscript : List ℕ → List ℕ → Type 0
-BeginsTranscript read written = IsPrefix written (transcript read)
+BeginsTranscript read written = IsPrefix written (script_transcript read)
 
 -- the status says what the verdict on the script says
 abbrev pub IsVerdict : Result (ℕ × ScriptWorld) (ℕ × LineFault) → Status → Type 0

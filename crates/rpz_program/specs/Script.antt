@@ -1,5 +1,6 @@
 -- The world of a script, and what its lines do to it.
 use Rattle.std.specs.Prelude.{◌≡◌, ℕ, List, [], ◌∷◌, ◌++◌, length, map, Option, Some, None, is_some, Result, Ok, Err}
+use Rattle.dns_name.specs.Labels.{Name}
 use Rattle.script_codec.specs.declared.line.Line.{Line}
 use Rattle.script_codec.specs.declared.line.Line.TheVariants.{Zone, Transfer, Full, Query, Give, Fail, Clock}
 use Rattle.script_codec.specs.declared.shown.Shown.{Shown}
@@ -26,21 +27,21 @@ use Rattle.script_loop.specs.Fold as fold
 
 -- The zones that were opened so far, by their origins; and from the first line on that opens no zone, the world of the core.
 pub data ScriptWorld : Type 0 where
-  opening : List (List (List ℕ)) → ScriptWorld
-  running : World → ScriptWorld
+  opened : List Name → ScriptWorld
+  begun : World → ScriptWorld
 
 abbrev pub start : ScriptWorld
-start = opening []
+start = opened []
 
 -- what lines are read by: how many zones there are, and which workers have a pending query
 abbrev pub state_in : ScriptWorld → PlainState
-state_in (opening origins) = state.opening origins
-state_in (running world) = state.running (length world.origins) (map is_some world.sessions.workers)
+state_in (opened origins) = state.opening origins
+state_in (begun world) = state.running (length world.origins) (map is_some world.sessions.workers)
 
 -- the world of the core, which begins with the zones that were opened
 abbrev pub world_in : ScriptWorld → World
-world_in (opening origins) = new_world origins
-world_in (running world) = world
+world_in (opened origins) = new_world origins
+world_in (begun world) = world
 
 -- the event that a line is; a zone line is none
 abbrev pub event_of : Line → Option Event
@@ -85,32 +86,32 @@ shown_outcome (Ok next) = Ok (next.0, shown_octets (shown_of next.1))
 shown_outcome (Err fault) = Err (why_of fault)
 
 -- a zone is opened, before any other line
-abbrev pub zone_outcome : ScriptWorld → List (List ℕ) → Result (ScriptWorld × List ℕ) LineFault
-zone_outcome (opening origins) origin = Ok (opening (origins ++ origin ∷ []), [])
-zone_outcome (running world) origin = Err why.Late
+abbrev pub zone_outcome : ScriptWorld → Name → Result (ScriptWorld × List ℕ) LineFault
+zone_outcome (opened origins) origin = Ok (opened (origins ++ origin ∷ []), [])
+zone_outcome (begun world) origin = Err why.Late
 
 -- any other line is an event of the core
 abbrev pub event_outcome : ScriptWorld → Event → Result (ScriptWorld × List ℕ) LineFault
 event_outcome world event =
-    outcome_along running (shown_outcome (world_step (world_in world) event))
+    outcome_along begun (shown_outcome (world_step (world_in world) event))
 
 -- the world after a line, and what the line writes; or why it is refused
-unfoldable pub line_outcome : ScriptWorld → Line → Result (ScriptWorld × List ℕ) LineFault
-line_outcome world (Zone origin) = zone_outcome world origin
-line_outcome world (Transfer zone stream) = event_outcome world (event.Transfer zone stream)
-line_outcome world (Full zone) = event_outcome world (event.Full zone)
-line_outcome world (Query worker transport client message) =
+unfoldable pub world_after_line : ScriptWorld → Line → Result (ScriptWorld × List ℕ) LineFault
+world_after_line world (Zone origin) = zone_outcome world origin
+world_after_line world (Transfer zone stream) = event_outcome world (event.Transfer zone stream)
+world_after_line world (Full zone) = event_outcome world (event.Full zone)
+world_after_line world (Query worker transport client message) =
     event_outcome world (event.Query worker transport client message)
-line_outcome world (Give worker message) = event_outcome world (event.Give worker message)
-line_outcome world (Fail worker) = event_outcome world (event.Fail worker)
-line_outcome world (Clock seconds) = event_outcome world (event.Clock seconds)
+world_after_line world (Give worker message) = event_outcome world (event.Give worker message)
+world_after_line world (Fail worker) = event_outcome world (event.Fail worker)
+world_after_line world (Clock seconds) = event_outcome world (event.Clock seconds)
 
 -- the same of the bytes of a line: nothing where it is skipped
 abbrev pub text_outcome : ScriptWorld → Result (Option Line) LineFault →
     Result (ScriptWorld × List ℕ) LineFault
 text_outcome world (Err why) = Err why
 text_outcome world (Ok None) = Ok (world, [])
-text_outcome world (Ok (Some line)) = line_outcome world line
+text_outcome world (Ok (Some line)) = world_after_line world line
 
 abbrev pub step : ScriptWorld → List ℕ → Result (ScriptWorld × List ℕ) LineFault
 step world text = text_outcome world (unnumbered_line text (state_in world))
@@ -123,12 +124,12 @@ abbrev pub too_long : LineFault
 too_long = why.TooLong
 
 -- The transcript of a script: what its lines write from the start on, up to the first that is refused.
-abbrev pub transcript : List ℕ → List ℕ
-transcript script = fold.transcript too_many too_long step start script
+abbrev pub script_transcript : List ℕ → List ℕ
+script_transcript script = fold.transcript too_many too_long step start script
 
 -- the world after a script, or the number of the first line that is refused, and why
-abbrev pub verdict : List ℕ → Result (ℕ × ScriptWorld) (ℕ × LineFault)
-verdict script = fold.verdict too_many too_long step start script
+abbrev pub script_verdict : List ℕ → Result (ℕ × ScriptWorld) (ℕ × LineFault)
+script_verdict script = fold.verdict too_many too_long step start script
 
 -- The worlds that scripts reach.
 pub data IsReached : ScriptWorld → Type 0 where

@@ -1,5 +1,6 @@
 -- What a run of a server does.
 use Rattle.std.specs.Prelude.{◌≡◌, ◌≤◌, ◌+◌, ◌/◌, ◌⊎◌, ℕ, List, [], ◌++◌, map, take, Option, zero, suc, ⊤}
+use Rattle.dns_name.specs.Labels.{Name}
 use Rattle.edge_io.specs.Edge.{WritesPrefix, appended}
 use Rattle.edge_io.specs.Told.{one_more}
 use Rattle.edge_io.specs.declared.endpoint.Endpoint.{Endpoint}
@@ -18,11 +19,12 @@ use Rattle.rpz_program.specs.declared.zone_source.ZoneSource.{ZoneSource}
 use Rattle.rpz_program.specs.declared.turns.TheConstants.{POLL_TURNS}
 
 -- what is published where a policy of these origins begins: nothing, and no zone is marked
-abbrev pub opening : List (List (List ℕ)) → Published
-opening origins = record { list = []; version = new_snapshot origins; marks = no_marks origins }
+abbrev pub nothing_published : List Name → Published
+nothing_published origins =
+    record { list = []; version = new_snapshot origins; marks = no_marks origins }
 
 -- the names of the zones, and their primaries, in order
-abbrev pub origins_in : Settings → List (List (List ℕ))
+abbrev pub origins_in : Settings → List Name
 origins_in settings = map (λ zone. zone.origin) settings.zones
 
 abbrev pub primaries_in : Settings → List Endpoint

@@ -1,5 +1,6 @@
 -- How far a script is in code, which sees of the accepted transfers the policy that they make, and what its lines do.
 use Rattle.std.specs.Prelude.{ℕ, List, [], ◌∷◌, ◌++◌, length, map, Option, Some, None, is_some, Result, Ok, Err}
+use Rattle.dns_name.specs.Labels.{Name}
 use Rattle.script_codec.specs.declared.line.Line.{Line}
 use Rattle.script_codec.specs.declared.line.Line.TheVariants.{Zone, Transfer, Full, Query, Give, Fail, Clock}
 use Rattle.script_codec.specs.declared.line_fault.LineFault.{LineFault}
@@ -13,15 +14,15 @@ use Rattle.rpz_core.specs.declared.event.Event.TheVariants as event
 use Rattle.rpz_core.specs.State.{CoreState, core_step, new_core, state_of}
 use Rattle.rpz_program.specs.declared.stage.Stage.{Stage}
 use Rattle.rpz_program.specs.declared.stage.Stage.TheVariants.{Opening, Running}
-use Rattle.rpz_program.specs.Script.{ScriptWorld, opening, running, shown_outcome}
+use Rattle.rpz_program.specs.Script.{ScriptWorld, opened, begun, shown_outcome}
 
 abbrev pub new_stage : Stage
 new_stage = Opening []
 
 -- the stage of a script's world
 abbrev pub stage_of : ScriptWorld → Stage
-stage_of (opening origins) = Opening origins
-stage_of (running world) = Running (state_of world)
+stage_of (opened origins) = Opening origins
+stage_of (begun world) = Running (state_of world)
 
 abbrev pub state_in : Stage → PlainState
 state_in (Opening origins) = state.opening origins
@@ -32,7 +33,7 @@ abbrev pub core_in : Stage → CoreState
 core_in (Opening origins) = new_core origins
 core_in (Running core) = core
 
-abbrev pub stage_zone : Stage → List (List ℕ) → Result (Stage × List ℕ) LineFault
+abbrev pub stage_zone : Stage → Name → Result (Stage × List ℕ) LineFault
 stage_zone (Opening origins) origin = Ok (Opening (origins ++ origin ∷ []), [])
 stage_zone (Running core) origin = Err why.Late
 

@@ -1,7 +1,7 @@
 //! The lines that a server writes.
 
 ghost use Rattle.std.specs.Prelude.{◌≡◌, IfOk, string_bytes};
-ghost use Rattle.rpz_program.specs.PollLines.{outcome_of as outcome, poll_fault_of as poll_fault, poll_line, served_line, shown_poll as shown};
+ghost use Rattle.rpz_program.specs.PollLines.{poll_outcome as outcome, poll_fault_of as poll_fault, poll_line, served_line, shown_poll as shown};
 ghost use Rattle.std.specs.Prelude.{Some};
 
 use dns_name::Octets;

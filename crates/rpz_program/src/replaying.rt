@@ -4,7 +4,7 @@ ghost use Rattle.std.specs.Prelude.{◌≡◌, ◌≢◌, ◌+◌, ◌-◌, ◌�
 ghost use Rattle.edge_io.specs.Edge.{Rose};
 ghost use Rattle.script_loop.specs.Replay.{Blames, Moves, ReadsNoFurther};
 ghost use Rattle.rpz_program.specs.Run.{BeginsTranscript, Ends};
-ghost use Rattle.rpz_program.specs.Script.{transcript, verdict};
+ghost use Rattle.rpz_program.specs.Script.{script_transcript, script_verdict};
 
 use crate::stage::Stage;
 use crate::status::Status;
@@ -36,10 +36,10 @@ pub(crate) fn replay_script<S: Source, K: Sink>(
 
 /// The transcript of a script in memory, if no line of it is refused.
 pub fn replayed(alloc: Global, script: Vec<u8>) -> Result<Vec<u8>, Status>
-    ensures ok { IfOk result (λ out. IsOk (verdict script.items) ×
-        (out.items ≡ transcript script.items)) }
+    ensures ok { IfOk result (λ out. IsOk (script_verdict script.items) ×
+        (out.items ≡ script_transcript script.items)) }
     ensures bad_line { (line : ℕ) (why : _) → result ≡ Err (Status.BadLine line why) →
-        verdict script.items ≡ Err (line, why) }
+        script_verdict script.items ≡ Err (line, why) }
     ensures read_fault { result ≢ Err Status.ReadFault }
     ensures not_done { result ≢ Err Status.Done }
     ensures usage { result ≢ Err Status.Usage }

@@ -7,8 +7,8 @@ ghost use Rattle.script_loop.specs.Replay.{Moves, ReadsNoFurther};
 ghost use Rattle.rpz_program.specs.Loading.{EndsLoad, load_line};
 ghost use Rattle.rpz_program.specs.Polls.{connection_views, feed_state, sources_from};
 ghost use Rattle.rpz_program.specs.Run.{AnswersWholeLines, AreTaken, BeginsTranscript, IsFirstBadLine, IsVerdict, IsWholeScript, StopsBy, command_in};
-ghost use Rattle.rpz_program.specs.Script.{verdict};
-ghost use Rattle.rpz_program.specs.Serving.{ServesWhole, linked_with, opening, origins_in, primaries_in};
+ghost use Rattle.rpz_program.specs.Script.{script_verdict};
+ghost use Rattle.rpz_program.specs.Serving.{ServesWhole, linked_with, nothing_published, origins_in, primaries_in};
 ghost use Rattle.rpz_words.specs.declared.command.Command.TheVariants.{Load, Replay, Serve};
 ghost use Rattle.rpz_words.specs.declared.settings.LoadSettings.{LoadSettings};
 ghost use Rattle.rpz_words.specs.declared.settings.Settings.{Settings};
@@ -54,7 +54,8 @@ pub fn run<
     ensures command { result ≢ Status.Usage → result ≢ Status.OutOfMemory →
         IsSome (command_in words.now) }
     ensures untouched { result ≡ Status.Usage →
-        (S.left script.new ≡ S.left script.old) × (K.held out.new ≡ K.held out.old) }
+        (script.new ≡ script.old) × (out.new ≡ out.old) × (wires.new ≡ wires.old)
+        × (spawner.new ≡ spawner.old) × (clock.new ≡ clock.old) × (ids.new ≡ ids.old) }
 
     // The whole script was read, and its transcript written.
     ensures done { result ≡ Status.Done → command_in words.now ≡ Some Replay →
@@ -80,20 +81,21 @@ pub fn run<
         Moves (S.left script.old) (S.left script.new) (K.held out.old) (K.held out.new)
         BeginsTranscript }
     ensures alone { command_in words.now ≡ Some Replay →
-        (wires.new ≡ wires.old) × (spawner.new ≡ spawner.old) }
+        (wires.new ≡ wires.old) × (spawner.new ≡ spawner.old) × (clock.new ≡ clock.old)
+        × (ids.new ≡ ids.old) }
 
     // With no fault and with memory, a script of the grammar is done, and another is refused at its first bad line.
     ensures complete { command_in words.now ≡ Some Replay → AreTaken words.now →
         (Rose (S.faults script.old) (S.faults script.new) → ⊥) →
         (Rose (K.faults out.old) (K.faults out.new) → ⊥) →
         result ≢ Status.OutOfMemory →
-        IfSome (S.left script.old) (λ bytes. IsVerdict (verdict bytes) result) }
+        IfSome (S.left script.old) (λ bytes. IsVerdict (script_verdict bytes) result) }
 
     // All zones were polled at the start and after each 64th arrival, the workers were gathered, and the line of their sums was written.
     ensures served { result ≡ Status.Done → (settings : Settings) →
         command_in words.now ≡ Some (Serve settings) →
         ServesWhole (connection_views W.In.left W.In.steady W.Out.held W.Out.steady)
-        (feed_state (opening (origins_in settings)) (W.fetches wires.old) (W.fetched wires.old)
+        (feed_state (nothing_published (origins_in settings)) (W.fetches wires.old) (W.fetched wires.old)
         (W.fetch_faults wires.old) (I.ids ids.old) (K.held out.old))
         settings.turns (sources_from 1 (primaries_in settings))
         (P.waiting spawner.old + settings.workers)
@@ -109,7 +111,7 @@ pub fn run<
     ensures stopped { result ≢ Status.Done → result ≢ Status.Usage → (settings : Settings) →
         command_in words.now ≡ Some (Serve settings) →
         StopsBy result (connection_views W.In.left W.In.steady W.Out.held W.Out.steady)
-        (feed_state (opening (origins_in settings)) (W.fetches wires.old) (W.fetched wires.old)
+        (feed_state (nothing_published (origins_in settings)) (W.fetches wires.old) (W.fetched wires.old)
         (W.fetch_faults wires.old) (I.ids ids.old) (K.held out.old))
         settings.turns (sources_from 1 (primaries_in settings)) (K.held out.new) }
     ensures gathered { P.waiting spawner.new ≤ P.waiting spawner.old }
@@ -140,7 +142,8 @@ pub fn run<
     ensures begins_line { (settings : LoadSettings) → command_in words.now ≡ Some (Load settings) →
         WritesPrefix (load_line settings) (K.held out.old) (K.held out.new) }
     ensures load_alone { (settings : LoadSettings) → command_in words.now ≡ Some (Load settings) →
-        (script.new ≡ script.old) × (wires.new ≡ wires.old) × (spawner.new ≡ spawner.old) }
+        (script.new ≡ script.old) × (wires.new ≡ wires.old) × (spawner.new ≡ spawner.old)
+        × (clock.new ≡ clock.old) × (ids.new ≡ ids.old) }
     ensures ends_load { (settings : LoadSettings) → command_in words.now ≡ Some (Load settings) →
         EndsLoad result }
 

@@ -4,7 +4,7 @@ ghost use Rattle.std.specs.Prelude.{◌≡◌, ◌≤◌, ◌+◌, Err, IfErr, O
 ghost use Rattle.edge_io.specs.Edge.{Rose};
 ghost use Rattle.edge_io.specs.Told.{one_more};
 ghost use Rattle.rpz_program.specs.Polls.{connection_views, feed_state, sources_from};
-ghost use Rattle.rpz_program.specs.Serving.{ServesWhole, StopsServing, linked_with, opening, origins_in, primaries_in};
+ghost use Rattle.rpz_program.specs.Serving.{ServesWhole, StopsServing, linked_with, nothing_published, origins_in, primaries_in};
 ghost use Rattle.rpz_words.specs.Limits.{IsServable};
 
 use crate::serve_error::ServeError;
@@ -41,14 +41,14 @@ pub fn serve<
     requires { IsServable settings.now }
     ensures ok { OnOk result (ServesWhole
         (connection_views W.In.left W.In.steady W.Out.held W.Out.steady)
-        (feed_state (opening (origins_in settings.now)) (W.fetches wires.old) (W.fetched wires.old)
+        (feed_state (nothing_published (origins_in settings.now)) (W.fetches wires.old) (W.fetched wires.old)
         (W.fetch_faults wires.old) (I.ids ids.old) (K.held out.old))
         settings.now.turns (sources_from 1 (primaries_in settings.now))
         (P.waiting spawner.old + settings.now.workers)
         (P.gathered spawner.old) (P.gathered spawner.new) (K.held out.new)) }
     ensures err { IfErr result (λ why. StopsServing
         (connection_views W.In.left W.In.steady W.Out.held W.Out.steady) why
-        (feed_state (opening (origins_in settings.now)) (W.fetches wires.old) (W.fetched wires.old)
+        (feed_state (nothing_published (origins_in settings.now)) (W.fetches wires.old) (W.fetched wires.old)
         (W.fetch_faults wires.old) (I.ids ids.old) (K.held out.old))
         settings.now.turns (sources_from 1 (primaries_in settings.now)) (K.held out.new)) }
     ensures bound { OnOk result

@@ -4,7 +4,7 @@ ghost use Rattle.std.specs.Prelude.{◌≡◌, ◌≤◌, ◌+◌, ◌<◌, All,
 ghost use Rattle.edge_io.specs.Edge.{Rose, appended};
 ghost use Rattle.rpz_program.specs.PollLines.{served_line};
 ghost use Rattle.rpz_program.specs.Polls.{IsNumbered, PollsZones, connection_views, feed_state, rounds};
-ghost use Rattle.rpz_program.specs.Serving.{BeginsServed, IsOfPolls, ServesWhole, StopsServing, linked_with, opening, round_count};
+ghost use Rattle.rpz_program.specs.Serving.{BeginsServed, IsOfPolls, ServesWhole, StopsServing, linked_with, nothing_published, round_count};
 ghost use Rattle.rpz_program.specs.Sums.{saturated};
 
 use crate::poll_lines::served_text;
@@ -224,13 +224,13 @@ pub(crate) fn serve_over<
     requires zones { All (IsNumbered (length parts.origins)) plan.now.zones.items }
     ensures ok { OnOk result (ServesWhole
         (connection_views W.In.left W.In.steady W.Out.held W.Out.steady)
-        (feed_state (opening parts.origins) (W.fetches wires.old) (W.fetched wires.old)
+        (feed_state (nothing_published parts.origins) (W.fetches wires.old) (W.fetched wires.old)
         (W.fetch_faults wires.old) (I.ids ids.old) (K.held out.old))
         plan.now.turns plan.now.zones.items (P.waiting spawner.old + parts.readers)
         (P.gathered spawner.old) (P.gathered spawner.new) (K.held out.new)) }
     ensures err { IfErr result (λ why. StopsServing
         (connection_views W.In.left W.In.steady W.Out.held W.Out.steady) why
-        (feed_state (opening parts.origins) (W.fetches wires.old) (W.fetched wires.old)
+        (feed_state (nothing_published parts.origins) (W.fetches wires.old) (W.fetched wires.old)
         (W.fetch_faults wires.old) (I.ids ids.old) (K.held out.old))
         plan.now.turns plan.now.zones.items (K.held out.new)) }
     ensures bound { W.bound wires.new ≡ W.bound wires.old }

@@ -5,7 +5,7 @@ use Rattle.std.specs.List.{position_or_len, before_first, after_first}
 use Rattle.std.specs.Result.{result_ok}
 use Rattle.std.proofs.lemmas.Bool.{and_left, and_right, or_parts, eqb-false, ltb-false}
 use Rattle.edge_io.specs.declared.endpoint.Endpoint.{Endpoint}
-use Rattle.script_codec.specs.Field.{is_number, number_of, v4_of}
+use Rattle.script_codec.specs.Field.{is_number, number_field, v4_field}
 use Rattle.rpz_words.specs.declared.values.TheConstants.{PORT_DIGITS, PORT_LIMIT}
 use Rattle.rpz_words.specs.Outcome.{none_if}
 use Rattle.rpz_words.specs.Values.{count_to, number_to, port_of, endpoint_of, origin_of, zone_setting_of, is_colon, is_at_sign}
@@ -20,7 +20,7 @@ not_zero n h = omega (arith, eqb-false n 0 h)
 pub number_within : (most : ℕ) (digits : List ℕ) (number : ℕ) → number_to most digits ≡ Some number → (1 ≤ number) × (number ≤ most)
 unfolding number_to
 number_within most digits number e =
-    let a = bind_some (result_ok (number_of digits)) _ number e in
+    let a = bind_some (result_ok (number_field digits)) _ number e in
     let b = bind_some (none_if (eqb a.0 0 || ltb most a.0)) _ number a.2 in
     let tests = or_parts (eqb a.0 0) (ltb most a.0) (not_held _ b.0 b.1) in
     subst (λ n. (1 ≤ n) × (n ≤ most)) (some_is a.0 number b.2) (not_zero a.0 tests.0, ltb-false most a.0 tests.1)
@@ -29,7 +29,7 @@ number_within most digits number e =
 pub count_within : (most : ℕ) (digits : List ℕ) (number : ℕ) → count_to most digits ≡ Some number → number ≤ most
 unfolding count_to
 count_within most digits number e =
-    let a = bind_some (result_ok (number_of digits)) _ number e in
+    let a = bind_some (result_ok (number_field digits)) _ number e in
     let b = bind_some (none_if (ltb most a.0)) _ number a.2 in
     subst (λ n. n ≤ most) (some_is a.0 number b.2) (ltb-false most a.0 (not_held _ b.0 b.1))
 
@@ -38,7 +38,7 @@ not_number most bound sign digits h = and_left _ _ (and_right _ _ (and_left _ _ 
 
 -- what begins with another byte than a digit is no number
 pub no_sign : (most sign : ℕ) (digits : List ℕ) → is_ascii_digit sign ≡ false → number_to most (sign ∷ digits) ≡ None
-unfolding number_to number_of
+unfolding number_to number_field
 no_sign most sign digits h = rw (not_number 10 (2 ^ 32) sign digits h) refl
 
 -- endpoints
@@ -53,12 +53,12 @@ port_within digits port e =
 pub endpoint_port : (text : List ℕ) (endpoint : Endpoint) → endpoint_of text ≡ Some endpoint → 1 ≤ endpoint.port
 unfolding endpoint_of
 endpoint_port text endpoint e =
-    let a = bind_some (result_ok (v4_of (before_first is_colon text))) _ endpoint e in
+    let a = bind_some (result_ok (v4_field (before_first is_colon text))) _ endpoint e in
     let b = bind_some (port_of (after_first is_colon text)) _ endpoint a.2 in
     subst (λ (x : Endpoint). 1 ≤ x.port) (some_is _ endpoint b.2) (port_within _ b.0 b.1)
 
 no_port : port_of [] ≡ None
-unfolding port_of number_to number_of
+unfolding port_of number_to number_field
 no_port = refl
 
 nothing_behind : (p : ℕ → Bool) (text : List ℕ) → position_or_len p text ≡ length text → after_first p text ≡ []
@@ -68,7 +68,7 @@ nothing_behind p text whole = drop_of_length-le text (omega arith)
 pub no_endpoint : (text : List ℕ) → position_or_len is_colon text ≡ length text → endpoint_of text ≡ None
 unfolding endpoint_of
 no_endpoint text whole =
-    rw (nothing_behind is_colon text whole, no_port) (bind_none (result_ok (v4_of (before_first is_colon text))))
+    rw (nothing_behind is_colon text whole, no_port) (bind_none (result_ok (v4_field (before_first is_colon text))))
 
 empty_endpoint : endpoint_of [] ≡ None
 empty_endpoint = no_endpoint [] refl

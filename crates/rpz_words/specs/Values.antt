@@ -2,9 +2,10 @@
 use Rattle.std.specs.Prelude.{ℕ, ◌==◌, ◌||◌, Bool, nat_lt, List, [], ◌∷◌, length, Option, Some}
 use Rattle.std.specs.List.{before_first, after_first}
 use Rattle.std.specs.Result.{result_ok}
+use Rattle.dns_name.specs.Labels.{Name}
 use Rattle.dns_name.specs.Text.{text_name}
 use Rattle.edge_io.specs.declared.endpoint.Endpoint.{Endpoint}
-use Rattle.script_codec.specs.Field.{number_of, v4_of}
+use Rattle.script_codec.specs.Field.{number_field, v4_field}
 use Rattle.zone_rows.specs.declared.zone.TheConstants.{ZONE_LIMIT}
 use Rattle.rpz_words.specs.declared.settings.TheConstants.{LOAD_WORKER_LIMIT, QUERY_LIMIT, RULE_LIMIT, SEED_LIMIT, TURN_LIMIT, WORKER_LIMIT}
 use Rattle.rpz_words.specs.declared.values.TheConstants.{PORT_DIGITS, PORT_LIMIT}
@@ -15,14 +16,14 @@ use Rattle.rpz_words.specs.Zones.{has_repeated}
 -- a number from 1 to `most`: 1 to 10 decimal digits, without a sign
 unfoldable pub number_to : ℕ → List ℕ → Option ℕ
 number_to most digits = do
-  number ← result_ok (number_of digits)
+  number ← result_ok (number_field digits)
   _ ← none_if (number == 0 || nat_lt most number)
   Some number
 
 -- a number of at most `most`: 1 to 10 decimal digits, without a sign
 unfoldable pub count_to : ℕ → List ℕ → Option ℕ
 count_to most digits = do
-  number ← result_ok (number_of digits)
+  number ← result_ok (number_field digits)
   _ ← none_if (nat_lt most number)
   Some number
 
@@ -62,12 +63,12 @@ is_colon b = b == 58
 -- `A.B.C.D:PORT`, split at the first colon
 unfoldable pub endpoint_of : List ℕ → Option Endpoint
 endpoint_of text = do
-  addr ← result_ok (v4_of (before_first is_colon text))
+  addr ← result_ok (v4_field (before_first is_colon text))
   port ← port_of (after_first is_colon text)
   Some (record { addr = addr; port = port })
 
 -- a name of letters, digits, `-`, `_` and `*`, with dots between its labels and one dot at its end or none
-abbrev pub origin_of : List ℕ → Option (List (List ℕ))
+abbrev pub origin_of : List ℕ → Option Name
 origin_of text = result_ok (text_name text)
 
 -- `@`, which stands before a primary

@@ -2,7 +2,7 @@
 use Rattle.std.specs.Prelude.{◌≢◌, ℕ, ◌-◌, ◌||◌, Bool, false, List, [], ◌∷◌, AllPairs, Option, option_map, slice_get}
 use Rattle.std.specs.List.{list_any}
 use Rattle.dns_name.specs.Alike.{same_name}
-use Rattle.dns_name.specs.Labels.{lowered}
+use Rattle.dns_name.specs.Labels.{lowered, Name}
 use Rattle.edge_io.specs.declared.endpoint.Endpoint.{Endpoint}
 use Rattle.rpz_words.specs.declared.zones.ZoneSetting.{ZoneSetting}
 
@@ -11,7 +11,7 @@ abbrev pub primary_at : List ZoneSetting → ℕ → Option Endpoint
 primary_at zones number = option_map (λ zone. zone.primary) (slice_get zones (number - 1))
 
 -- a zone has this name; ASCII letters compare without case (RFC 1035, section 2.3.3)
-abbrev pub has_origin : List (List ℕ) → List ZoneSetting → Bool
+abbrev pub has_origin : Name → List ZoneSetting → Bool
 has_origin name zones = list_any (λ zone. same_name name zone.origin) zones
 
 -- two zones have one name

@@ -1,7 +1,7 @@
 //! The command set, as `clap` takes it.
 
 ghost use Rattle.std.specs.Prelude.{◌≡◌, false, IfOk};
-ghost use Rattle.clap.specs.Words.{app_of, rule_of};
+ghost use Rattle.clap.specs.Words.{app_of, rule_of, with_subcommand};
 ghost use Rattle.clap.specs.declared.builder.command.Command.TheViews.{out-Command as fields_of};
 ghost use Rattle.rpz_words.specs.Words.{load_app, one_value, rpz_app, serve_app, some_values};
 
@@ -33,14 +33,14 @@ fn serve_command<'a>(alloc: Global) -> Result<Command<'a>, AllocError>
     ensures local { IfOk result (λ c. (fields_of c).has_globals ≡ false) }
 {
     let listen = value_arg(alloc, "LISTEN");
-    let upstream = value_arg(alloc, "UPSTREAM");
-    let turns = value_arg(alloc, "TURNS");
-    let workers = value_arg(alloc, "WORKERS");
-    let zones = list_arg(alloc, "ZONE@PRIMARY");
     let with_listen = Command::new(alloc, "serve").arg(listen)?;
+    let upstream = value_arg(alloc, "UPSTREAM");
     let with_upstream = with_listen.arg(upstream)?;
+    let turns = value_arg(alloc, "TURNS");
     let with_turns = with_upstream.arg(turns)?;
+    let workers = value_arg(alloc, "WORKERS");
     let with_workers = with_turns.arg(workers)?;
+    let zones = list_arg(alloc, "ZONE@PRIMARY");
     let with_zones = with_workers.arg(zones)?;
     Ok(with_zones)
 }
@@ -51,25 +51,48 @@ fn load_command<'a>(alloc: Global) -> Result<Command<'a>, AllocError>
     ensures local { IfOk result (λ c. (fields_of c).has_globals ≡ false) }
 {
     let seed = value_arg(alloc, "SEED");
-    let rules = value_arg(alloc, "RULES");
-    let queries = value_arg(alloc, "QUERIES");
-    let workers = value_arg(alloc, "WORKERS");
     let with_seed = Command::new(alloc, "load").arg(seed)?;
+    let rules = value_arg(alloc, "RULES");
     let with_rules = with_seed.arg(rules)?;
+    let queries = value_arg(alloc, "QUERIES");
     let with_queries = with_rules.arg(queries)?;
+    let workers = value_arg(alloc, "WORKERS");
     let with_workers = with_queries.arg(workers)?;
     Ok(with_workers)
+}
+
+// The command with `serve` besides.
+fn with_serve<'a>(alloc: Global, command: Command<'a>) -> Result<Command<'a>, AllocError>
+    ensures { IfOk result (λ c. app_of c ≡ with_subcommand (app_of command.entry) serve_app.top) }
+{
+    match serve_command(alloc) {
+        Ok(serve) => command.subcommand(serve),
+        Err(error) => {
+            drop(command);
+            Err(error)
+        }
+    }
+}
+
+// The command with `load` besides.
+fn with_load<'a>(alloc: Global, command: Command<'a>) -> Result<Command<'a>, AllocError>
+    ensures { IfOk result (λ c. app_of c ≡ with_subcommand (app_of command.entry) load_app.top) }
+{
+    match load_command(alloc) {
+        Ok(load) => command.subcommand(load),
+        Err(error) => {
+            drop(command);
+            Err(error)
+        }
+    }
 }
 
 /// `rpz replay`, `rpz serve` and `rpz load`.
 pub(crate) fn rpz_command<'a>(alloc: Global) -> Result<Command<'a>, AllocError>
     ensures { IfOk result (λ c. app_of c ≡ rpz_app) }
 {
-    let serve = serve_command(alloc)?;
-    let load = load_command(alloc)?;
     let replay = Command::new(alloc, "replay");
     let with_replay = Command::new(alloc, "rpz").subcommand(replay)?;
-    let with_serve = with_replay.subcommand(serve)?;
-    let with_load = with_serve.subcommand(load)?;
-    Ok(with_load)
+    let with_serve = with_serve(alloc, with_replay)?;
+    with_load(alloc, with_serve)
 }

@@ -1,20 +1,19 @@
 //! What a server is to do, and a load run.
 
 use crate::zones::Zones;
-use edge_io::Endpoint;
-use script_codec::WORKERS;
+use edge_io::{Endpoint, LOAD_QUERY_LIMIT, LOAD_RULE_LIMIT};
 
 /// The most workers of a server.
-pub const WORKER_LIMIT: usize = WORKERS;
+pub const WORKER_LIMIT: usize = edge_io::WORKER_LIMIT;
 
 /// The most rules of a load run.
-pub const RULE_LIMIT: u32 = 1_000_000;
+pub const RULE_LIMIT: u32 = LOAD_RULE_LIMIT;
 
 /// The most queries of a load run.
-pub const QUERY_LIMIT: u32 = 1_000_000;
+pub const QUERY_LIMIT: u32 = LOAD_QUERY_LIMIT;
 
 /// The most workers of a load run.
-pub const LOAD_WORKER_LIMIT: u32 = 16;
+pub const LOAD_WORKER_LIMIT: u32 = edge_io::WORKER_LIMIT as u32;
 
 /// The greatest seed of a load run.
 pub(crate) const SEED_LIMIT: u32 = u32::MAX;

@@ -4,7 +4,7 @@ use Rattle.edge_io.specs.Chain.{Chain, Stage}
 use Rattle.edge_io.specs.Frame.{TakesFrame}
 use Rattle.edge_io.specs.declared.endpoint.Endpoint.{Endpoint}
 use Rattle.edge_io.specs.declared.replies.StreamEnd.{StreamEnd}
-use Rattle.rpz_workers.specs.Connections.{AnswersFrame, ConnectionState, EndsAfter, EndsBy, Exchange, FaultCounts, Serves, WritesReply}
+use Rattle.rpz_workers.specs.Connections.{AnswersFrame, ConnectionState, EndsAfter, EndsBy, Exchange, FaultCounts, ServesConnection, WritesReply}
 
 -- so many messages were answered
 pub record Served {L : Type 0} (origins : List (List (List ℕ))) (gave : List ℕ → List ℕ → ℕ → Type 0) (client : Endpoint) (count : ℕ) (before now : ConnectionState L) : Type 0 where
@@ -27,6 +27,6 @@ served_more origins gave client count before now after message was taken writes 
 -- the end of a connection
 pub ended : {L : Type 0} (origins : List (List (List ℕ))) (gave : List ℕ → List ℕ → ℕ → Type 0) (client : Endpoint) (faults : FaultCounts) (count : ℕ) (before now after : ConnectionState L) (why : StreamEnd)
     → Served origins gave client count before now → EndsAfter why count → EndsBy origins gave client faults why now after
-    → Serves origins gave client faults before why after
+    → ServesConnection origins gave client faults before why after
 ended origins gave client faults count before now after why was at ends =
     record { exchanges = was.exchanges; last = now; chain = was.chain; count = subst (EndsAfter why) (sym was.count_is) at; ends = ends }

@@ -1,6 +1,7 @@
 -- The answer of one query by a worker.
 use Rattle.std.specs.Prelude.{◌≡◌, ◌≤◌, ◌⊎◌, ℕ, List, [], ◌∷◌, ◌++◌, Option, Result, Ok, Err}
 use mathlib.Core.List.{IsPrefix}
+use Rattle.dns_name.specs.Labels.{Name}
 use Rattle.edge_io.specs.Chain.{Chain, Stage}
 use Rattle.dns_message.specs.Request.{incoming_of}
 use Rattle.upstream_link.specs.Vouched.{PlainLearned}
@@ -42,7 +43,7 @@ obtained_in (stage ∷ stages) = obtained_in stages ++ stage.turn ∷ []
 -- The message is answered by the policy after the list of transfers that is then seen, which begins with the one that was seen
 -- before and with each that the worker was told, and by the facts that the query obtained, one after another, each for the question
 -- that comes next; after the last nothing is asked, and this is said.
-pub record IsAnswer {L : Type 0} (origins : List (List (List ℕ)))
+pub record IsAnswer {L : Type 0} (origins : List Name)
     (gave : List ℕ → List ℕ → ℕ → Type 0) (job : Job) (now : ℕ) (said : Said)
     (old new : PlainWorker L) : Type 0 where
   pub stages : List (Stage Inquiry (Obtained L))
@@ -69,7 +70,7 @@ pub record IsNoAnswer {L : Type 0} (old new : PlainWorker L) : Type 0 where
   pub obtained : new.obtained ≡ []
 
 -- the answer to a message, or that memory ran out
-abbrev pub Answers : {L E : Type 0} → List (List (List ℕ)) → (List ℕ → List ℕ → ℕ → Type 0) → Job →
+abbrev pub Answers : {L E : Type 0} → List Name → (List ℕ → List ℕ → ℕ → Type 0) → Job →
     ℕ → Result Said E → PlainWorker L → PlainWorker L → Type 0
 Answers origins gave job now (Ok said) old new = IsAnswer origins gave job now said old new
 Answers origins gave job now (Err e) old new = IsNoAnswer old new

@@ -1,6 +1,7 @@
 -- How the messages of one connection are answered (RFC 1035, section 4.2.2; RFC 7766).
 use Rattle.std.specs.Prelude.{◌≡◌, ◌<◌, ◌⊎◌, ℕ, List, [], length, Option, Some, None, Result}
 use Rattle.std.specs.declared.alloc.AllocError.{AllocError}
+use Rattle.dns_name.specs.Labels.{Name}
 use Rattle.ip_prefix.specs.declared.Transport.TheVariants.{Tcp}
 use Rattle.edge_io.specs.Chain.{Chain, Stage}
 use Rattle.edge_io.specs.Edge.{Rose, WritesPrefix, appended}
@@ -44,7 +45,7 @@ reply_frame None = []
 reply_frame (Some bytes) = frame_octets bytes
 
 -- The message is answered at the second that the clock gives next.
-pub record AnswersMessage {L : Type 0} (origins : List (List (List ℕ)))
+pub record AnswersMessage {L : Type 0} (origins : List Name)
     (gave : List ℕ → List ℕ → ℕ → Type 0) (client : Endpoint) (message : List ℕ) (now : ℕ)
     (said : Result Said AllocError) (worker worker_then : PlainWorker L)
     (moments moments_then : Option (List ℕ)) : Type 0 where
@@ -52,7 +53,7 @@ pub record AnswersMessage {L : Type 0} (origins : List (List (List ℕ)))
   pub answers : Answers origins gave (tcp_job client message) now said worker worker_then
 
 -- The message is answered, and all of its reply is written.
-pub record WritesReply {L : Type 0} (origins : List (List (List ℕ)))
+pub record WritesReply {L : Type 0} (origins : List Name)
     (gave : List ℕ → List ℕ → ℕ → Type 0) (client : Endpoint) (message : List ℕ)
     (worker worker_then : PlainWorker L)
     (moments moments_then held held_then : Option (List ℕ)) : Type 0 where
@@ -63,7 +64,7 @@ pub record WritesReply {L : Type 0} (origins : List (List (List ℕ)))
   pub written : held_then ≡ appended held (reply_frame (to_send message said))
 
 -- The message is answered, and a part of its reply is written.
-pub record CutsReply {L : Type 0} (origins : List (List (List ℕ)))
+pub record CutsReply {L : Type 0} (origins : List Name)
     (gave : List ℕ → List ℕ → ℕ → Type 0) (client : Endpoint) (message : List ℕ)
     (worker worker_then : PlainWorker L)
     (moments moments_then held held_then : Option (List ℕ)) : Type 0 where
@@ -74,7 +75,7 @@ pub record CutsReply {L : Type 0} (origins : List (List (List ℕ)))
   pub written : WritesPrefix (reply_frame (to_send message said)) held held_then
 
 -- A message is read and answered, and all of its reply is written.
-pub record AnswersFrame {L : Type 0} (origins : List (List (List ℕ)))
+pub record AnswersFrame {L : Type 0} (origins : List Name)
     (gave : List ℕ → List ℕ → ℕ → Type 0) (client : Endpoint) (before : ConnectionState L)
     (exchange : Exchange) (after : ConnectionState L) : Type 0 where
   pub taken : TakesFrame exchange.message before.left after.left
@@ -84,7 +85,7 @@ pub record AnswersFrame {L : Type 0} (origins : List (List (List ℕ)))
       ≡ appended before.held (reply_frame (to_send exchange.message exchange.said))
 
 -- A message is read and answered, and a part of its reply is written.
-pub record CutsFrame {L : Type 0} (origins : List (List (List ℕ)))
+pub record CutsFrame {L : Type 0} (origins : List Name)
     (gave : List ℕ → List ℕ → ℕ → Type 0) (client : Endpoint)
     (before after : ConnectionState L) : Type 0 where
   pub message : List ℕ
@@ -116,7 +117,7 @@ fault_counts source_before source_after sink_before sink_after =
 
 -- How a connection ends behind its last message that was answered whole. Behind as many as a connection may have, nothing is read.
 -- Memory may run out where a message is read, and where its reply is written.
-abbrev pub EndsBy : {L : Type 0} → List (List (List ℕ)) → (List ℕ → List ℕ → ℕ → Type 0) →
+abbrev pub EndsBy : {L : Type 0} → List Name → (List ℕ → List ℕ → ℕ → Type 0) →
     Endpoint → FaultCounts → StreamEnd → ConnectionState L → ConnectionState L → Type 0
 EndsBy origins gave client faults stream_end.End before after =
     OnlyReads before after × TakesNone before.left after.left
@@ -138,7 +139,7 @@ EndsAfter stream_end.Limit count = count ≡ FRAME_LIMIT
 EndsAfter why count = count < FRAME_LIMIT
 
 -- A connection is served: one message after another is answered, and then it ends.
-pub record Serves {L : Type 0} (origins : List (List (List ℕ)))
+pub record ServesConnection {L : Type 0} (origins : List Name)
     (gave : List ℕ → List ℕ → ℕ → Type 0) (client : Endpoint) (faults : FaultCounts)
     (before : ConnectionState L) (why : StreamEnd) (after : ConnectionState L) : Type 0 where
   pub exchanges : List (Stage (ConnectionState L) Exchange)

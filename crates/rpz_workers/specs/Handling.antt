@@ -1,6 +1,7 @@
 -- What a worker does with its items.
 use Rattle.std.specs.Prelude.{◌≡◌, ◌≤◌, ℕ, List, Option, Some, None, Result, Ok, Err}
 use Rattle.std.specs.declared.alloc.AllocError.{AllocError}
+use Rattle.dns_name.specs.Labels.{Name}
 use Rattle.edge_io.specs.Edge.{Rose}
 use Rattle.edge_io.specs.Told.{Closings, ComesNext, Ended, PlainReply, closed_more, more_if_ok}
 use Rattle.edge_io.specs.declared.endpoint.Endpoint.{Endpoint}
@@ -16,7 +17,7 @@ use Rattle.rpz_workers.specs.declared.item.Job.{Job}
 use Rattle.rpz_workers.specs.declared.took.Took.{Took}
 use Rattle.rpz_workers.specs.declared.took.Took.TheVariants as took
 use Rattle.rpz_workers.specs.Answering.{Answers, PlainWorker}
-use Rattle.rpz_workers.specs.Connections.{Serves, connection_state, fault_counts}
+use Rattle.rpz_workers.specs.Connections.{ServesConnection, connection_state, fault_counts}
 use Rattle.rpz_workers.specs.Replying.{to_send}
 
 -- what contracts see between two items: the worker, the seconds that its clock is still to give, the replies that were sent and the
@@ -79,7 +80,7 @@ pub record Sends {E : Type 0} (peer : Endpoint) (message : List ℕ) (what : Res
   pub took_is : t ≡ took_of what tried
 
 -- A job is answered at the second that the clock gives next, and the reply is sent to its peer.
-pub record HandlesJob {L S K : Type 0} (origins : List (List (List ℕ)))
+pub record HandlesJob {L S K : Type 0} (origins : List Name)
     (gave : List ℕ → List ℕ → ℕ → Type 0) (job : Job) (before : WorkerState L S K) (t : Took)
     (after : WorkerState L S K) : Type 0 where
   pub now : ℕ
@@ -92,11 +93,11 @@ pub record HandlesJob {L S K : Type 0} (origins : List (List (List ℕ)))
   pub failed : t ≡ took.Failed → Rose before.send_faults after.send_faults
 
 -- A connection is served, and closed with what it ended by.
-pub record HandlesConnection {L S K : Type 0} (origins : List (List (List ℕ)))
+pub record HandlesConnection {L S K : Type 0} (origins : List Name)
     (gave : List ℕ → List ℕ → ℕ → Type 0) (views : StreamViews S K) (source : S) (sink : K)
     (client : Endpoint) (before after : WorkerState L S K) : Type 0 where
   pub ended : Ended S K
-  pub serves : Serves origins gave client
+  pub serves : ServesConnection origins gave client
       (fault_counts (views.source_faults source) (views.source_faults ended.source)
       (views.sink_faults sink) (views.sink_faults ended.sink))
       (connection_state before.worker before.moments (views.left source) (views.held sink))
@@ -116,7 +117,7 @@ pub record HandlesTold {L S K : Type 0} (list : List Entry)
   pub same : after ≡ record before { worker = record before.worker { known = after.worker.known } }
 
 -- what a worker does with an item
-abbrev pub Handles : {L N S K : Type 0} → List (List (List ℕ)) → (List ℕ → List ℕ → ℕ → Type 0) →
+abbrev pub Handles : {L N S K : Type 0} → List Name → (List ℕ → List ℕ → ℕ → Type 0) →
     StreamViews S K → WorkerState L S K → Item N S K → Took → WorkerState L S K → Type 0
 Handles origins gave views before (item.Job job) t after =
     HandlesJob origins gave job before t after

@@ -1,5 +1,6 @@
 -- A worker's run over its items.
 use Rattle.std.specs.Prelude.{◌≡◌, ◌≢◌, ℕ, List, [], ◌∷◌, Option}
+use Rattle.dns_name.specs.Labels.{Name}
 use Rattle.edge_io.specs.Chain.{Chain, Stage}
 use Rattle.rpz_workers.specs.declared.item.Item.{Item}
 use Rattle.rpz_workers.specs.declared.item.Item.TheVariants as item
@@ -24,7 +25,7 @@ pub record Handled (N S K : Type 0) : Type 0 where
   pub took : Took
 
 -- The next item is taken and handled, and it isn't Stop.
-pub record TakesItem {L N S K : Type 0} (origins : List (List (List ℕ)))
+pub record TakesItem {L N S K : Type 0} (origins : List Name)
     (gave : List ℕ → List ℕ → ℕ → Type 0) (views : StreamViews S K) (before : RunState L N S K)
     (handled : Handled N S K) (after : RunState L N S K) : Type 0 where
   pub next : NextItem before.coming handled.item after.coming
@@ -37,7 +38,7 @@ tally [] = no_counts
 tally (stage ∷ stages) = counted (tally stages) stage.turn.took
 
 -- One item after another is taken and handled, up to the Stop that ends the run, and these are its numbers.
-pub record Works {L N S K : Type 0} (origins : List (List (List ℕ)))
+pub record Works {L N S K : Type 0} (origins : List Name)
     (gave : List ℕ → List ℕ → ℕ → Type 0) (views : StreamViews S K) (before : RunState L N S K)
     (counts : Counts) (after : RunState L N S K) : Type 0 where
   pub stages : List (Stage (RunState L N S K) (Handled N S K))

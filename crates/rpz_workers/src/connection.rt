@@ -3,7 +3,7 @@
 ghost use Rattle.std.specs.Prelude.{◌≡◌, ◌≤◌, Err, IfOk, OnOk, OnErr};
 ghost use Rattle.edge_io.specs.Edge.{Rose, WritesPrefix, appended};
 ghost use Rattle.reply_build.specs.Short.{IsShort};
-ghost use Rattle.rpz_workers.specs.Connections.{CutsReply, Serves, WritesReply, connection_state, fault_counts, reply_frame};
+ghost use Rattle.rpz_workers.specs.Connections.{CutsReply, ServesConnection, WritesReply, connection_state, fault_counts, reply_frame};
 ghost use Rattle.rpz_workers.specs.Replying.{to_send};
 
 use crate::bare_reply::bare_reply;
@@ -12,8 +12,8 @@ use crate::item::Job;
 use crate::worker::Worker;
 use dns_name::Octets;
 use edge_io::{
-    Clock, Endpoint, FrameError, FrameFault, Ids, Link, Sink, SinkError, Source, StreamEnd,
-    read_frame, write_frame,
+    CONNECTION_MESSAGES, Clock, Endpoint, FrameError, FrameFault, Ids, Link, Sink, SinkError,
+    Source, StreamEnd, read_frame, write_frame,
 };
 use ip_prefix::Transport;
 use policy_publish::StoreName;
@@ -22,7 +22,7 @@ use std::alloc::AllocError;
 use std::hash::BuildHasher;
 
 /// How many messages of a connection are answered. Behind them it ends.
-pub const FRAME_LIMIT: u32 = 4096;
+pub const FRAME_LIMIT: u32 = CONNECTION_MESSAGES;
 
 // Writes the reply to a message as a frame, where there is one.
 fn write_reply<K: Sink>(
@@ -95,7 +95,7 @@ impl<N: StoreName, L: Link + Drop, H: BuildHasher + Drop, I: Ids + Drop, G: Gate
         client: Endpoint,
         clock: &mut C,
     ) -> StreamEnd
-        ensures { Serves N.store.origins L.gave client
+        ensures { ServesConnection N.store.origins L.gave client
             (fault_counts (S.faults source.old) (S.faults source.new)
             (K.faults sink.old) (K.faults sink.new))
             (connection_state self.old (C.moments clock.old) (S.left source.old) (K.held sink.old))

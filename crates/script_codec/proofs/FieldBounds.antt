@@ -10,7 +10,7 @@ use Rattle.dns_name.specs.declared.fault.TextFault.{TextFault}
 use Rattle.script_codec.specs.declared.field.TheConstants.{MESSAGE_BYTES}
 use Rattle.script_codec.specs.declared.state.TheConstants.{WORKERS}
 use Rattle.script_codec.specs.declared.line_fault.LineFault.TheVariants as why
-use Rattle.script_codec.specs.Field.{or_refused, name_of, number_of, zone_of, worker_of, bytes_of, message_of}
+use Rattle.script_codec.specs.Field.{or_refused, name_field, number_field, zone_field, worker_field, bytes_field, message_field}
 use Rattle.script_codec.specs.Outcome.{refuse_if}
 use Rattle.script_codec.specs.State.{PlainState, opening, running, opens}
 use Rattle.script_codec.specs.Within.{IsWorker, IsMessage, MayOpen}
@@ -21,29 +21,29 @@ use Rattle.script_codec.proofs.Binding.{bind_ok, not_refused, ok_is}
 not_zero : (n : ℕ) → eqb n 0 ≡ false → 1 ≤ n
 not_zero n h = omega (arith, eqb-false n 0 h)
 
-pub zone_bounds : (zones : ℕ) (digits : List ℕ) (zone : ℕ) → zone_of zones digits ≡ Ok zone → (1 ≤ zone) × (zone ≤ zones)
-unfolding zone_of
+pub zone_bounds : (zones : ℕ) (digits : List ℕ) (zone : ℕ) → zone_field zones digits ≡ Ok zone → (1 ≤ zone) × (zone ≤ zones)
+unfolding zone_field
 zone_bounds zones digits zone e =
-    let a = bind_ok (number_of digits) _ zone e in
+    let a = bind_ok (number_field digits) _ zone e in
     let b = bind_ok (refuse_if (eqb a.0 0) why.NoZone) _ zone a.2 in
     let c = bind_ok (refuse_if (ltb zones a.0) why.NoZone) _ zone b.2 in
     subst (λ n. (1 ≤ n) × (n ≤ zones)) (ok_is a.0 zone c.2) (not_zero a.0 (not_refused _ why.NoZone b.0 b.1), ltb-false zones a.0 (not_refused _ why.NoZone c.0 c.1))
 
 -- workers
 
-pub worker_bounds : (digits : List ℕ) (worker : ℕ) → worker_of digits ≡ Ok worker → IsWorker worker
-unfolding worker_of
+pub worker_bounds : (digits : List ℕ) (worker : ℕ) → worker_field digits ≡ Ok worker → IsWorker worker
+unfolding worker_field
 worker_bounds digits worker e =
-    let a = bind_ok (number_of digits) _ worker e in
+    let a = bind_ok (number_field digits) _ worker e in
     let b = bind_ok (refuse_if (leb WORKERS a.0) why.NoWorker) _ worker a.2 in
     subst IsWorker (ok_is a.0 worker b.2) (leb-false WORKERS a.0 (not_refused _ why.NoWorker b.0 b.1))
 
 -- messages
 
-pub message_bounds : (text message : List ℕ) → message_of text ≡ Ok message → IsMessage message
-unfolding message_of
+pub message_bounds : (text message : List ℕ) → message_field text ≡ Ok message → IsMessage message
+unfolding message_field
 message_bounds text message e =
-    let a = bind_ok (bytes_of text) _ message e in
+    let a = bind_ok (bytes_field text) _ message e in
     let b = bind_ok (refuse_if (ltb MESSAGE_BYTES (length a.0)) why.Long) _ message a.2 in
     subst IsMessage (ok_is a.0 message b.2) (ltb-false MESSAGE_BYTES (length a.0) (not_refused _ why.Long b.0 b.1))
 
@@ -88,5 +88,5 @@ refused_or : (r : Result (List (List ℕ)) TextFault) (name : List (List ℕ)) �
 refused_or (Ok x) name e = cc
 refused_or (Err fault) name e = absurd cc
 
-pub name_bounds : (text : List ℕ) (name : List (List ℕ)) → name_of text ≡ Ok name → IsName name
+pub name_bounds : (text : List ℕ) (name : List (List ℕ)) → name_field text ≡ Ok name → IsName name
 name_bounds text name e = text_is_name text name (refused_or (text_name text) name e)

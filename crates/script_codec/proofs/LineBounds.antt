@@ -7,7 +7,7 @@ use Rattle.script_codec.specs.declared.line.Line.{Line}
 use Rattle.script_codec.specs.declared.line.Line.TheVariants as line
 use Rattle.script_codec.specs.declared.line_fault.LineFault.{LineFault}
 use Rattle.script_codec.specs.declared.line_fault.LineFault.TheVariants as why
-use Rattle.script_codec.specs.Field.{name_of, number_of, zone_of, worker_of, transport_of, address_of, bytes_of, message_of}
+use Rattle.script_codec.specs.Field.{name_field, number_field, zone_field, worker_field, transport_field, address_field, bytes_field, message_field}
 use Rattle.script_codec.specs.Fields.{fields_of, one_field, two_fields, four_fields}
 use Rattle.script_codec.specs.Line.{zone_line, transfer_line, full_line, query_line, give_line, fail_line, clock_line, kind_line, worded_line, is_skipped, is_text_byte, unnumbered_line}
 use Rattle.script_codec.specs.Outcome.{refuse_if}
@@ -26,7 +26,7 @@ zone_within : (state : PlainState) (fields : List (List ℕ)) (says : Line) → 
 unfolding zone_line
 zone_within state fields says e =
     let a = bind_ok (one_field fields) _ says e in
-    let b = bind_ok (name_of a.0) _ says a.2 in
+    let b = bind_ok (name_field a.0) _ says a.2 in
     let c = bind_ok (opens state b.0) _ says b.2 in
     read_is state (line.Zone b.0) says c.2 (name_bounds a.0 b.0 b.1, may_open state b.0 c.0 c.1)
 
@@ -36,8 +36,8 @@ transfer_within : (state : PlainState) (fields : List (List ℕ)) (says : Line) 
 unfolding transfer_line
 transfer_within state fields says e =
     let a = bind_ok (two_fields fields) _ says e in
-    let b = bind_ok (zone_of (zone_count state) a.0.0) _ says a.2 in
-    let c = bind_ok (bytes_of a.0.1) _ says b.2 in
+    let b = bind_ok (zone_field (zone_count state) a.0.0) _ says a.2 in
+    let c = bind_ok (bytes_field a.0.1) _ says b.2 in
     read_is state (line.Transfer b.0 c.0) says c.2 (zone_bounds (zone_count state) a.0.0 b.0 b.1)
 
 -- `full Z`
@@ -46,7 +46,7 @@ full_within : (state : PlainState) (fields : List (List ℕ)) (says : Line) → 
 unfolding full_line
 full_within state fields says e =
     let a = bind_ok (one_field fields) _ says e in
-    let b = bind_ok (zone_of (zone_count state) a.0) _ says a.2 in
+    let b = bind_ok (zone_field (zone_count state) a.0) _ says a.2 in
     read_is state (line.Full b.0) says b.2 (zone_bounds (zone_count state) a.0 b.0 b.1)
 
 -- `query W udp|tcp ADDR HEX`
@@ -55,10 +55,10 @@ query_within : (state : PlainState) (fields : List (List ℕ)) (says : Line) →
 unfolding query_line
 query_within state fields says e =
     let a = bind_ok (four_fields fields) _ says e in
-    let b = bind_ok (worker_of a.0.0) _ says a.2 in
-    let c = bind_ok (transport_of a.0.1) _ says b.2 in
-    let d = bind_ok (address_of a.0.2) _ says c.2 in
-    let f = bind_ok (message_of a.0.3) _ says d.2 in
+    let b = bind_ok (worker_field a.0.0) _ says a.2 in
+    let c = bind_ok (transport_field a.0.1) _ says b.2 in
+    let d = bind_ok (address_field a.0.2) _ says c.2 in
+    let f = bind_ok (message_field a.0.3) _ says d.2 in
     let g = bind_ok (refuse_if (is_pending state b.0) why.Busy) _ says f.2 in
     read_is state (line.Query b.0 c.0 d.0 f.0) says g.2 (worker_bounds a.0.0 b.0 b.1, message_bounds a.0.3 f.0 f.1, not_refused (is_pending state b.0) why.Busy g.0 g.1)
 
@@ -68,8 +68,8 @@ give_within : (state : PlainState) (fields : List (List ℕ)) (says : Line) → 
 unfolding give_line
 give_within state fields says e =
     let a = bind_ok (two_fields fields) _ says e in
-    let b = bind_ok (worker_of a.0.0) _ says a.2 in
-    let c = bind_ok (message_of a.0.1) _ says b.2 in
+    let b = bind_ok (worker_field a.0.0) _ says a.2 in
+    let c = bind_ok (message_field a.0.1) _ says b.2 in
     let d = bind_ok (refuse_if (not (is_pending state b.0)) why.Idle) _ says c.2 in
     read_is state (line.Give b.0 c.0) says d.2 (worker_bounds a.0.0 b.0 b.1, message_bounds a.0.1 c.0 c.1, not-false (is_pending state b.0) (not_refused _ why.Idle d.0 d.1))
 
@@ -79,7 +79,7 @@ fail_within : (state : PlainState) (fields : List (List ℕ)) (says : Line) → 
 unfolding fail_line
 fail_within state fields says e =
     let a = bind_ok (one_field fields) _ says e in
-    let b = bind_ok (worker_of a.0) _ says a.2 in
+    let b = bind_ok (worker_field a.0) _ says a.2 in
     let c = bind_ok (refuse_if (not (is_pending state b.0)) why.Idle) _ says b.2 in
     read_is state (line.Fail b.0) says c.2 (worker_bounds a.0 b.0 b.1, not-false (is_pending state b.0) (not_refused _ why.Idle c.0 c.1))
 
@@ -89,7 +89,7 @@ clock_within : (state : PlainState) (fields : List (List ℕ)) (says : Line) →
 unfolding clock_line
 clock_within state fields says e =
     let a = bind_ok (one_field fields) _ says e in
-    let b = bind_ok (number_of a.0) _ says a.2 in
+    let b = bind_ok (number_field a.0) _ says a.2 in
     read_is state (line.Clock b.0) says b.2 tt
 
 -- any kind

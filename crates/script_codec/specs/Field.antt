@@ -4,7 +4,9 @@ use Rattle.std.specs.Char.{is_ascii_digit}
 use Rattle.std.specs.Int.{w128, from_be_bytes}
 use Rattle.std.specs.List.{list_all, before_first, after_first}
 use Rattle.std.specs.Str.{bytes_eq}
+use Rattle.dns_name.specs.Labels.{Name}
 use Rattle.hex.specs.Hex.{decode_of, decode_sized}
+use Rattle.dns_name.specs.Text.{is_dot}
 use Rattle.dns_name.specs.Text as name_form
 use Rattle.ip_prefix.specs.declared.Addr.{Addr}
 use Rattle.ip_prefix.specs.declared.Addr.TheVariants as addr
@@ -22,8 +24,8 @@ or_refused (Ok x) why = Ok x
 or_refused (Err e) why = Err why
 
 -- the name that a text gives
-abbrev pub name_of : List ℕ → Result (List (List ℕ)) LineFault
-name_of text = or_refused (name_form.text_name text) why.Name
+abbrev pub name_field : List ℕ → Result Name LineFault
+name_field text = or_refused (name_form.text_name text) why.Name
 
 -- the number that decimal digits write
 abbrev pub value_of : List ℕ → ℕ
@@ -36,66 +38,63 @@ is_number most bound digits =
     && nat_lt (value_of digits) bound
 
 -- a number: 1 to 10 decimal digits, at most 4,294,967,295
-unfoldable pub number_of : List ℕ → Result ℕ LineFault
-number_of digits = if is_number 10 (2 ^ 32) digits then Ok (value_of digits) else Err why.Number
+unfoldable pub number_field : List ℕ → Result ℕ LineFault
+number_field digits = if is_number 10 (2 ^ 32) digits then Ok (value_of digits) else Err why.Number
 
 -- the number of a zone, of so many that there are; zone 1 is the first
-unfoldable pub zone_of : ℕ → List ℕ → Result ℕ LineFault
-zone_of zones digits = do
-  zone ← number_of digits
+unfoldable pub zone_field : ℕ → List ℕ → Result ℕ LineFault
+zone_field zones digits = do
+  zone ← number_field digits
   _ ← refuse_if (zone == 0) why.NoZone
   _ ← refuse_if (nat_lt zones zone) why.NoZone
   Ok zone
 
 -- the number of a worker; worker 0 is the first
-unfoldable pub worker_of : List ℕ → Result ℕ LineFault
-worker_of digits = do
-  worker ← number_of digits
+unfoldable pub worker_field : List ℕ → Result ℕ LineFault
+worker_field digits = do
+  worker ← number_field digits
   _ ← refuse_if (nat_le WORKERS worker) why.NoWorker
   Ok worker
 
 -- `udp` or `tcp`
-abbrev pub transport_of : List ℕ → Result Transport LineFault
-transport_of text =
+abbrev pub transport_field : List ℕ → Result Transport LineFault
+transport_field text =
     if bytes_eq text (codes "udp") then Ok transport.Udp
     else (if bytes_eq text (codes "tcp") then Ok transport.Tcp
     else Err why.Transport)
 
-abbrev pub is_dot : ℕ → Bool
-is_dot b = b == 46
-
 -- a part of an address of IP version 4: 1 to 3 decimal digits, at most 255
-unfoldable pub octet_of : List ℕ → Result ℕ LineFault
-octet_of digits = if is_number 3 256 digits then Ok (value_of digits) else Err why.Address
+unfoldable pub octet_field : List ℕ → Result ℕ LineFault
+octet_field digits = if is_number 3 256 digits then Ok (value_of digits) else Err why.Address
 
 -- an address of IP version 4: four decimals joined by dots
-unfoldable pub v4_of : List ℕ → Result Addr LineFault
-v4_of text = do
-  first ← octet_of (before_first is_dot text)
+unfoldable pub v4_field : List ℕ → Result Addr LineFault
+v4_field text = do
+  first ← octet_field (before_first is_dot text)
   let rest = after_first is_dot text
-  second ← octet_of (before_first is_dot rest)
+  second ← octet_field (before_first is_dot rest)
   let rest = after_first is_dot rest
-  third ← octet_of (before_first is_dot rest)
-  fourth ← octet_of (after_first is_dot rest)
+  third ← octet_field (before_first is_dot rest)
+  fourth ← octet_field (after_first is_dot rest)
   Ok (addr.V4 (((first * 256 + second) * 256 + third) * 256 + fourth))
 
 -- an address of IP version 6: 32 hexadecimal digits
-unfoldable pub v6_of : List ℕ → Result Addr LineFault
-v6_of text = do
+unfoldable pub v6_field : List ℕ → Result Addr LineFault
+v6_field text = do
   bytes ← or_refused (decode_sized text 16) why.Address
   Ok (addr.V6 (from_be_bytes w128 bytes))
 
 -- an address; no text is one of both versions
-unfoldable pub address_of : List ℕ → Result Addr LineFault
-address_of text = if length text == 32 then v6_of text else v4_of text
+unfoldable pub address_field : List ℕ → Result Addr LineFault
+address_field text = if length text == 32 then v6_field text else v4_field text
 
 -- bytes: `-` for none, else an even number of hexadecimal digits
-unfoldable pub bytes_of : List ℕ → Result (List ℕ) LineFault
-bytes_of text = if bytes_eq text (codes "-") then Ok [] else or_refused (decode_of text) why.Hex
+unfoldable pub bytes_field : List ℕ → Result (List ℕ) LineFault
+bytes_field text = if bytes_eq text (codes "-") then Ok [] else or_refused (decode_of text) why.Hex
 
 -- a message: at most 65,535 bytes (RFC 1035, section 4.2.2)
-unfoldable pub message_of : List ℕ → Result (List ℕ) LineFault
-message_of text = do
-  bytes ← bytes_of text
+unfoldable pub message_field : List ℕ → Result (List ℕ) LineFault
+message_field text = do
+  bytes ← bytes_field text
   _ ← refuse_if (nat_lt MESSAGE_BYTES (length bytes)) why.Long
   Ok bytes

@@ -9,14 +9,14 @@ use Rattle.script_codec.specs.declared.line_fault.LineFault.{LineFault}
 use Rattle.script_codec.specs.declared.line_fault.LineFault.TheVariants as why
 use Rattle.script_codec.specs.Outcome.{◌>>=◌, refuse_if}
 use Rattle.script_codec.specs.Fields.{fields_of, one_field, two_fields, four_fields}
-use Rattle.script_codec.specs.Field.{name_of, number_of, zone_of, worker_of, transport_of, address_of, bytes_of, message_of}
+use Rattle.script_codec.specs.Field.{name_field, number_field, zone_field, worker_field, transport_field, address_field, bytes_field, message_field}
 use Rattle.script_codec.specs.State.{PlainState, zone_count, is_pending, opens}
 
 -- `zone NAME`
 unfoldable pub zone_line : PlainState → List (List ℕ) → Result Line LineFault
 zone_line state fields = do
   text ← one_field fields
-  origin ← name_of text
+  origin ← name_field text
   _ ← opens state origin
   Ok (line.Zone origin)
 
@@ -24,25 +24,25 @@ zone_line state fields = do
 unfoldable pub transfer_line : PlainState → List (List ℕ) → Result Line LineFault
 transfer_line state fields = do
   (digits, text) ← two_fields fields
-  zone ← zone_of (zone_count state) digits
-  stream ← bytes_of text
+  zone ← zone_field (zone_count state) digits
+  stream ← bytes_field text
   Ok (line.Transfer zone stream)
 
 -- `full Z`
 unfoldable pub full_line : PlainState → List (List ℕ) → Result Line LineFault
 full_line state fields = do
   digits ← one_field fields
-  zone ← zone_of (zone_count state) digits
+  zone ← zone_field (zone_count state) digits
   Ok (line.Full zone)
 
 -- `query W udp|tcp ADDR HEX`
 unfoldable pub query_line : PlainState → List (List ℕ) → Result Line LineFault
 query_line state fields = do
   (digits, carrier, source, text) ← four_fields fields
-  worker ← worker_of digits
-  transport ← transport_of carrier
-  client ← address_of source
-  message ← message_of text
+  worker ← worker_field digits
+  transport ← transport_field carrier
+  client ← address_field source
+  message ← message_field text
   _ ← refuse_if (is_pending state worker) why.Busy
   Ok (line.Query worker transport client message)
 
@@ -50,8 +50,8 @@ query_line state fields = do
 unfoldable pub give_line : PlainState → List (List ℕ) → Result Line LineFault
 give_line state fields = do
   (digits, text) ← two_fields fields
-  worker ← worker_of digits
-  message ← message_of text
+  worker ← worker_field digits
+  message ← message_field text
   _ ← refuse_if (not (is_pending state worker)) why.Idle
   Ok (line.Give worker message)
 
@@ -59,7 +59,7 @@ give_line state fields = do
 unfoldable pub fail_line : PlainState → List (List ℕ) → Result Line LineFault
 fail_line state fields = do
   digits ← one_field fields
-  worker ← worker_of digits
+  worker ← worker_field digits
   _ ← refuse_if (not (is_pending state worker)) why.Idle
   Ok (line.Fail worker)
 
@@ -67,7 +67,7 @@ fail_line state fields = do
 unfoldable pub clock_line : List (List ℕ) → Result Line LineFault
 clock_line fields = do
   digits ← one_field fields
-  seconds ← number_of digits
+  seconds ← number_field digits
   Ok (line.Clock seconds)
 
 -- a line of this first word and these fields

@@ -1,17 +1,18 @@
 -- The state that a line is read in.
 use Rattle.std.specs.Prelude.{ℕ, nat_le, Bool, false, List, length, slice_index_or, Result, Err}
+use Rattle.dns_name.specs.Labels.{Name}
 use Rattle.script_codec.specs.declared.state.ScriptState.{ScriptState}
 use Rattle.script_codec.specs.declared.state.ScriptState.TheVariants.{Opening, Running}
 use Rattle.zone_rows.specs.declared.zone.TheConstants.{ZONE_LIMIT}
 use Rattle.script_codec.specs.declared.line_fault.LineFault.{LineFault}
 use Rattle.script_codec.specs.declared.line_fault.LineFault.TheVariants as why
-use Rattle.script_codec.specs.Names.{has_name}
+use Rattle.script_codec.specs.Names.{has_zone_name}
 use Rattle.script_codec.specs.Outcome.{◌>>=◌, refuse_if}
 
 -- All lines so far were zone lines, which opened zones of these origins, zone 1 first; or there were others, and there are so
 -- many zones, and the list says of each worker, worker 0 first, whether it has a pending query.
 pub data PlainState : Type 0 where
-  opening : List (List (List ℕ)) → PlainState
+  opening : List Name → PlainState
   running : ℕ → List Bool → PlainState
 
 -- what the code holds by reference
@@ -30,8 +31,8 @@ is_pending (opening origins) worker = false
 is_pending (running zones pending) worker = slice_index_or pending worker false
 
 -- whether a zone of this origin may be opened
-unfoldable pub opens : PlainState → List (List ℕ) → Result (Unit {0}) LineFault
+unfoldable pub opens : PlainState → Name → Result (Unit {0}) LineFault
 opens (opening origins) origin = do
   _ ← refuse_if (nat_le ZONE_LIMIT (length origins)) why.Many
-  refuse_if (has_name origins origin) why.Repeated
+  refuse_if (has_zone_name origins origin) why.Repeated
 opens (running zones pending) origin = Err why.Late

@@ -1,12 +1,12 @@
 -- What holds of a line that is read, by the state that it is read by.
 use Rattle.std.specs.Prelude.{◌≡◌, ℕ, ◌≤◌, ◌<◌, true, false, List, length, Option, Some, None}
-use Rattle.dns_name.specs.Labels.{IsName}
+use Rattle.dns_name.specs.Labels.{IsName, Name}
 use Rattle.zone_rows.specs.declared.zone.TheConstants.{ZONE_LIMIT}
 use Rattle.script_codec.specs.declared.field.TheConstants.{MESSAGE_BYTES}
 use Rattle.script_codec.specs.declared.line.Line.{Line}
 use Rattle.script_codec.specs.declared.line.Line.TheVariants.{Zone, Transfer, Full, Query, Give, Fail, Clock}
 use Rattle.script_codec.specs.declared.state.TheConstants.{WORKERS}
-use Rattle.script_codec.specs.Names.{has_name}
+use Rattle.script_codec.specs.Names.{has_zone_name}
 use Rattle.script_codec.specs.State.{PlainState, opening, running, zone_count, is_pending}
 
 -- there is a zone of this number; zone 1 is the first
@@ -22,8 +22,9 @@ abbrev pub IsMessage : List ℕ → Type 0
 IsMessage message = length message ≤ MESSAGE_BYTES
 
 -- A zone of this origin may be opened: all lines so far were zone lines, there is room for one more, and none has this origin.
-abbrev pub MayOpen : PlainState → List (List ℕ) → Type 0
-MayOpen (opening origins) origin = (length origins < ZONE_LIMIT) × (has_name origins origin ≡ false)
+abbrev pub MayOpen : PlainState → Name → Type 0
+MayOpen (opening origins) origin =
+    (length origins < ZONE_LIMIT) × (has_zone_name origins origin ≡ false)
 MayOpen (running zones pending) origin = ⊥
 
 -- A transfer is of an open zone; a worker with a pending query gets no other, and only such a worker gets an answer.

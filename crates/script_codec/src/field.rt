@@ -6,7 +6,8 @@ ghost use Rattle.std.specs.List.{list_all, before_first, after_first};
 ghost use Rattle.dns_name.specs.Labels.{IsName};
 ghost use Rattle.script_codec.specs.Outcome.{Gives};
 ghost use Rattle.script_codec.specs.Within.{IsWorker, IsMessage};
-ghost use Rattle.script_codec.specs.Field.{is_dot, value_of, name_of, number_of, zone_of, worker_of, transport_of, octet_of, v4_of, v6_of, address_of, bytes_of, message_of};
+ghost use Rattle.dns_name.specs.Text.{is_dot};
+ghost use Rattle.script_codec.specs.Field.{value_of, name_field, number_field, zone_field, worker_field, transport_field, octet_field, v4_field, v6_field, address_field, bytes_field, message_field};
 
 use crate::line_fault::{LineFault, UnnumberedError};
 use crate::state::WORKERS;
@@ -20,7 +21,7 @@ const MESSAGE_BYTES: usize = 65_535;
 
 /// The name that the text gives.
 pub fn name(alloc: Global, text: &[u8]) -> Result<Name, UnnumberedError>
-    ensures exact { Gives result (name_of text.now) }
+    ensures exact { Gives result (name_field text.now) }
     ensures name { IfOk result IsName }
 {
     match Name::from_text(alloc, text) {
@@ -32,9 +33,9 @@ pub fn name(alloc: Global, text: &[u8]) -> Result<Name, UnnumberedError>
 
 /// The number that 1 to 10 decimal digits write, from 0 to 4,294,967,295; leading zeros are allowed. Anything else is
 /// `LineFault::Number`, a sign among it.
-#[tactic(auto, unfolding(crate::specs::Field::number_of))]
+#[tactic(auto, unfolding(crate::specs::Field::number_field))]
 pub fn number(digits: &[u8]) -> Result<u32, LineFault>
-    ensures { result ≡ number_of digits.now }
+    ensures { result ≡ number_field digits.now }
 {
     if digits.is_empty() || digits.len() > 10 || !are_digits(digits) {
         return Err(LineFault::Number);
@@ -43,9 +44,9 @@ pub fn number(digits: &[u8]) -> Result<u32, LineFault>
 }
 
 /// The number of a zone, of so many that there are. Zone 1 is the first.
-#[tactic(auto, unfolding(crate::specs::Field::zone_of))]
+#[tactic(auto, unfolding(crate::specs::Field::zone_field))]
 pub fn zone(digits: &[u8], zones: usize) -> Result<u32, LineFault>
-    ensures exact { result ≡ zone_of zones digits.now }
+    ensures exact { result ≡ zone_field zones digits.now }
     ensures within { IfOk result (λ zone. (1 ≤ zone) × (zone ≤ zones)) }
 {
     let zone = number(digits)?;
@@ -56,9 +57,9 @@ pub fn zone(digits: &[u8], zones: usize) -> Result<u32, LineFault>
 }
 
 /// The number of a worker. Worker 0 is the first.
-#[tactic(auto, unfolding(crate::specs::Field::worker_of))]
+#[tactic(auto, unfolding(crate::specs::Field::worker_field))]
 pub fn worker(digits: &[u8]) -> Result<u32, LineFault>
-    ensures exact { result ≡ worker_of digits.now }
+    ensures exact { result ≡ worker_field digits.now }
     ensures within { IfOk result IsWorker }
 {
     let worker = number(digits)?;
@@ -70,7 +71,7 @@ pub fn worker(digits: &[u8]) -> Result<u32, LineFault>
 
 /// The transport that `udp` or `tcp` names.
 pub fn transport(text: &[u8]) -> Result<Transport, LineFault>
-    ensures { result ≡ transport_of text.now }
+    ensures { result ≡ transport_field text.now }
 {
     if text == b"udp".as_slice() {
         return Ok(Transport::Udp);
@@ -82,9 +83,9 @@ pub fn transport(text: &[u8]) -> Result<Transport, LineFault>
 }
 
 /// The address that four decimals or 32 hexadecimal digits write.
-#[tactic(auto, unfolding(crate::specs::Field::address_of))]
+#[tactic(auto, unfolding(crate::specs::Field::address_field))]
 pub fn address(text: &[u8]) -> Result<Addr, LineFault>
-    ensures { result ≡ address_of text.now }
+    ensures { result ≡ address_field text.now }
 {
     if text.len() == 32 {
         address_6(text)
@@ -95,9 +96,9 @@ pub fn address(text: &[u8]) -> Result<Addr, LineFault>
 
 /// The address of IP version 4 that four decimals write: each has 1 to 3 digits and is at most 255, and they are joined
 /// by dots (RFC 3986, section 3.2.2, with leading zeros allowed). Anything else is `LineFault::Address`.
-#[tactic(auto, unfolding(crate::specs::Field::v4_of))]
+#[tactic(auto, unfolding(crate::specs::Field::v4_field))]
 pub fn address_4(text: &[u8]) -> Result<Addr, LineFault>
-    ensures { result ≡ v4_of text.now }
+    ensures { result ≡ v4_field text.now }
 {
     let (first, rest) = split_dot(text);
     let (second, rest) = split_dot(rest);
@@ -110,9 +111,9 @@ pub fn address_4(text: &[u8]) -> Result<Addr, LineFault>
 }
 
 // An address of IP version 6: 32 hexadecimal digits.
-#[tactic(auto, unfolding(crate::specs::Field::v6_of))]
+#[tactic(auto, unfolding(crate::specs::Field::v6_field))]
 fn address_6(text: &[u8]) -> Result<Addr, LineFault>
-    ensures { result ≡ v6_of text.now }
+    ensures { result ≡ v6_field text.now }
 {
     match <[u8; 16]>::from_hex(text) {
         Ok(bytes) => Ok(Addr::V6(u128::from_be_bytes(bytes))),
@@ -140,9 +141,9 @@ fn dot_at(text: &[u8]) -> Option<usize>
 }
 
 // The octet that 1 to 3 decimal digits write.
-#[tactic(auto, unfolding(crate::specs::Field::octet_of))]
+#[tactic(auto, unfolding(crate::specs::Field::octet_field))]
 fn octet(digits: &[u8]) -> Result<u32, LineFault>
-    ensures value { result ≡ octet_of digits.now }
+    ensures value { result ≡ octet_field digits.now }
     ensures fits { IfOk result (λ octet. octet < 256) }
 {
     if digits.is_empty() || digits.len() > 3 || !are_digits(digits) {
@@ -176,9 +177,9 @@ fn value(digits: &[u8]) -> u64
 }
 
 /// The bytes that `-` or an even number of hexadecimal digits write.
-#[tactic(auto, unfolding(crate::specs::Field::bytes_of))]
+#[tactic(auto, unfolding(crate::specs::Field::bytes_field))]
 pub fn bytes(alloc: Global, text: &[u8]) -> Result<Octets, UnnumberedError>
-    ensures { Gives result (bytes_of text.now) }
+    ensures { Gives result (bytes_field text.now) }
 {
     if text == b"-".as_slice() {
         return Ok(Octets::new(alloc));
@@ -191,9 +192,9 @@ pub fn bytes(alloc: Global, text: &[u8]) -> Result<Octets, UnnumberedError>
 }
 
 /// The message that `-` or an even number of hexadecimal digits write, of at most 65,535 bytes.
-#[tactic(auto, unfolding(crate::specs::Field::message_of))]
+#[tactic(auto, unfolding(crate::specs::Field::message_field))]
 pub fn message(alloc: Global, text: &[u8]) -> Result<Octets, UnnumberedError>
-    ensures exact { Gives result (message_of text.now) }
+    ensures exact { Gives result (message_field text.now) }
     ensures within { IfOk result IsMessage }
 {
     let message = bytes(alloc, text)?;

@@ -1,7 +1,7 @@
 //! Lists of names.
 
 ghost use Rattle.std.specs.Prelude.{◌≡◌, ℕ, List, [], ◌∷◌, ◌++◌, length, OnOk, OnErr};
-ghost use Rattle.script_codec.specs.Names.{has_name};
+ghost use Rattle.script_codec.specs.Names.{has_zone_name};
 
 use dns_name::Name;
 use std::alloc::{AllocError, Global};
@@ -38,7 +38,7 @@ impl Names {
 
     /// Whether the name is among them. ASCII letters compare without case.
     pub fn contains(&self, name: &Name) -> bool
-        ensures { result ≡ has_name self.now name.now }
+        ensures { result ≡ has_zone_name self.now name.now }
     {
         self.names.iter().any(|other| other.is_same(name))
     }

@@ -7,10 +7,11 @@ ghost use Rattle.script_codec.specs.Within.{MayOpen};
 use crate::line_fault::LineFault;
 use crate::names::Names;
 use dns_name::Name;
+use edge_io::WORKER_LIMIT;
 use zone_rows::ZONE_LIMIT;
 
 /// How many workers there are.
-pub const WORKERS: usize = 16;
+pub const WORKERS: usize = WORKER_LIMIT;
 
 /// What a line of a script is read by. Empty lines and comments do not count.
 #[derive(Clone, Copy, Debug)]

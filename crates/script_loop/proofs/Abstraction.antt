@@ -2,7 +2,7 @@
 use Rattle.std.proofs.Common.{◌≡◌, ℕ, List, [], ◌∷◌, ◌++◌, Ok, Err, Result, refl, ◌∙◌, ap, length, nat_lt, true, false}
 use Rattle.std.specs.Prelude.{Bool, ◌-◌, ◌^◌, if◌then◌else◌}
 use Rattle.script_loop.specs.Lines.{lines_of}
-use Rattle.script_loop.specs.Fold.{Run, run_of, run_on, line_outcome, with_next_number, transcript, verdict}
+use Rattle.script_loop.specs.Fold.{Run, run_of, run_on, line_outcome, counting_on, transcript, verdict}
 use Rattle.script_loop.specs.Abstraction.{StepsAlong, outcome_along, run_along, verdict_along}
 
 module _ {M N W : Type 0} (too_many too_long : W) (view : M → N) (first : M → List ℕ → Result (M × List ℕ) W) (second : N → List ℕ → Result (N × List ℕ) W) (same : StepsAlong view first second) where
@@ -14,7 +14,7 @@ module _ {M N W : Type 0} (too_many too_long : W) (view : M → N) (first : M �
   abbrev tested : {S : Type 0} → Bool → Bool → Result ((ℕ × S) × List ℕ) W → Result ((ℕ × S) × List ℕ) W
   tested many long stepped = if many then Err too_many else (if long then Err too_long else stepped)
 
-  tested-along : (number : ℕ) (many long : Bool) (stepped : Result (M × List ℕ) W) → tested many long (with_next_number number (outcome_along view stepped)) ≡ outcome_along view_of (tested many long (with_next_number number stepped))
+  tested-along : (number : ℕ) (many long : Bool) (stepped : Result (M × List ℕ) W) → tested many long (counting_on number (outcome_along view stepped)) ≡ outcome_along view_of (tested many long (counting_on number stepped))
   tested-along number true long stepped = refl
   tested-along number false true stepped = refl
   tested-along number false false (Ok next) = refl
@@ -24,7 +24,7 @@ module _ {M N W : Type 0} (too_many too_long : W) (view : M → N) (first : M �
   line_outcome-along old line =
       let many = nat_lt (2 ^ 32 - 1) old.0 in
       let long = nat_lt 200000 (length line) in
-      ap (λ (s : Result (N × List ℕ) W). tested many long (with_next_number old.0 s)) (same old.1 line) ∙ tested-along old.0 many long (first old.1 line)
+      ap (λ (s : Result (N × List ℕ) W). tested many long (counting_on old.0 s)) (same old.1 line) ∙ tested-along old.0 many long (first old.1 line)
 
   on-along : (number : ℕ) (stepped : Result ((ℕ × M) × List ℕ) W) (lines : List (List ℕ))
       → ((old : ℕ × M) → run_of too_many too_long second (view_of old) lines ≡ run_along view (run_of too_many too_long first old lines))

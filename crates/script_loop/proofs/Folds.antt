@@ -3,7 +3,7 @@ use Rattle.std.proofs.Common.{◌≡◌, ℕ, ◌+◌, ◌<◌, ◌≤◌, List,
 use Rattle.std.specs.Prelude.{Bool, if◌then◌else◌}
 use Rattle.std.proofs.lemmas.Bool.Decides.{nat_tests}
 use Rattle.script_loop.specs.declared.limits.TheConstants.{LINE_BYTES, LINES}
-use Rattle.script_loop.specs.Fold.{Run, run_of, run_on, line_outcome, with_next_number, why_unread}
+use Rattle.script_loop.specs.Fold.{Run, run_of, run_on, line_outcome, counting_on, why_unread}
 
 module _ {M W : Type 0} where
   -- what is output before goes before
@@ -73,7 +73,7 @@ module _ {M W : Type 0} (too_many too_long : W) (step : M → List ℕ → Resul
 
   -- a line that is taken is one line
   one-counts : (many long : Bool) (number : ℕ) (stepped : Result (M × List ℕ) W) (next : (ℕ × M) × List ℕ)
-      → (if many then Err too_many else (if long then Err too_long else with_next_number number stepped)) ≡ Ok next → next.0.0 ≡ number + 1
+      → (if many then Err too_many else (if long then Err too_long else counting_on number stepped)) ≡ Ok next → next.0.0 ≡ number + 1
   unfolding next_number
   one-counts true long number stepped next is = absurd (cc)
   one-counts false true number stepped next is = absurd (cc)

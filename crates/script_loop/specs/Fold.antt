@@ -3,11 +3,11 @@ use Rattle.std.specs.Prelude.{ℕ, ◌+◌, List, [], ◌∷◌, ◌++◌, if◌
 use Rattle.script_loop.specs.declared.limits.TheConstants.{LINE_BYTES, LINES}
 use Rattle.script_loop.specs.Lines.{lines_of}
 
--- the state is the number of the next line, and the machine
-abbrev pub with_next_number : {M W : Type 0} → ℕ → Result (M × List ℕ) W →
-    Result ((ℕ × M) × List ℕ) W
-with_next_number number (Ok next) = Ok ((number + 1, next.0), next.1)
-with_next_number number (Err why) = Err why
+-- Counting lines: after a line that was taken, the state is the machine with the number of the line that comes next, and the line's
+-- output is as it was. A line that is refused is passed on as it is.
+abbrev pub counting_on : {M W : Type 0} → ℕ → Result (M × List ℕ) W → Result ((ℕ × M) × List ℕ) W
+counting_on line_number (Ok (machine, output)) = Ok ((line_number + 1, machine), output)
+counting_on line_number (Err why) = Err why
 
 -- a run of lines: what it outputs, and the state after it, or the number of the line that was refused, and why
 abbrev pub Run : Type 0 → Type 0 → Type 0
@@ -29,7 +29,7 @@ module _ {M W : Type 0} (too_many too_long : W) (step : M → List ℕ → Resul
   line_outcome old line =
       if nat_lt LINES old.0 then Err too_many
       else (if nat_lt LINE_BYTES (length line) then Err too_long
-      else with_next_number old.0 (step old.1 line))
+      else counting_on old.0 (step old.1 line))
 
   abbrev pub run_of : ℕ × M → List (List ℕ) → Run M W
   run_of old [] = ([], Ok old)

@@ -4,6 +4,7 @@ use Rattle.std.specs.Char.{is_ascii_digit, is_ascii_hexdigit, to_ascii_lowercase
 use Rattle.std.specs.List.{list_all, list_any, count_by}
 use Rattle.std.specs.Str.{bytes_eq}
 use Rattle.std.specs.Str.Parse.{digits_value}
+use Rattle.dns_name.specs.Labels.{Label}
 use Rattle.ip_prefix.specs.declared.Addr.{Addr}
 use Rattle.ip_prefix.specs.declared.Addr.TheVariants.{V4, V6}
 use Rattle.ip_prefix.specs.declared.prefix.PrefixFault.{PrefixFault}
@@ -49,12 +50,12 @@ single None = None
 single (Some n) = Some (n ∷ [])
 
 -- the bytes of labels
-abbrev pub bytes_read : List (List ℕ) → Option (List ℕ)
+abbrev pub bytes_read : List Label → Option (List ℕ)
 bytes_read [] = Some []
 bytes_read (label ∷ labels) = both (single (byte_read label)) (bytes_read labels)
 
 -- the words of labels, where `zz` stands for so many
-abbrev pub words_read : ℕ → List (List ℕ) → Option (List ℕ)
+abbrev pub words_read : ℕ → List Label → Option (List ℕ)
 words_read missing [] = Some []
 words_read missing (label ∷ labels) =
     both (if is_zz label then Some (replicate missing 0) else single (word_read label))
@@ -74,7 +75,7 @@ v6_of None = None
 v6_of (Some words) = Some (V6 (from_lowest 65536 words))
 
 -- An address reversed: four bytes, eight words, or up to seven words and one `zz` for the zero words that are missing.
-unfoldable pub address_read : List (List ℕ) → Option Addr
+unfoldable pub address_read : List Label → Option Addr
 address_read labels =
     if list_any is_zz labels
     then (if count_by is_zz labels == 1 && nat_le (length labels) 8
@@ -95,6 +96,6 @@ prefix_made (Some len) None = Err Address
 prefix_made None addr = Err Address
 
 -- the prefix of labels: the length and the address behind it
-unfoldable pub prefix_read : List (List ℕ) → Result PlainPrefix Inert
+unfoldable pub prefix_read : List Label → Result PlainPrefix Inert
 prefix_read [] = Err Address
 prefix_read (first ∷ labels) = prefix_made (length_read first) (address_read labels)

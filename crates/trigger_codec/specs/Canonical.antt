@@ -2,6 +2,7 @@
 -- for the longest run of two or more zero words, the first in the address where two are equal.
 use Rattle.std.specs.Prelude.{ℕ, zero, suc, ◌+◌, ◌/◌, ◌%◌, ◌==◌, nat_lt, false, if◌then◌else◌, List, [], ◌∷◌, ◌++◌, map, reverse, take, drop, codes, decimal, Result}
 use Rattle.std.specs.Fmt.{digits}
+use Rattle.dns_name.specs.Labels.{Name, Label}
 use Rattle.dns_name.specs.Alike.{PlainPattern}
 use Rattle.dns_name.specs.Join.{join_outcome}
 use Rattle.dns_name.specs.declared.fault.TooLong.{TooLong}
@@ -42,30 +43,30 @@ longest_run place (word ∷ words) =
     (longest_run (place + 1) words)
 
 -- the words of an address, highest first, as labels, with `zz` for a run of two or more
-abbrev pub with_run : List ℕ → Run → List (List ℕ)
+abbrev pub with_run : List ℕ → Run → List Label
 with_run words run =
     if nat_lt run.long 2 then map hexadecimal words
     else map hexadecimal (take run.place words)
     ++ codes "zz" ∷ map hexadecimal (drop (run.place + run.long) words)
 
-abbrev pub word_labels : List ℕ → List (List ℕ)
+abbrev pub word_labels : List ℕ → List Label
 word_labels words = with_run words (longest_run 0 words)
 
 -- an address reversed, as labels
-unfoldable pub address_labels : Addr → List (List ℕ)
+unfoldable pub address_labels : Addr → List Label
 address_labels (V4 number) = map decimal (lowest_digits 4 256 number)
 address_labels (V6 number) = reverse (word_labels (reverse (lowest_digits 8 65536 number)))
 
 -- a prefix as labels
-abbrev pub prefix_labels : PlainPrefix → List (List ℕ)
+abbrev pub prefix_labels : PlainPrefix → List Label
 prefix_labels prefix = decimal prefix.length ∷ address_labels prefix.addr
 
 -- names as labels
-abbrev pub pattern_labels : PlainPattern → List (List ℕ)
+abbrev pub pattern_labels : PlainPattern → List Label
 pattern_labels pattern = if pattern.wild then codes "*" ∷ pattern.base else pattern.base
 
 -- a trigger as labels
-unfoldable pub trigger_labels : Trigger → List (List ℕ)
+unfoldable pub trigger_labels : Trigger → List Label
 trigger_labels (ClientIp prefix) = prefix_labels prefix ++ codes "rpz-client-ip" ∷ []
 trigger_labels (Qname pattern) = pattern_labels pattern
 trigger_labels (ResponseIp prefix) = prefix_labels prefix ++ codes "rpz-ip" ∷ []
@@ -73,5 +74,5 @@ trigger_labels (NsDname pattern) = pattern_labels pattern ++ codes "rpz-nsdname"
 trigger_labels (NsIp prefix) = prefix_labels prefix ++ codes "rpz-nsip" ∷ []
 
 -- the canonical owner of a trigger in the zone of this origin
-abbrev pub canonical_owner : Trigger → List (List ℕ) → Result (List (List ℕ)) TooLong
+abbrev pub canonical_owner : Trigger → Name → Result Name TooLong
 canonical_owner t origin = join_outcome (trigger_labels t) origin

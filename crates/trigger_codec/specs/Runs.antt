@@ -1,5 +1,6 @@
 -- Runs of zero words, by their places in the list of the words of an address.
 use Rattle.std.specs.Prelude.{◌≡◌, ◌≢◌, ◌≤◌, ◌<◌, ◌+◌, ◌⊎◌, ℕ, List, ◌∷◌, ◌++◌, length, map, take, drop, codes, slice_index}
+use Rattle.dns_name.specs.Labels.{Label}
 use Rattle.trigger_codec.specs.Canonical.{Run, hexadecimal}
 
 -- The words from the run's place on, so many, are zero. The run is not empty, and can't be longer at
@@ -23,7 +24,7 @@ pub record IsFirstLongest (words : List ℕ) (run : Run) : Type 0 where
   pub is_chosen : (other : Run) → IsRun words other → IsChosenOver run other
 
 -- these are the labels of the words where the first longest run has two words or more: `zz` stands for it
-pub record HasZz (words : List ℕ) (labels : List (List ℕ)) : Type 0 where
+pub record HasZz (words : List ℕ) (labels : List Label) : Type 0 where
   pub run : Run
   pub is_longest : IsFirstLongest words run
   pub two : 2 ≤ run.long
@@ -32,6 +33,6 @@ pub record HasZz (words : List ℕ) (labels : List (List ℕ)) : Type 0 where
       ++ codes "zz" ∷ map hexadecimal (drop (run.place + run.long) words)
 
 -- these are the labels of the words where no run has two words: each is written
-pub record HasNoZz (words : List ℕ) (labels : List (List ℕ)) : Type 0 where
+pub record HasNoZz (words : List ℕ) (labels : List Label) : Type 0 where
   pub short : (run : Run) → IsRun words run → run.long < 2
   pub are_labels : labels ≡ map hexadecimal words

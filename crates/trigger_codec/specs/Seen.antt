@@ -1,5 +1,6 @@
 -- What the code distinguishes, as values of the definitions.
 use Rattle.std.specs.Prelude.{ℕ, Bool, false, List, [], ◌∷◌}
+use Rattle.dns_name.specs.Labels.{Name}
 use Rattle.trigger_codec.specs.declared.marker.Marker.{Marker as Told}
 use Rattle.trigger_codec.specs.declared.marker.Marker.TheVariants.{ClientIp, ResponseIp, NsIp, NsDname, Unknown, Plain}
 use Rattle.trigger_codec.specs.declared.runs.Run.{Run as RunTold}
@@ -20,6 +21,6 @@ abbrev pub run_seen : RunTold → Run
 run_seen run = record { place = run.place; long = run.long }
 
 -- the first label is `*`
-abbrev pub first_is_asterisk : List (List ℕ) → Bool
+abbrev pub first_is_asterisk : Name → Bool
 first_is_asterisk [] = false
 first_is_asterisk (first ∷ others) = is_asterisk first

@@ -1,6 +1,7 @@
 //! Laws of triggers. Each function is its clauses, and does nothing.
 
 ghost use Rattle.std.specs.Prelude.{◌≡◌, ◌⊎◌, ℕ, List, Ok};
+ghost use Rattle.dns_name.specs.Labels.{Name};
 ghost use Rattle.trigger_codec.specs.Canonical.{canonical_owner, word_labels};
 ghost use Rattle.trigger_codec.specs.Decode as decode;
 ghost use Rattle.trigger_codec.specs.Runs.{HasZz, HasNoZz};
@@ -10,7 +11,7 @@ use dns_name::laws::names_that_are_alike;
 
 /// The canonical owner of a trigger that was read, from whatever owner, names this trigger in the zone.
 pub fn a_trigger_is_read_back()
-    ensures { (owner origin : List (List ℕ)) (t : Trigger) (name : List (List ℕ)) →
+    ensures { (owner origin : Name) (t : Trigger) (name : Name) →
         decode.trigger owner origin ≡ Ok t → canonical_owner t origin ≡ Ok name →
         decode.trigger name origin ≡ Ok t }
 {

@@ -4,7 +4,7 @@ use Rattle.std.specs.List.{list_any}
 use Rattle.dns_name.specs.Alike.{same_name}
 use Rattle.dns_record.specs.Record.{PlainRecord}
 use Rattle.dns_message.specs.declared.question.Question.{Question}
-use Rattle.upstream_link.specs.Chain.{alias_of, asks_alias, chain, chain_from, chain_with, is_alias, next_name, target_in}
+use Rattle.upstream_link.specs.Chain.{alias_of, asks_alias, chain, chain_from, chain_with, is_alias, next_name, unmet_target}
 use Rattle.upstream_link.specs.Kept.{PlainAnswer}
 use Rattle.upstream_link.specs.declared.aliases.TheConstants.{CHAIN_LIMIT}
 use Rattle.upstream_link.specs.declared.fact.Fact.TheVariants.{Answer}
@@ -57,7 +57,7 @@ no_alias (r ∷ records) name none = no_alias_by (is_alias r) (same_name r.owner
 alone_in : (records : List PlainRecord) (name : List Label) → list_any is_alias records ≡ false → chain_from CHAIN_LIMIT records (name ∷ []) name ≡ Some (name ∷ [])
 unfolding chain_from
 alone_in records name none =
-    let next : next_name records (name ∷ []) name ≡ None = ap (target_in (name ∷ [])) (no_alias records name none) in
+    let next : next_name records (name ∷ []) name ≡ None = ap (unmet_target (name ∷ [])) (no_alias records name none) in
     ap (chain_with (chain_from 15 records) (name ∷ [])) next
 
 alone_by : (b : Bool) (names : List (List Label)) (whole : Option (List (List Label))) → whole ≡ Some names → cond b (Some names) whole ≡ Some names

@@ -3,6 +3,8 @@ use Rattle.std.specs.Prelude.{ℕ, ◌==◌, ◌&&◌, ◌||◌, Bool, true, fal
 use Rattle.std.specs.List.{find}
 use Rattle.dns_name.specs.Alike.{same_name}
 use Rattle.dns_record.specs.Record.{PlainRecord}
+use Rattle.dns_record.specs.declared.rtype.TheConstants.{SOA}
+use Rattle.dns_record.specs.declared.class.TheConstants.{IN}
 use Rattle.dns_message.specs.declared.fault.MessageFault.{MessageFault}
 use Rattle.dns_message.specs.declared.message.Message.{Message}
 use Rattle.dns_message.specs.declared.question.Question.{Question}
@@ -28,7 +30,7 @@ answers_to id question m =
 
 -- a SOA record of class IN
 abbrev pub is_soa : PlainRecord → Bool
-is_soa r = r.rtype == 6 && r.class == 1
+is_soa r = r.rtype == SOA && r.class == IN
 
 -- of the answers those of class IN, and of the authority section the first SOA record of class IN (RFC 2308, section 2); no
 -- time has passed
@@ -36,7 +38,7 @@ abbrev pub answer_in : Message → PlainAnswer
 answer_in m =
     record {
       rcode = m.header.rcode;
-      answers = filter (λ r. r.class == 1) m.answer;
+      answers = filter (λ r. r.class == IN) m.answer;
       soa = find is_soa m.authority;
       age = 0;
     }

@@ -2,6 +2,7 @@
 use Rattle.std.specs.Prelude.{◌≡◌, ℕ, ◌≤◌, Bool, List, [], ◌∷◌, ◌++◌, length, Option, Some, None, is_some}
 use Rattle.std.specs.List.{find}
 use Rattle.std.specs.Option.{option_map}
+use Rattle.dns_name.specs.Labels.{Name}
 use Rattle.dns_record.specs.Record.{PlainRecord}
 use Rattle.dns_message.specs.declared.question.Question.{Question}
 use Rattle.dns_message.specs.declared.request.Query.{Query}
@@ -28,7 +29,7 @@ records_of (Some (Broken why)) = []
 records_of (Some (Answer answer)) = answer.answers
 
 -- the records of the answer to the question of this name and type, as far as it is known
-abbrev pub records_about : PlainFacts → List (List ℕ) → ℕ → List PlainRecord
+abbrev pub records_about : PlainFacts → Name → ℕ → List PlainRecord
 records_about facts name qtype = records_of (fact_about facts (question_of name qtype))
 
 -- the records of the answer to a query, as far as it is known

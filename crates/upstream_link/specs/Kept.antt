@@ -2,6 +2,8 @@
 use Rattle.std.specs.Prelude.{◌≡◌, ℕ, ◌==◌, ◌⊎◌, true, List, map, Option, IfSome}
 use Rattle.std.specs.List.{list_all}
 use Rattle.dns_record.specs.Record.{PlainRecord}
+use Rattle.dns_record.specs.declared.rtype.TheConstants.{SOA}
+use Rattle.dns_record.specs.declared.class.TheConstants.{IN}
 use Rattle.dns_message.specs.Aged.{aged}
 
 -- The records are as they came, and the age is how many seconds have passed since.
@@ -25,10 +27,10 @@ aged_answers answer = map (aged answer.age) answer.answers
 
 -- a SOA record of class IN
 abbrev pub IsSoa : PlainRecord → Type 0
-IsSoa r = (r.rtype ≡ 6) × (r.class ≡ 1)
+IsSoa r = (r.rtype ≡ SOA) × (r.class ≡ IN)
 
 -- It says something or that the name doesn't exist, its records are of class IN, and its SOA is a SOA record.
 pub record IsAnswer (answer : PlainAnswer) : Type 0 where
   pub is_answer_rcode : (answer.rcode ≡ 0) ⊎ (answer.rcode ≡ 3)
-  pub in_class : list_all (λ (r : PlainRecord). r.class == 1) answer.answers ≡ true
+  pub in_class : list_all (λ (r : PlainRecord). r.class == IN) answer.answers ≡ true
   pub is_soa : IfSome answer.soa IsSoa

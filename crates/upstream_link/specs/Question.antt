@@ -1,6 +1,7 @@
 -- What is asked of the upstream.
 use Rattle.std.specs.Prelude.{ℕ, true, List, [], Some, None}
-use Rattle.dns_name.specs.Labels.{lowered}
+use Rattle.dns_name.specs.Labels.{lowered, Name}
+use Rattle.dns_record.specs.declared.class.TheConstants.{IN}
 use Rattle.dns_message.specs.declared.message.Message.{Message}
 use Rattle.dns_message.specs.declared.question.Question.{Question}
 use Rattle.dns_message.specs.declared.request.Query.{Query}
@@ -8,8 +9,8 @@ use Rattle.dns_message.specs.Request.{request_header}
 use Rattle.dns_message.specs.Spelling.{spelling}
 
 -- a question of class IN
-abbrev pub question_of : List (List ℕ) → ℕ → Question
-question_of name qtype = record { name = name; qtype = qtype; qclass = 1 }
+abbrev pub question_of : Name → ℕ → Question
+question_of name qtype = record { name = name; qtype = qtype; qclass = IN }
 
 -- what is asked about a query: its own question
 abbrev pub main_question : Query → Question

@@ -12,6 +12,7 @@ ghost use Rattle.upstream_link.specs.Life.{with_age};
 ghost use Rattle.upstream_link.specs.Question.{question_of};
 ghost use Rattle.upstream_link.specs.Servers.{ancestors, servers};
 ghost use Rattle.std.specs.List.{list_all, list_any};
+ghost use Rattle.dns_name.specs.Labels.{Name};
 
 /// What is known stays known, and stays the same, whatever facts come behind. So do the servers of a name once the NS
 /// questions of the name and of those above it are answered.
@@ -19,11 +20,11 @@ pub fn what_is_known_stays_known()
     ensures known { (facts more : PlainFacts) (question : Question) (fact : Fact) →
         Extends facts more →
         fact_about facts question ≡ Some fact → fact_about more question ≡ Some fact }
-    ensures records { (facts more : PlainFacts) (name : List (List ℕ)) (qtype : ℕ) →
+    ensures records { (facts more : PlainFacts) (name : Name) (qtype : ℕ) →
         Extends facts more →
         IsTrue (is_known facts (question_of name qtype)) →
         records_about more name qtype ≡ records_about facts name qtype }
-    ensures servers { (facts more : PlainFacts) (name : List (List ℕ)) → Extends facts more →
+    ensures servers { (facts more : PlainFacts) (name : Name) → Extends facts more →
         IsTrue (list_all (λ owner. is_known facts (question_of owner 2)) (ancestors name)) →
         servers more name ≡ servers facts name }
 {}

@@ -1,5 +1,6 @@
 -- What a zone with its index stands for: the index agrees with its rows, and no two rows have one identity.
 use Rattle.std.specs.Prelude.{◌≡◌, ℕ, All, List, Option, Some, None}
+use Rattle.dns_name.specs.Labels.{Name}
 use Rattle.dns_record.specs.Row.{IsRow}
 use Rattle.dns_record.specs.Soa.{soa_record}
 use Rattle.trigger_codec.specs.declared.trigger.Trigger.{Trigger}
@@ -13,14 +14,14 @@ use Rattle.zone_index.specs.declared.zone.Index.{Index}
 use Rattle.zone_index.specs.declared.zone.Zone.TheInside.{Inside}
 
 -- the SOA record of a loaded zone, and its rules
-abbrev pub index_of : List (List ℕ) → Option Content → Option Index
+abbrev pub index_of : Name → Option Content → Option Index
 index_of origin None = None
 index_of origin (Some content) =
     Some
     (record { soa_record = soa_record origin content.soa; rules = rules_of origin content.rows })
 
 -- what the live rows of a trigger do in a zone; nothing where nothing is loaded
-abbrev pub content_rule : List (List ℕ) → Option Content → Trigger → Option Action
+abbrev pub content_rule : Name → Option Content → Trigger → Option Action
 content_rule origin None t = None
 content_rule origin (Some content) t = action_by t (rows_of origin content.rows t)
 

@@ -1,6 +1,7 @@
 -- The rules of a zone as one list: what a reader must believe of them (draft-vixie-dnsop-dns-rpz, sections 3 to 5).
 use Rattle.std.specs.Prelude.{ℕ, Bool, false, List, [], ◌∷◌, ◌++◌, map, filter, flat_map, Option, Some, None}
 use Rattle.std.specs.BTreeMap.{is_at}
+use Rattle.dns_name.specs.Labels.{Name}
 use Rattle.ip_prefix.specs.Prefix.{prefix_order}
 use Rattle.qname_index.specs.Best.{pattern_order}
 use Rattle.trigger_codec.specs.declared.trigger.Trigger.{Trigger}
@@ -26,7 +27,7 @@ is_of t None = false
 is_of t (Some u) = is_same t u
 
 -- the live rows of a trigger, in the order of the zone
-abbrev pub rows_of : List (List ℕ) → List PlainRow → Trigger → List PlainRow
+abbrev pub rows_of : Name → List PlainRow → Trigger → List PlainRow
 rows_of origin rows t = filter (λ row. is_of t (live_trigger origin row)) rows
 
 -- the rule of a trigger, unless its rows do nothing
@@ -35,13 +36,13 @@ rule_if t None = []
 rule_if t (Some action) = (t, action) ∷ []
 
 -- the rule of a live row: that of its trigger, which does what all live rows of this trigger do
-abbrev pub row_rule : List (List ℕ) → List PlainRow → Option Trigger → List (Trigger × Action)
+abbrev pub row_rule : Name → List PlainRow → Option Trigger → List (Trigger × Action)
 row_rule origin rows None = []
 row_rule origin rows (Some t) = rule_if t (action_by t (rows_of origin rows t))
 
 -- All rules of a zone of this origin and these rows, each trigger with its action: the rule of each live row. A rule of
 -- several rows stands here once for each.
-abbrev pub zone_rules : List (List ℕ) → List PlainRow → List (Trigger × Action)
+abbrev pub zone_rules : Name → List PlainRow → List (Trigger × Action)
 zone_rules origin rows = flat_map (λ row. row_rule origin rows (live_trigger origin row)) rows
 
 -- the entries of a map of one kind, with their triggers

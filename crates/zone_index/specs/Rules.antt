@@ -3,6 +3,7 @@ use Rattle.std.specs.Prelude.{ℕ, Bool, if◌then◌else◌, List, [], ◌∷�
 use Rattle.std.specs.BTreeMap.{insert_entry, is_at}
 use Rattle.std.specs.Map.{lookup, remove_entry}
 use Rattle.std.specs.declared.cmp.Ordering.{Ordering}
+use Rattle.dns_name.specs.Labels.{Name}
 use Rattle.dns_name.specs.Alike.{PlainPattern}
 use Rattle.ip_prefix.specs.Prefix.{prefix_order}
 use Rattle.qname_index.specs.Best.{pattern_order}
@@ -20,7 +21,7 @@ some_trigger (Ok t) = Some t
 some_trigger (Err inert) = None
 
 -- the trigger of a row that is live: its type makes rules, and its owner names a trigger
-abbrev pub live_trigger : List (List ℕ) → PlainRow → Option Trigger
+abbrev pub live_trigger : Name → PlainRow → Option Trigger
 live_trigger origin row =
     if is_live_type row.rtype then some_trigger (trigger row.owner origin) else None
 
@@ -55,7 +56,7 @@ put_live groups row None = groups
 put_live groups row (Some t) = put_row groups row t
 
 -- the live rows by trigger, those of one trigger in the order of the zone
-abbrev pub groups_of : List (List ℕ) → List PlainRow → PlainGroups
+abbrev pub groups_of : Name → List PlainRow → PlainGroups
 groups_of origin rows =
     fold (λ groups row. put_live groups row (live_trigger origin row)) no_groups rows
 
@@ -88,5 +89,5 @@ rules_in groups = record {
 }
 
 -- The rules of a zone of this origin and these rows.
-abbrev pub rules_of : List (List ℕ) → List PlainRow → PlainRules
+abbrev pub rules_of : Name → List PlainRow → PlainRules
 rules_of origin rows = rules_in (groups_of origin rows)

@@ -1,10 +1,11 @@
 -- What a zone holds, and a zone that holds nothing yet.
 use Rattle.std.specs.Prelude.{ℕ, List, length, Option, Some, None}
+use Rattle.dns_name.specs.Labels.{Name}
 use Rattle.zone_rows.specs.declared.zone.Content.{Content}
 use Rattle.zone_rows.specs.declared.zone.PlainZone.{PlainZone}
 
 -- a zone of this origin with nothing loaded
-abbrev pub unloaded : List (List ℕ) → PlainZone
+abbrev pub unloaded : Name → PlainZone
 unloaded origin = record { origin = origin; content = None }
 
 abbrev pub content_serial : Option Content → Option ℕ
