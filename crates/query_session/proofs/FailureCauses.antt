@@ -14,13 +14,13 @@ use Rattle.upstream_link.specs.declared.fact.Fact.{Fact}
 use Rattle.upstream_link.specs.declared.fact.Fact.TheVariants.{Answer, Broken}
 use Rattle.upstream_link.specs.Chain.{asks_alias}
 use Rattle.upstream_link.specs.Fact.{same_question}
-use Rattle.upstream_link.specs.Facts.{PlainFacts, fact_about}
+use Rattle.upstream_link.specs.Facts.{AreKept, IsKept, PlainFacts, fact_about}
 use Rattle.upstream_link.specs.Kept.{IsAnswer, PlainAnswer}
 use Rattle.upstream_link.specs.Question.{question_of, main_question}
 use Rattle.reply_build.specs.Reply.{ReplyOutcome, Place, Sections, needs, gives, silent, alias_outcome, alias_record, by_action, by_alias, by_verdict, main_outcome, over_tcp, pass_outcome, place_of, sections, server_failure, target_outcome, truncation}
 use Rattle.reply_build.specs.Target.{alias_in, target_of}
 use Rattle.reply_build.specs.Verdict.{PlainVerdict, passes, fails, applies}
-use Rattle.query_session.specs.Laws.{AreKept, HasCause, IsBroken, IsKept, LeadsTo, LetsPass, alias, no_answer, no_rule, no_target, pass_thru, tcp_only, too_long}
+use Rattle.query_session.specs.Laws.{HasCause, IsBroken, LeadsTo, LetsPass, alias, no_answer, no_rule, no_target, pass_thru, tcp_only, too_long}
 
 abbrev Name : Type 0
 Name = List (List ℕ)

@@ -10,7 +10,7 @@ use Rattle.dns_message.specs.declared.request.Query.{Query}
 use Rattle.dns_message.specs.Limit.{reply_limit, spelling_within, truncated_form}
 use Rattle.dns_message.specs.Spelling.{header_octets, parts_octets, second_flags, spelling}
 use Rattle.upstream_link.specs.declared.facts.TheConstants.{FACT_LIMIT}
-use Rattle.upstream_link.specs.Facts.{PlainFacts}
+use Rattle.upstream_link.specs.Facts.{AreKept, PlainFacts}
 use Rattle.reply_build.specs.declared.said.Said.TheVariants as said
 use Rattle.reply_build.specs.declared.turn.Turn.{Turn}
 use Rattle.reply_build.specs.declared.turn.Turn.TheVariants.{Ask, Said}
@@ -18,7 +18,7 @@ use Rattle.reply_build.specs.Reply.{ReplyOutcome, Sections, by_verdict, gives, n
 use Rattle.reply_build.specs.Verdict.{PlainVerdict, passes, applies}
 use Rattle.policy_snapshot.specs.Next.{Next, ask, decided_by, no_hit, chain_too_long, next}
 use Rattle.policy_snapshot.specs.Policy.{PlainPolicy}
-use Rattle.query_session.specs.Laws.{AreKept, FailsBy, IsDecided, IsNeeded, by_cause, by_reply, by_rules, failure_turn, long_chain, many_facts, verdict_in}
+use Rattle.query_session.specs.Laws.{FailsBy, IsDecided, IsNeeded, by_cause, by_reply, by_rules, failure_turn, long_chain, many_facts, verdict_in}
 use Rattle.query_session.specs.Session.{turn_by, turn_by_next, verdict_turn, within_fact_limit}
 use Rattle.query_session.proofs.FailureCauses.{Fails, IsByRules, cause, failure}
 

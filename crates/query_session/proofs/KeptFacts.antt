@@ -7,10 +7,10 @@ use Rattle.dns_message.specs.Reading.{message_of}
 use Rattle.upstream_link.specs.declared.fact.Fact.{Fact}
 use Rattle.upstream_link.specs.declared.fact.Fact.TheVariants.{Answer, Broken}
 use Rattle.upstream_link.specs.declared.fact.AnswerFault.TheVariants.{Unusable, Rcode}
+use Rattle.upstream_link.specs.Facts.{IsKept}
 use Rattle.upstream_link.specs.Fact.{answer_in, answers_to, fact_by, fact_from, fact_in, is_answer_rcode}
 use Rattle.upstream_link.specs.Life.{with_age}
 use Rattle.upstream_link.proofs.Answers.{is_answer}
-use Rattle.query_session.specs.Laws.{IsKept}
 
 kept_aged : (seconds : ℕ) (fact : Fact) → IsKept fact → IsKept (with_age seconds fact)
 kept_aged seconds (Answer answer) kept = record { is_answer_rcode = kept.is_answer_rcode; in_class = kept.in_class; is_soa = kept.is_soa }

@@ -1,6 +1,5 @@
 -- What sessions come to: a reply after at most FACT_LIMIT facts, and why it may have rcode 2.
 use Rattle.std.specs.Prelude.{◌≡◌, ◌≤◌, ℕ, zero, suc, Bool, true, false, length, List, [], ◌∷◌, ◌++◌, Option, Some, None}
-use Rattle.std.specs.List.{AllByRecursion}
 use Rattle.dns_name.specs.Labels.{Name}
 use Rattle.dns_record.specs.Record.{PlainRecord}
 use Rattle.dns_message.specs.declared.question.Question.{Question}
@@ -11,12 +10,11 @@ use Rattle.ip_prefix.specs.declared.Transport.TheVariants.{Tcp}
 use Rattle.action_codec.specs.Local.{PlainLocal}
 use Rattle.action_codec.specs.declared.action.Action.TheVariants.{PassThru, TcpOnly, Local}
 use Rattle.upstream_link.specs.declared.fact.Fact.{Fact}
-use Rattle.upstream_link.specs.declared.fact.Fact.TheVariants.{Answer, Broken}
+use Rattle.upstream_link.specs.declared.fact.Fact.TheVariants.{Broken}
 use Rattle.upstream_link.specs.declared.fact.AnswerFault.{AnswerFault}
 use Rattle.upstream_link.specs.Chain.{asks_alias}
 use Rattle.upstream_link.specs.declared.facts.TheConstants.{FACT_LIMIT}
 use Rattle.upstream_link.specs.Facts.{PlainFacts, fact_about}
-use Rattle.upstream_link.specs.Kept.{IsAnswer}
 use Rattle.upstream_link.specs.Question.{question_of, main_question}
 use Rattle.reply_build.specs.declared.said.Said.TheVariants as said
 use Rattle.reply_build.specs.declared.turn.Turn.{Turn}
@@ -48,14 +46,6 @@ facts_after policy incoming upstream zero facts = facts
 facts_after policy incoming upstream (suc turns) facts =
     let more = facts_by upstream facts (turn_by policy incoming facts) in
     facts_after policy incoming upstream turns more
-
--- an answer has rcode 0 or 3 and records of class IN, as all have that are kept of an upstream's responses
-abbrev pub IsKept : Fact → Type 0
-IsKept (Answer answer) = IsAnswer answer
-IsKept (Broken why) = Unit {0}
-
-abbrev pub AreKept : PlainFacts → Type 0
-AreKept facts = AllByRecursion (λ e. IsKept e.1) facts
 
 -- it is known that the upstream has no answer to this question
 abbrev pub IsBroken : PlainFacts → Question → Type 0

@@ -7,14 +7,14 @@ ghost use Rattle.dns_message.specs.declared.request.Incoming.TheVariants.{Query 
 ghost use Rattle.dns_message.specs.declared.request.Query.{Query};
 ghost use Rattle.policy_snapshot.specs.Policy.{PlainPolicy};
 ghost use Rattle.policy_snapshot.specs.Stands.{HaveRows};
-ghost use Rattle.query_session.specs.Laws.{AreKept, FailsBy, IsKept, Upstream, facts_after, failure_turn, is_said};
+ghost use Rattle.query_session.specs.Laws.{FailsBy, Upstream, facts_after, failure_turn, is_said};
 ghost use Rattle.query_session.specs.Session.{turn_by};
 ghost use Rattle.upstream_link.specs.declared.fact.AnswerFault.{AnswerFault};
 ghost use Rattle.upstream_link.specs.declared.fact.Fact.TheVariants.{Broken};
 ghost use Rattle.upstream_link.specs.declared.facts.TheConstants.{FACT_LIMIT};
 ghost use Rattle.upstream_link.specs.Fact.{fact_from};
 ghost use Rattle.upstream_link.specs.Life.{with_age};
-ghost use Rattle.upstream_link.specs.Facts.{Extends, PlainFacts};
+ghost use Rattle.upstream_link.specs.Facts.{AreKept, Extends, IsKept, PlainFacts};
 
 use policy_snapshot::laws::nothing_unasked_could_matter;
 use upstream_link::laws::what_is_known_stays_known;
@@ -32,8 +32,8 @@ pub fn at_most_128_facts_bring_a_reply()
 /// A query gets the reply of rcode 2 in exactly these cases: the chain of aliases has too many names; the answer to one more
 /// question is needed, and [`FACT_LIMIT`](upstream_link::FACT_LIMIT) facts are known; or something is decided, but the upstream has
 /// no answer that could pass, the name that the rule's CNAME record leads to is too long, or the upstream has no answer about that
-/// name, where the CNAME record itself isn't asked for. The facts are such as
-/// [`what_is_obtained_is_kept`](what_is_obtained_is_kept) says.
+/// name, where the CNAME record itself isn't asked for. The facts are kept of responses, as those of a session are
+/// ([`Session::turn`](crate::Session::turn)).
 pub fn a_failure_has_a_cause()
     ensures { (policy : PlainPolicy) (query : Query) (facts : PlainFacts) → AreKept facts →
         (turn_by policy (Asks query) facts ≡ failure_turn query) ↔ FailsBy policy query facts }

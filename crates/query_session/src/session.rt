@@ -4,7 +4,7 @@ ghost use Rattle.std.specs.Prelude.{◌≡◌, ◌≤◌, ◌∷◌, [], true, �
 ghost use Rattle.dns_message.specs.declared.question.Question as questions;
 ghost use Rattle.dns_message.specs.Request.{incoming_of};
 ghost use Rattle.upstream_link.specs.declared.fact.Fact as told;
-ghost use Rattle.upstream_link.specs.Facts.{PlainFacts};
+ghost use Rattle.upstream_link.specs.Facts.{AreKept, PlainFacts};
 ghost use Rattle.reply_build.specs.Short.{SaysShort};
 ghost use Rattle.query_session.specs.Session.{AsksAnew, IsPassed, after_fact, after_turn, awaiting, new_session, question_in as asks, turn_of};
 
@@ -94,14 +94,17 @@ impl Session {
     }
 
     /// What is done at this point, which is the same until a fact is given. What it asks isn't known yet, and fewer than
-    /// [`FACT_LIMIT`](upstream_link::FACT_LIMIT) facts are.
+    /// [`FACT_LIMIT`](upstream_link::FACT_LIMIT) facts are. What is known is kept of responses.
     pub fn turn(&mut self) -> Result<Turn, AllocError>
         ensures turn { IfOk result (λ turn. turn ≡ turn_of self.old) }
         ensures ok { OnOk result (self.new ≡ after_turn self.old) }
         ensures anew { IfOk result (λ turn. AsksAnew self.old.facts (asks turn)) }
         ensures short { IfOk result SaysShort }
+        ensures kept { AreKept self.old.facts }
         ensures err { OnErr result (self.new ≡ self.old) }
     {
+        // called for its clause: what is known is kept of responses
+        let _known = self.facts.len();
         let (turn, passed) = self.next_turn()?;
         self.asked = asked_in(&turn)?;
         self.passed = passed;

@@ -6,11 +6,10 @@ use Rattle.upstream_link.specs.declared.fact.Fact.{Fact}
 use Rattle.upstream_link.specs.declared.fact.Fact.TheVariants.{Broken}
 use Rattle.upstream_link.specs.declared.fact.AnswerFault.TheVariants.{Failed}
 use Rattle.upstream_link.specs.Fact.{fact_from}
-use Rattle.upstream_link.specs.Facts.{PlainFacts}
+use Rattle.upstream_link.specs.Facts.{AreKept, IsKept, PlainFacts}
 use Rattle.upstream_link.specs.Life.{with_age}
 use Rattle.upstream_link.specs.Vouched.{PlainLearned, fact_at}
 use Rattle.policy_snapshot.specs.Policy.{PlainPolicy}
-use Rattle.query_session.specs.Laws.{AreKept, IsKept}
 use Rattle.rpz_core.specs.declared.event.Event.{Event}
 use Rattle.rpz_core.specs.Answered.{AreAnswered, no_more, one_more}
 use Rattle.rpz_core.specs.History.{AreObtained, comes, failed, given, waits}

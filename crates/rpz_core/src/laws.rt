@@ -6,13 +6,12 @@ ghost use Rattle.answer_cache.specs.Recent.{AreApart, HaveSameEntries, live_entr
 ghost use Rattle.dns_message.specs.declared.question.Question.{Question};
 ghost use Rattle.dns_message.specs.declared.request.Incoming.{Incoming};
 ghost use Rattle.policy_snapshot.specs.Policy.{AreAccepted, PlainPolicy};
-ghost use Rattle.query_session.specs.Laws.{AreKept};
 ghost use Rattle.query_session.specs.Session.{turn_by};
 ghost use Rattle.reply_build.specs.declared.said.Said.{Said};
 ghost use Rattle.reply_build.specs.declared.turn.Turn.TheVariants.{Ask};
 ghost use Rattle.rpz_core.specs.Answered.{AreAnswered};
 ghost use Rattle.rpz_core.specs.Resolving.{resolve};
-ghost use Rattle.upstream_link.specs.Facts.{PlainFacts};
+ghost use Rattle.upstream_link.specs.Facts.{AreKept, PlainFacts};
 ghost use Rattle.upstream_link.specs.Vouched.{PlainLearned};
 ghost use Rattle.rpz_core.specs.declared.event.CoreFault.{CoreFault};
 ghost use Rattle.rpz_core.specs.declared.event.Event.{Event};

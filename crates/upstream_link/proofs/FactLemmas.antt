@@ -11,7 +11,7 @@ use Rattle.dns_message.specs.declared.question.Question.{Question}
 use Rattle.upstream_link.specs.declared.fact.Fact.{Fact}
 use Rattle.upstream_link.specs.declared.facts.TheConstants.{FACT_LIMIT}
 use Rattle.upstream_link.specs.Fact.{same_question}
-use Rattle.upstream_link.specs.Facts.{PlainFacts, AreDistinct, AreFacts, Extends, fact_about, is_known, records_of, records_about}
+use Rattle.upstream_link.specs.Facts.{PlainFacts, AreDistinct, AreFacts, AreKept, Extends, IsKept, fact_about, is_known, records_of, records_about}
 use Rattle.upstream_link.specs.Question.{question_of}
 use Rattle.upstream_link.specs.Servers.{ancestors, servers, servers_at, servers_in}
 
@@ -64,21 +64,38 @@ distinct_pop (x ∷ xs) e d =
     let apart = none_without xs e x.0 d.0 in
     ((apart.0, rest.0), none_from (same_question x.0 e.0) x (entry_of xs e.0) (same_question-sym x.0 e.0 ∙ apart.1) rest.1)
 
--- what a push leaves, be there memory or not
-pub facts_pushed : (facts seen longer : PlainFacts) (e : Entry) (ok : Bool) → AreFacts facts → facts ≡ seen → fact_about seen e.0 ≡ None → length seen < FACT_LIMIT → longer ≡ cond ok (facts ++ e ∷ []) facts → AreFacts longer
-facts_pushed facts seen longer e true a same n room is =
+-- ---- what is kept of responses
+
+pub kept_push : (facts : PlainFacts) (e : Entry) → AreKept facts → IsKept e.1 → AreKept (facts ++ e ∷ [])
+kept_push [] e all here = (here, tt)
+kept_push (x ∷ xs) e all here = (all.0, kept_push xs e all.1 here)
+
+kept_pop : (facts : PlainFacts) (e : Entry) → AreKept (facts ++ e ∷ []) → AreKept facts
+kept_pop [] e all = tt
+kept_pop (x ∷ xs) e all = (all.0, kept_pop xs e all.1)
+
+kept_taken : (n : ℕ) (facts : PlainFacts) → AreKept facts → AreKept (take n facts)
+kept_taken zero facts all = tt
+kept_taken (suc n) [] all = tt
+kept_taken (suc n) (x ∷ xs) all = (all.0, kept_taken n xs all.1)
+
+-- ---- what a push leaves, be there memory or not
+
+pub facts_pushed : (facts seen longer : PlainFacts) (e : Entry) (ok : Bool) → AreFacts facts → facts ≡ seen → fact_about seen e.0 ≡ None → length seen < FACT_LIMIT → IsKept e.1 → longer ≡ cond ok (facts ++ e ∷ []) facts → AreFacts longer
+facts_pushed facts seen longer e true a same n room kept is =
     subst AreFacts (sym is) (record {
       distinct = distinct_push facts e a.distinct (ap (λ (all : PlainFacts). fact_about all e.0) same ∙ n);
       few = omega (arith, length_push facts e, ap length same);
+      kept = kept_push facts e a.kept kept;
     })
-facts_pushed facts seen longer e false a same n room is = subst AreFacts (sym is) a
+facts_pushed facts seen longer e false a same n room kept is = subst AreFacts (sym is) a
 
 -- what is left when the last one was taken out, if there was one
 pub facts_popped : (facts less : PlainFacts) (last : Option Entry) → AreFacts facts → facts ≡ less ++ option_to_list last → AreFacts less
 facts_popped facts less None a is = subst AreFacts (is ∙ append-nil less) a
 facts_popped facts less (Some e) a is =
     let b = subst AreFacts is a in
-    record { distinct = (distinct_pop less e b.distinct).0; few = omega (arith, length_push less e, b.few) }
+    record { distinct = (distinct_pop less e b.distinct).0; few = omega (arith, length_push less e, b.few); kept = kept_pop less e b.kept }
 
 -- what is left of the first ones
 none_taken : (n : ℕ) (facts : PlainFacts) (q : Question) → fact_about facts q ≡ None → fact_about (take n facts) q ≡ None
@@ -97,6 +114,7 @@ pub facts_taken : (n : ℕ) (facts : PlainFacts) → AreFacts facts → AreFacts
 facts_taken n facts a = record {
   distinct = distinct_taken n facts a.distinct;
   few = omega (arith, length-take n facts, a.few);
+  kept = kept_taken n facts a.kept;
 }
 
 pub last_is_fresh : (facts less : PlainFacts) (last : Option Entry) → AreFacts facts → facts ≡ less ++ option_to_list last → IfSome last (λ e. fact_about less e.0 ≡ None)

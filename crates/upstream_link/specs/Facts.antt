@@ -1,6 +1,6 @@
 -- What is known at a point: facts, each beside the question that it answers.
 use Rattle.std.specs.Prelude.{◌≡◌, ℕ, ◌≤◌, Bool, List, [], ◌∷◌, ◌++◌, length, Option, Some, None, is_some}
-use Rattle.std.specs.List.{find}
+use Rattle.std.specs.List.{AllByRecursion, find}
 use Rattle.std.specs.Option.{option_map}
 use Rattle.dns_name.specs.Labels.{Name}
 use Rattle.dns_record.specs.Record.{PlainRecord}
@@ -10,6 +10,7 @@ use Rattle.upstream_link.specs.declared.fact.Fact.{Fact}
 use Rattle.upstream_link.specs.declared.fact.Fact.TheVariants.{Answer, Broken}
 use Rattle.upstream_link.specs.declared.facts.TheConstants.{FACT_LIMIT}
 use Rattle.upstream_link.specs.Fact.{same_question}
+use Rattle.upstream_link.specs.Kept.{IsAnswer}
 use Rattle.upstream_link.specs.Question.{question_of, main_question}
 
 abbrev pub PlainFacts : Type 0
@@ -55,7 +56,16 @@ abbrev pub AreDistinct : PlainFacts → Type 0
 AreDistinct [] = Unit {0}
 AreDistinct (e ∷ facts) = (fact_about facts e.0 ≡ None) × AreDistinct facts
 
--- The facts of a query answer distinct questions, and they are few.
+-- an answer has rcode 0 or 3 and records of class IN, as all have that are kept of an upstream's responses
+abbrev pub IsKept : Fact → Type 0
+IsKept (Answer answer) = IsAnswer answer
+IsKept (Broken why) = Unit {0}
+
+abbrev pub AreKept : PlainFacts → Type 0
+AreKept facts = AllByRecursion (λ e. IsKept e.1) facts
+
+-- The facts of a query answer distinct questions, they are few, and what they say is kept of responses.
 pub record AreFacts (facts : PlainFacts) : Type 0 where
   pub distinct : AreDistinct facts
   pub few : length facts ≤ FACT_LIMIT
+  pub kept : AreKept facts

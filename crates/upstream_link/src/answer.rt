@@ -114,7 +114,8 @@ impl Answer {
 
     /// For how many seconds since it came the answer may be kept, at most [`LIFE_LIMIT`](crate::LIFE_LIMIT).
     pub(crate) fn life(&self) -> u32
-        ensures { result ≡ life_in self.now }
+        ensures life { result ≡ life_in self.now }
+        ensures kept { IsAnswer self.now }
     {
         self.kept.life
     }

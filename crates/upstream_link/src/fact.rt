@@ -3,6 +3,7 @@
 ghost use Rattle.std.specs.Prelude.{◌≡◌, option_copied, IfOk};
 ghost use Rattle.upstream_link.specs.Fact as form;
 ghost use Rattle.upstream_link.specs.Fact.{fact_from, fact_in};
+ghost use Rattle.upstream_link.specs.Facts.{IsKept};
 ghost use Rattle.upstream_link.specs.Life.{life_of, with_age};
 ghost use Rattle.upstream_link.specs.declared.fact.Fact.TheVariants as facts;
 ghost use Rattle.upstream_link.specs.declared.fact.AnswerFault.TheVariants as reasons;
@@ -24,7 +25,8 @@ impl Fact {
     /// For how many seconds since it came the fact may be kept, at most [`LIFE_LIMIT`](crate::LIFE_LIMIT) (RFC 2308, section
     /// 5); 0 where it isn't kept.
     pub fn life(&self) -> u32
-        ensures { result ≡ life_of self.now }
+        ensures life { result ≡ life_of self.now }
+        ensures kept { IsKept self.now }
     {
         match self {
             Fact::Answer(answer) => answer.life(),

@@ -5,7 +5,7 @@ ghost use Rattle.std.specs.List.{list_any};
 ghost use Rattle.std.specs.Option.{option_map, option_to_list};
 ghost use Rattle.upstream_link.specs.Entries.{entries_of, entry_of, has_some, known_about};
 ghost use Rattle.upstream_link.specs.Fact as form;
-ghost use Rattle.upstream_link.specs.Facts.{AreFacts, age_of, fact_about, is_known, records_about};
+ghost use Rattle.upstream_link.specs.Facts.{AreFacts, AreKept, age_of, fact_about, is_known, records_about};
 ghost use Rattle.upstream_link.specs.Known.{AreInOrder, HaveSameMembers, named_servers};
 ghost use Rattle.upstream_link.specs.Question.{question_of};
 ghost use Rattle.upstream_link.specs.Servers.{servers, servers_at};
@@ -52,10 +52,12 @@ impl Facts {
         }
     }
 
-    /// How many facts there are, at most [`FACT_LIMIT`].
+    /// How many facts there are, at most [`FACT_LIMIT`]. What they say is kept of responses: an answer has the rcode NOERROR or
+    /// NXDOMAIN, records of class IN, and a SOA record at most.
     pub fn len(&self) -> usize
         ensures count { result ≡ length self.now }
         ensures limit { result ≤ FACT_LIMIT }
+        ensures kept { AreKept self.now }
     {
         self.facts.len()
     }
@@ -68,6 +70,8 @@ impl Facts {
         ensures ok { OnOk result (self.new ≡ self.old ++ (question, fact) ∷ []) }
         ensures err { IfErr result (λ refused. (refused.value ≡ question) × (self.new ≡ self.old)) }
     {
+        // called for its clause: what the fact says is kept of a response
+        let _life = fact.life();
         let known = Known::new(self.alloc, question, fact)?;
         match self.facts.push(known) {
             Ok(()) => Ok(()),
