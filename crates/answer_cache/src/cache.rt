@@ -37,7 +37,7 @@ impl<L: Link, S: BuildHasher + Drop> Model for AnswerCache<L, S> {
 }
 
 impl<L: Link, S: BuildHasher + Drop> AnswerCache<L, S> {
-    /// A cache of at most so many entries, 1 to [`MOST_ENTRIES`], with none.
+    /// Opens an empty cache for at most `entries` entries, 1 to [`MOST_ENTRIES`].
     pub fn open(alloc: Global, entries: usize, hashers: S) -> Result<Self, AllocError>
         requires some { 1 ≤ entries }
         requires most { entries ≤ MOST_ENTRIES }

@@ -81,7 +81,7 @@ fn one_if(test: bool, count: u64) -> u64
 }
 
 impl Tally {
-    /// Of no replies.
+    /// The tally of no replies: all counts are 0.
     pub fn none() -> Self
         ensures { result ≡ tally_of [] }
     {

@@ -18,7 +18,7 @@ pub enum FeedFault {
     Apply(ApplyFault),
 }
 
-/// Why a poll of a zone publishes nothing: a fault, or no memory.
+/// A fault of a poll, or out of memory.
 #[derive(Clone, Copy, Debug, PartialEq, Eq)]
 pub enum FeedError {
     OutOfMemory,

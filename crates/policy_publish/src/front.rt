@@ -89,7 +89,8 @@ impl Model for Line {
     ghost invariant = { λ f. f.count ≡ length f.seen.log };
 }
 
-/// An entry that is to be added behind a line. It keeps nothing of the entry, which may be taken apart before it is added.
+/// A transfer that is to be added to the log of accepted ones. It is only counted here: its records may be moved elsewhere before it is
+/// added, and the log has it in contracts alone.
 #[derive(Drop)]
 pub struct Addition {
     count: u64,

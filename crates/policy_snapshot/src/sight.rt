@@ -12,7 +12,7 @@ pub(crate) struct Sight<'a> {
     pub(crate) client: Addr,
     /// The name at the position.
     pub(crate) name: &'a Name,
-    /// The same in lower case.
+    /// That name in lower case.
     pub(crate) lower: &'a Name,
     /// The records of the answer to the query.
     pub(crate) records: &'a [Record],

@@ -8,7 +8,7 @@ use dns_message::Question;
 pub enum DraftOutcome {
     /// The question whose answer the reply needs and that isn't known.
     Needs(Question),
-    /// The reply but for its OPT record.
+    /// The reply, still without its OPT record.
     Gives(Draft),
     /// No reply.
     Silent,

@@ -1,4 +1,4 @@
-//! The reply to a client, or silence.
+//! What is sent to a client.
 
 use dns_name::Octets;
 

@@ -1,4 +1,4 @@
-//! What is decided of a query.
+//! Verdicts of the policy.
 
 use action_codec::Action;
 use dns_name::Name;

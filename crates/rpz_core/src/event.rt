@@ -57,7 +57,7 @@ pub enum Output {
     Reply { worker: u32, message: Octets },
     /// The query of this worker gets no reply.
     Silent { worker: u32 },
-    /// Of Full and Clock, which output nothing.
+    /// Nothing: the output of Full and Clock.
     None,
 }
 

@@ -31,7 +31,8 @@ pub(crate) enum Offered {
     Refuses(Refusal),
 }
 
-/// What a policy does with the stream that comes as the transfer of its zone of this number, which is marked or not.
+/// Reads a stream as the transfer of a zone: the zone takes it, is current, or refuses it. `marked` says whether the whole zone was asked
+/// for.
 pub(crate) fn read_offer(
     alloc: Global,
     policy: &Snapshot,

@@ -46,8 +46,8 @@ pub(crate) enum NextMessage {
     Said(Said),
 }
 
-/// What a session asks at a second that no live entry of the cache answers, in a message of this ID, or the reply. An `Err`
-/// leaves what the session knew, and maybe more.
+/// The next message of a session: a question, with this ID, that no entry of the cache live at this second answers, or the reply. What
+/// live entries answer on the way, the session learns. An `Err` leaves what the session knew, and maybe some of these answers.
 pub(crate) fn next_message(
     alloc: Global,
     cache: &mut Cache,

@@ -1,4 +1,4 @@
-//! What became of an item.
+//! Outcomes of the items of a worker.
 
 /// What became of an item.
 #[derive(Clone, Copy, Debug, PartialEq, Eq)]
