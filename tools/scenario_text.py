@@ -117,8 +117,8 @@ class Reader:
     # -- what is expected: each gives a line of the transcript
 
     def output(self, worker, text, block):
-        if text.startswith("writes "):
-            return text.removeprefix("writes ") + "\n"
+        if text == "writes" or text.startswith("writes "):
+            return text[7:] + "\n"
         words = text.replace(",", " ").split()
         if words[0] in ("taken", "current"):
             if words[1] != "serial":

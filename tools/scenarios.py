@@ -25,7 +25,13 @@ from scenario_text import each_of, OUTPUTS, Reader, Shower, split_worker
 TOP = Path(__file__).resolve().parent.parent
 FOLDER = TOP / "scenarios"
 CRATE = TOP / "crates" / "replay_cases"
-STATUSES = {"usage": "2 rpz: usage"}
+USAGE = """\
+usage: rpz serve LISTEN UPSTREAM TURNS WORKERS ZONE@PRIMARY...
+       rpz replay < SCRIPT
+       rpz load SEED RULES QUERIES WORKERS
+       rpz help [COMMAND]
+       rpz --version"""
+STATUSES = {"usage": "2 rpz: usage\n" + USAGE}
 RAW = re.compile(r"(worker \d+: )?line( |$)")
 ANSWERED = (b"xfer", b"query", b"give", b"fail")  # lines that have an output
 

@@ -18,7 +18,7 @@ static TAKEN: [&str; 4] = [
 ];
 
 // Lines that ask for nothing.
-static REFUSED: [&str; 44] = [
+static REFUSED: [&str; 42] = [
     "",
     "replay x",
     "frob",
@@ -32,13 +32,11 @@ static REFUSED: [&str; 44] = [
     "load +1 0 0 2",
     "load 00000000001 0 0 2",
     "load x 0 0 2",
-    "--help",
-    "help",
-    "help serve",
-    "--version",
     "serve",
-    "serve --help",
     "serve help",
+    "help frob",
+    "frob --help",
+    "help serve load",
     "serve 127.0.0.1:5300",
     "serve 127.0.0.1:5300 9.9.9.9:53 2 1",
     "serve 127.0.0.1:0 9.9.9.9:53 2 1 a@127.0.0.1:5301",
@@ -83,7 +81,7 @@ fn asked(alloc: Global, line: &str) -> Result<Command, WordsError> {
 
 fn served(alloc: Global, line: &str) -> Result<Option<Settings>, WordsError> {
     match asked(alloc, line)? {
-        Command::Replay | Command::Load(_) => Ok(None),
+        Command::Replay | Command::Load(_) | Command::Show(_) => Ok(None),
         Command::Serve(settings) => Ok(Some(settings)),
     }
 }

@@ -1,6 +1,7 @@
 -- How runs end, by their statuses.
-use Rattle.std.proofs.Common.{◌≡◌, ◌≢◌, ℕ, List, Option, Some, None, Result, Ok, Err, refl, sym, subst}
+use Rattle.std.proofs.Common.{◌≡◌, ◌≢◌, ℕ, List, Option, Some, None, Result, Ok, Err, refl, sym, subst, ◌∙◌, arith}
 use Rattle.std.specs.Prelude.{IfErr, IfSome, IsOk}
+use Rattle.edge_io.specs.Edge.{Rose}
 use Rattle.script_codec.specs.declared.line_fault.LineFault.{LineFault}
 use Rattle.script_loop.specs.Replay.{Blames}
 use Rattle.script_loop.specs.declared.replay.Stop.{Stop}
@@ -12,8 +13,9 @@ use Rattle.rpz_program.specs.Polls.{ConnectionViews, FeedState}
 use Rattle.rpz_program.specs.Run.{Ends, IsVerdict, StopsBy}
 use Rattle.rpz_program.specs.Script.{ScriptWorld, script_verdict}
 use Rattle.rpz_program.specs.Serving.{StopsServing}
-use Rattle.rpz_program.specs.Status.{status_of_replay, status_of_server}
+use Rattle.rpz_program.specs.Status.{status_of_replay, status_of_server, status_of_stop}
 use Rattle.rpz_program.specs.declared.serve_error.ServeError.{ServeError}
+use Rattle.rpz_program.specs.declared.status.Status.{Status}
 use Rattle.rpz_program.specs.declared.status.Status.TheVariants as status
 use Rattle.rpz_program.specs.declared.zone_source.ZoneSource.{ZoneSource}
 
@@ -40,6 +42,18 @@ verdict_is (Err (stop.BadLine line why)) (Some script) left_after held_before he
 verdict_is (Err stop.ReadFault) (Some script) left_after held_before held_after source sink ends blames no_source no_sink memory = absurd (no_source blames)
 verdict_is (Err stop.WriteFault) (Some script) left_after held_before held_after source sink ends blames no_source no_sink memory = absurd (no_sink blames)
 verdict_is (Err stop.OutOfMemory) (Some script) left_after held_before held_after source sink ends blames no_source no_sink memory = absurd (memory refl)
+
+-- no count has risen that is 0
+not_risen : Rose 0 0 → ⊥
+not_risen rose = omega (arith, rose)
+
+-- where no fault is known of the source and the sink, and with memory, a script in memory ends as its verdict says
+pub verdict_of : (stopped : Stop LineFault) (source script : List ℕ) (left_after held_before held_after : Option (List ℕ)) → source ≡ script → Ends (Err stopped) (Some source) left_after held_before held_after
+    → Blames stopped (Rose 0 0) (Rose 0 0) → (given : Status) → given ≡ status_of_stop stopped → given ≢ status.OutOfMemory → IsVerdict (script_verdict script) given
+verdict_of stopped source script left_after held_before held_after same ends blames given is memory =
+    let ended : IsVerdict (script_verdict source) (status_of_stop stopped) =
+    verdict_is (Err stopped) (Some source) left_after held_before held_after (Rose 0 0) (Rose 0 0) ends blames not_risen not_risen (λ e. memory (is ∙ e)) in
+    subst (λ (bytes : List ℕ). IsVerdict (script_verdict bytes) given) same (subst (IsVerdict (script_verdict source)) (sym is) ended)
 
 -- a server that stopped early has the status of why it did
 pub stopped_by : {S K : Type 0} (views : ConnectionViews S K) (ended : Result (Unit {0}) ServeError) (before : FeedState S K) (turns : ℕ) (zones : List ZoneSource) (held : Option (List ℕ)) → IfErr ended (λ why. StopsServing views why before turns zones held) → status_of_server ended ≢ status.Done

@@ -5,24 +5,19 @@ use Rattle.edge_io.specs.Edge.{appended}
 use Rattle.script_loop.specs.declared.replay.Stop.{Stop}
 use Rattle.script_loop.specs.declared.replay.Stop.TheVariants as stop
 use Rattle.rpz_program.specs.declared.status.Status.{Status}
-use Rattle.rpz_program.specs.declared.status.Status.TheVariants.{Done, BadLine}
+use Rattle.rpz_program.specs.declared.status.Status.TheVariants.{Done, Usage, BadLine, ReadFault, WriteFault, SocketFault, StartFault, OutOfMemory}
 use Rattle.script_codec.specs.declared.line_fault.LineFault.{LineFault}
 use Rattle.script_loop.specs.Fold.{run_of}
 use Rattle.script_loop.specs.Lines.{whole_lines}
 use Rattle.script_loop.specs.Replay.{IsPrefix, Moves}
-use Rattle.clap.specs.Words.{subcommand_of, takes}
-use Rattle.rpz_words.specs.Words.{argv, command_of, rpz_app}
-use Rattle.rpz_words.specs.declared.command.Command.{Command}
+use Rattle.clap.specs.Words.{takes}
+use Rattle.rpz_words.specs.Words.{argv, rpz_app}
 use Rattle.rpz_program.specs.Polls.{ConnectionViews, FeedState}
 use Rattle.rpz_program.specs.Serving.{StopsServing}
 use Rattle.rpz_program.specs.Status.{status_of_error}
 use Rattle.rpz_program.specs.declared.serve_error.ServeError.{ServeError}
 use Rattle.rpz_program.specs.declared.zone_source.ZoneSource.{ZoneSource}
 use Rattle.rpz_program.specs.Script.{ScriptWorld, start, step, too_many, too_long, script_transcript, script_verdict}
-
--- what the words ask for; None where they are none of the command set
-abbrev pub command_in : List (String Global) → Option Command
-command_in words = command_of (subcommand_of rpz_app (argv words))
 
 -- the words are those of a command, as the command line's grammar takes them
 abbrev pub AreTaken : List (String Global) → Type 0
@@ -62,6 +57,17 @@ BeginsTranscript read written = IsPrefix written (script_transcript read)
 abbrev pub IsVerdict : Result (ℕ × ScriptWorld) (ℕ × LineFault) → Status → Type 0
 IsVerdict (Ok end) status = status ≡ Done
 IsVerdict (Err bad) status = status ≡ BadLine bad.0 bad.1
+
+-- a page ends so: it was shown, or a write failed, or there was no memory
+abbrev pub EndsPage : Status → Type 0
+EndsPage Done = ⊤
+EndsPage Usage = ⊥
+EndsPage (BadLine line why) = ⊥
+EndsPage ReadFault = ⊥
+EndsPage WriteFault = ⊤
+EndsPage SocketFault = ⊥
+EndsPage StartFault = ⊥
+EndsPage OutOfMemory = ⊤
 
 -- how a replay ends
 abbrev pub Ends : Result (Unit {0}) (Stop LineFault) → Option (List ℕ) → Option (List ℕ) →

@@ -1,5 +1,5 @@
 -- The world of a script, and what its lines do to it.
-use Rattle.std.specs.Prelude.{◌≡◌, ℕ, List, [], ◌∷◌, ◌++◌, length, map, Option, Some, None, is_some, Result, Ok, Err}
+use Rattle.std.specs.Prelude.{◌≡◌, ℕ, List, [], ◌∷◌, ◌++◌, length, map, Option, Some, None, is_some, Result, Ok, Err, ⊤}
 use Rattle.dns_name.specs.Labels.{Name}
 use Rattle.script_codec.specs.declared.line.Line.{Line}
 use Rattle.script_codec.specs.declared.line.Line.TheVariants.{Zone, Transfer, Full, Query, Give, Fail, Clock}
@@ -21,6 +21,7 @@ use Rattle.rpz_core.specs.declared.event.Output.{Output}
 use Rattle.rpz_core.specs.declared.event.Output.TheVariants as output
 use Rattle.ixfr_apply.specs.declared.refusal.Refusal.{Refusal}
 use Rattle.ixfr_apply.specs.declared.refusal.Refusal.TheVariants as refusal
+use Rattle.rpz_core.specs.History.{Reaches}
 use Rattle.rpz_core.specs.World.{World, new_world, world_step}
 use Rattle.script_loop.specs.Abstraction.{outcome_along}
 use Rattle.script_loop.specs.Fold as fold
@@ -136,3 +137,8 @@ pub data IsReached : ScriptWorld → Type 0 where
   at_start : IsReached start
   after_line : (world next : ScriptWorld) (text out : List ℕ) → IsReached world →
       step world text ≡ Ok (next, out) → IsReached next
+
+-- Events of the core lead to the world that lines have brought about, from zones with nothing loaded.
+abbrev pub HasEvents : ScriptWorld → Type 0
+HasEvents (opened origins) = ⊤
+HasEvents (begun world) = (events : List Event) × Reaches world.origins events world

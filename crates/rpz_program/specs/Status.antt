@@ -1,11 +1,12 @@
 -- What a run ends with, as the number of the process and as text on standard error.
 use Rattle.std.specs.Prelude.{ℕ, List, ◌++◌, Option, Some, None, Result, Ok, Err, codes, decimal}
+use Rattle.edge_io.specs.declared.edge.SinkError.{SinkError}
+use Rattle.edge_io.specs.declared.edge.SinkError.TheVariants as sink_error
 use Rattle.script_codec.specs.LineFault.{why_text}
 use Rattle.script_codec.specs.declared.line_fault.LineFault.{LineFault}
+use Rattle.rpz_words.specs.declared.pages.TheConstants.{USAGE}
 use Rattle.script_loop.specs.declared.replay.Stop.{Stop}
 use Rattle.script_loop.specs.declared.replay.Stop.TheVariants as stop
-use Rattle.rpz_program.specs.declared.load_error.LoadError.{LoadError}
-use Rattle.rpz_program.specs.declared.load_error.LoadError.TheVariants as load_error
 use Rattle.rpz_program.specs.declared.serve_error.ServeError.{ServeError}
 use Rattle.rpz_program.specs.declared.serve_error.ServeError.TheVariants as error
 use Rattle.rpz_program.specs.declared.status.Status.{Status}
@@ -24,7 +25,7 @@ code_of OutOfMemory = 9
 -- nothing where the run is done
 abbrev pub text_of : Status → Option (List ℕ)
 text_of Done = None
-text_of Usage = Some (codes "rpz: usage")
+text_of Usage = Some (codes "rpz: usage\n" ++ USAGE.now)
 text_of (BadLine number why) =
     Some (codes "rpz: line " ++ (decimal number ++ (codes ": " ++ why_text why)))
 text_of ReadFault = Some (codes "rpz: read fault")
@@ -57,8 +58,8 @@ abbrev pub status_of_server : Result (Unit {0}) ServeError → Status
 status_of_server (Ok u) = Done
 status_of_server (Err why) = status_of_error why
 
--- how a load run ends
-abbrev pub status_of_load : Result (Unit {0}) LoadError → Status
-status_of_load (Ok u) = Done
-status_of_load (Err load_error.WriteFault) = WriteFault
-status_of_load (Err load_error.OutOfMemory) = OutOfMemory
+-- how a load run, or a page, ends a run: by how its writing ended
+abbrev pub status_of_written : Result (Unit {0}) SinkError → Status
+status_of_written (Ok u) = Done
+status_of_written (Err sink_error.WriteFault) = WriteFault
+status_of_written (Err sink_error.OutOfMemory) = OutOfMemory

@@ -4,7 +4,6 @@
 
 mod answering;
 pub mod laws;
-mod load_error;
 mod loading;
 mod origins;
 mod poll_lines;
@@ -24,7 +23,6 @@ mod turns;
 mod zone_source;
 mod zones;
 
-pub use load_error::LoadError;
 pub use replaying::replayed;
 pub use serve_error::ServeError;
 pub use server::serve;

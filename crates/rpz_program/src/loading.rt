@@ -5,7 +5,6 @@ ghost use Rattle.edge_io.specs.Edge.{Rose, WritesPrefix, appended};
 ghost use Rattle.rpz_program.specs.Loading.{load_line};
 ghost use Rattle.rpz_words.specs.Limits.{IsLoadable};
 
-use crate::load_error::LoadError;
 use dns_name::Octets;
 use edge_io::{Sink, SinkError, write_all};
 use load_gen::{answer_all, make, write_summary};
@@ -28,24 +27,22 @@ fn line_of<R: Threads + Sync>(
 }
 
 /// Makes a load from its seed, answers it, and writes the line of its summary. An `Err` leaves what was written before, and maybe
-/// the first bytes of the line behind it.
+/// the first bytes of the line behind it; `OutOfMemory` comes also where the load finds no memory.
 pub(crate) fn load<R: Threads + Sync, K: Sink>(
     rt: &R,
     alloc: Global,
     settings: LoadSettings,
     out: &mut K,
-) -> Result<(), LoadError>
+) -> Result<(), SinkError>
     requires { IsLoadable settings }
     ensures ok { OnOk result (K.held out.new ≡ appended (K.held out.old) (load_line settings)) }
     ensures err { OnErr result
         (WritesPrefix (load_line settings) (K.held out.old) (K.held out.new)) }
-    ensures failed { result ≡ Err LoadError.WriteFault →
+    ensures failed { result ≡ Err SinkError.WriteFault →
         Rose (K.faults out.old) (K.faults out.new) }
 {
-    let line = line_of(rt, alloc, settings)?;
-    match write_all(out, line.as_slice()) {
-        Ok(()) => Ok(()),
-        Err(SinkError::WriteFault) => Err(LoadError::WriteFault),
-        Err(SinkError::OutOfMemory) => Err(LoadError::OutOfMemory),
+    match line_of(rt, alloc, settings) {
+        Ok(line) => write_all(out, line.as_slice()),
+        Err(AllocError) => Err(SinkError::OutOfMemory),
     }
 }

@@ -1,14 +1,14 @@
 //! The command `replay`.
 
-ghost use Rattle.std.specs.Prelude.{◌≡◌, ◌≢◌, ◌+◌, ◌-◌, ◌≤◌, ◌^◌, ℕ, Err, IfErr, IfOk, IsOk};
+ghost use Rattle.std.specs.Prelude.{◌≡◌, ◌≢◌, ◌+◌, ◌-◌, ◌≤◌, ◌^◌, ℕ, Err, Some, IfErr, IfOk, IsOk};
 ghost use Rattle.edge_io.specs.Edge.{Rose};
 ghost use Rattle.script_loop.specs.Replay.{Blames, Moves, ReadsNoFurther};
-ghost use Rattle.rpz_program.specs.Run.{BeginsTranscript, Ends};
+ghost use Rattle.rpz_program.specs.Run.{BeginsTranscript, Ends, IsVerdict};
 ghost use Rattle.rpz_program.specs.Script.{script_transcript, script_verdict};
 
 use crate::stage::Stage;
 use crate::status::Status;
-use edge_io::{Bytes, ListSink, Sink, Source};
+use edge_io::{Bytes, Sink, SinkError, Source};
 use script_codec::LineFault;
 use script_loop::replay::{Stop, replay};
 use std::alloc::Global;
@@ -34,20 +34,45 @@ pub(crate) fn replay_script<S: Source, K: Sink>(
     replay(alloc, &mut stage, script, out)
 }
 
+// A transcript in memory. A write fails only where memory runs out, which is no fault.
+#[derive(Drop)]
+struct Transcript {
+    bytes: Vec<u8>,
+}
+
+impl Sink for Transcript {
+    ghost held = { λ t. Some t.bytes.items };
+
+    ghost faults = { λ _. 0 };
+
+    ghost steady = { λ _. Unit {0} };
+
+    fn write(&mut self, piece: &[u8]) -> Result<usize, SinkError> {
+        if self.bytes.extend_from_slice(piece).is_err() {
+            return Err(SinkError::OutOfMemory);
+        }
+        Ok(piece.len())
+    }
+}
+
 /// The transcript of a script in memory, if no line of it is refused.
 pub fn replayed(alloc: Global, script: Vec<u8>) -> Result<Vec<u8>, Status>
     ensures ok { IfOk result (λ out. IsOk (script_verdict script.items) ×
         (out.items ≡ script_transcript script.items)) }
     ensures bad_line { (line : ℕ) (why : _) → result ≡ Err (Status.BadLine line why) →
         script_verdict script.items ≡ Err (line, why) }
-    ensures read_fault { result ≢ Err Status.ReadFault }
+
+    // It ends with no other status than out of memory and the one that says what the verdict on the script says.
+    ensures only { IfErr result (λ status. status ≢ Status.OutOfMemory →
+        IsVerdict (script_verdict script.items) status) }
     ensures not_done { result ≢ Err Status.Done }
-    ensures usage { result ≢ Err Status.Usage }
 {
     let mut source = Bytes::new(script);
-    let mut sink = ListSink::new(Vec::new(alloc), 4096, Vec::new(alloc));
-    match replay_script(alloc, &mut source, &mut sink) {
-        Ok(()) => Ok(sink.bytes),
+    let mut transcript = Transcript {
+        bytes: Vec::new(alloc),
+    };
+    match replay_script(alloc, &mut source, &mut transcript) {
+        Ok(()) => Ok(transcript.bytes),
         Err(stop) => Err(Status::of_stop(stop)),
     }
 }

@@ -6,10 +6,13 @@ ghost use Rattle.edge_io.specs.Told.{one_more};
 ghost use Rattle.script_loop.specs.Replay.{Moves, ReadsNoFurther};
 ghost use Rattle.rpz_program.specs.Loading.{EndsLoad, load_line};
 ghost use Rattle.rpz_program.specs.Polls.{connection_views, feed_state, sources_from};
-ghost use Rattle.rpz_program.specs.Run.{AnswersWholeLines, AreTaken, BeginsTranscript, IsFirstBadLine, IsVerdict, IsWholeScript, StopsBy, command_in};
+ghost use Rattle.rpz_program.specs.Run.{AnswersWholeLines, AreTaken, BeginsTranscript, EndsPage, IsFirstBadLine, IsVerdict, IsWholeScript, StopsBy};
 ghost use Rattle.rpz_program.specs.Script.{script_verdict};
 ghost use Rattle.rpz_program.specs.Serving.{ServesWhole, linked_with, nothing_published, origins_in, primaries_in};
-ghost use Rattle.rpz_words.specs.declared.command.Command.TheVariants.{Load, Replay, Serve};
+ghost use Rattle.rpz_words.specs.Pages.{page_text};
+ghost use Rattle.rpz_words.specs.Words.{command_in};
+ghost use Rattle.rpz_words.specs.declared.pages.Page.{Page};
+ghost use Rattle.rpz_words.specs.declared.command.Command.TheVariants.{Load, Replay, Serve, Show};
 ghost use Rattle.rpz_words.specs.declared.settings.LoadSettings.{LoadSettings};
 ghost use Rattle.rpz_words.specs.declared.settings.Settings.{Settings};
 
@@ -17,7 +20,7 @@ use crate::loading::load;
 use crate::replaying::replay_script;
 use crate::server::serve;
 use crate::status::Status;
-use edge_io::{Clock, Ids, Sink, Source, Spawner, Wires};
+use edge_io::{Clock, Ids, Sink, Source, Spawner, Wires, write_all};
 use rpz_words::{Command, WordsError, read_words};
 use rpz_workers::Report;
 use std::alloc::Global;
@@ -29,7 +32,7 @@ use std::thread::Threads;
 /// `replay` reads a script from the source and writes its transcript to the sink: line by line, what the policy after the transfers
 /// accepted so far answers. `serve` answers clients over the wires, with workers that the spawner runs, and writes the lines of its
 /// polls and of its end to the sink. `load` makes a zone and queries from a seed, answers them in threads, and writes one line to the
-/// sink, which is the same for every number of threads.
+/// sink, which is the same for every number of threads. `help`, `--help`, `--version` and the like write a page to the sink.
 pub fn run<
     R: Threads + Wait + Copy + Drop + Send + Sync + 'static,
     S: Source,
@@ -147,6 +150,21 @@ pub fn run<
     ensures ends_load { (settings : LoadSettings) → command_in words.now ≡ Some (Load settings) →
         EndsLoad result }
 
+    // The page that is asked for was written, and nothing else is touched.
+    ensures shown { result ≡ Status.Done → (page : Page) → command_in words.now ≡ Some (Show page) →
+        K.held out.new ≡ appended (K.held out.old) (page_text page) }
+    ensures begins_page { (page : Page) → command_in words.now ≡ Some (Show page) →
+        WritesPrefix (page_text page) (K.held out.old) (K.held out.new) }
+    ensures show_alone { (page : Page) → command_in words.now ≡ Some (Show page) →
+        (script.new ≡ script.old) × (wires.new ≡ wires.old) × (spawner.new ≡ spawner.old)
+        × (clock.new ≡ clock.old) × (ids.new ≡ ids.old) }
+    ensures ends_page { (page : Page) → command_in words.now ≡ Some (Show page) → EndsPage result }
+
+    // With no fault and with memory, a page is shown.
+    ensures complete_page { (page : Page) → command_in words.now ≡ Some (Show page) →
+        (Rose (K.faults out.old) (K.faults out.new) → ⊥) → result ≢ Status.OutOfMemory →
+        result ≡ Status.Done }
+
     // With no fault and with memory, a load run is done.
     ensures complete_load { (settings : LoadSettings) →
         command_in words.now ≡ Some (Load settings) → AreTaken words.now →
@@ -158,7 +176,8 @@ pub fn run<
         Ok(Command::Serve(settings)) => Status::of_server(serve(
             rt, alloc, &settings, wires, spawner, clock, ids, out,
         )),
-        Ok(Command::Load(settings)) => Status::of_load(load(rt, alloc, settings, out)),
+        Ok(Command::Load(settings)) => Status::of_written(load(rt, alloc, settings, out)),
+        Ok(Command::Show(page)) => Status::of_written(write_all(out, page.text().as_bytes())),
         Err(WordsError::Usage) => Status::Usage,
         Err(WordsError::OutOfMemory) => Status::OutOfMemory,
     }

@@ -1,10 +1,11 @@
-//! What a run ends with.
+//! Statuses of runs: their numbers and texts.
 
 ghost use Rattle.std.specs.Prelude.{◌≡◌, IfOk, option_map, string_bytes};
-ghost use Rattle.rpz_program.specs.Status.{code_of, status_of_load, status_of_replay, status_of_server, status_of_stop, text_of};
+ghost use Rattle.rpz_program.specs.Status.{code_of, status_of_replay, status_of_server, status_of_stop, status_of_written, text_of};
 
-use crate::load_error::LoadError;
 use crate::serve_error::ServeError;
+use edge_io::SinkError;
+use rpz_words::USAGE;
 use script_codec::LineFault;
 use script_loop::replay::Stop;
 use std::alloc::{AllocError, Global};
@@ -12,7 +13,7 @@ use std::alloc::{AllocError, Global};
 /// What a run ends with.
 #[derive(Clone, Copy, Debug, PartialEq, Eq)]
 pub enum Status {
-    /// The script was read to its end, the server took all its turns, or the load was answered.
+    /// The script was read to its end, the server took all its turns, the load was answered, or the page was shown.
     Done,
     /// The words of the command line are none that the program takes.
     Usage,
@@ -66,14 +67,14 @@ impl Status {
         }
     }
 
-    /// How a load run ends.
-    pub(crate) fn of_load(ended: Result<(), LoadError>) -> Status
-        ensures { result ≡ status_of_load ended }
+    /// How a load run, or a page, ends a run: by how its writing ended.
+    pub(crate) fn of_written(ended: Result<(), SinkError>) -> Status
+        ensures { result ≡ status_of_written ended }
     {
         match ended {
             Ok(()) => Status::Done,
-            Err(LoadError::WriteFault) => Status::WriteFault,
-            Err(LoadError::OutOfMemory) => Status::OutOfMemory,
+            Err(SinkError::WriteFault) => Status::WriteFault,
+            Err(SinkError::OutOfMemory) => Status::OutOfMemory,
         }
     }
 
@@ -93,13 +94,16 @@ impl Status {
         }
     }
 
-    /// What is told on standard error; nothing where the run is done.
+    /// What is told on standard error; nothing where the run is done. After a usage error it is the usage in short too.
     pub fn text(self, alloc: Global) -> Result<Option<String>, AllocError>
         ensures { IfOk result (λ text. option_map string_bytes text ≡ text_of self) }
     {
         match self {
             Status::Done => Ok(None),
-            Status::Usage => Ok(Some(String::from_str(alloc, "rpz: usage")?)),
+            Status::Usage => {
+                let usage = USAGE;
+                Ok(Some(format!(in alloc; "rpz: usage\n{usage}")?))
+            }
             Status::BadLine { line, why } => {
                 Ok(Some(format!(in alloc; "rpz: line {line}: {why}")?))
             }

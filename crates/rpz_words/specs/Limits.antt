@@ -2,7 +2,7 @@
 use Rattle.std.specs.Prelude.{◌≤◌, length}
 use Rattle.zone_rows.specs.declared.zone.TheConstants.{ZONE_LIMIT}
 use Rattle.rpz_words.specs.declared.command.Command.{Command}
-use Rattle.rpz_words.specs.declared.command.Command.TheVariants.{Load, Replay, Serve}
+use Rattle.rpz_words.specs.declared.command.Command.TheVariants.{Load, Replay, Serve, Show}
 use Rattle.rpz_words.specs.declared.settings.LoadSettings.{LoadSettings}
 use Rattle.rpz_words.specs.declared.settings.Settings.{Settings}
 use Rattle.rpz_words.specs.declared.settings.TheConstants.{LOAD_WORKER_LIMIT, QUERY_LIMIT, RULE_LIMIT, WORKER_LIMIT}
@@ -29,3 +29,4 @@ abbrev pub IsWithinLimits : Command → Type 0
 IsWithinLimits Replay = Unit {0}
 IsWithinLimits (Serve settings) = IsServable settings
 IsWithinLimits (Load settings) = IsLoadable settings
+IsWithinLimits (Show page) = Unit {0}

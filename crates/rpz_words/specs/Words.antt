@@ -3,14 +3,16 @@ use Rattle.std.specs.Prelude.{if◌then◌else◌, List, ◌∷◌, map, Option,
 use Rattle.std.specs.Str.{bytes_eq}
 use Rattle.std.specs.declared.alloc.Global.{Global}
 use Rattle.clap.specs.Lexer.{usize_max}
-use Rattle.clap.specs.Words.{App, Row, Rule, Text, all_of, first_of, new_app, new_rule, with_rule, with_subcommand}
+use Rattle.clap.specs.Words.{App, Row, Rule, Text, all_of, first_of, new_app, new_rule, subcommand_of, with_rule, with_subcommand}
 use Rattle.clap.specs.declared.builder.action.ArgAction.TheVariants.{Append, Set}
 use Rattle.rpz_words.specs.declared.command.Command.{Command}
-use Rattle.rpz_words.specs.declared.command.Command.TheVariants.{Load, Replay, Serve}
+use Rattle.rpz_words.specs.declared.command.Command.TheVariants.{Load, Replay, Serve, Show}
+use Rattle.rpz_words.specs.declared.pages.Page.{Page}
 use Rattle.rpz_words.specs.declared.settings.LoadSettings.{LoadSettings}
 use Rattle.rpz_words.specs.declared.settings.Settings.{Settings}
 use Rattle.rpz_words.specs.declared.zones.ZoneSetting.{ZoneSetting}
 use Rattle.rpz_words.specs.Outcome.{◌>>=◌}
+use Rattle.rpz_words.specs.Pages.{page_of}
 use Rattle.rpz_words.specs.Values.{endpoint_of, load_workers_of, queries_of, rules_of, seed_of, turns_of, workers_of, zones_of}
 
 -- the words behind the program's name
@@ -93,3 +95,16 @@ named_command name rows =
 abbrev pub command_of : Option (Text × List Row) → Option Command
 command_of None = None
 command_of (Some (name, rows)) = named_command name rows
+
+-- the page that the words ask for, if they do
+abbrev pub page_in : List (String Global) → Option Page
+page_in words = page_of (map string_bytes words)
+
+-- A page is shown where one is asked for; other words are those of a command.
+abbrev pub command_by : Option Page → List (String Global) → Option Command
+command_by (Some page) words = Some (Show page)
+command_by None words = command_of (subcommand_of rpz_app (argv words))
+
+-- what the words behind the program's name ask for; None where they are none of the command set
+abbrev pub command_in : List (String Global) → Option Command
+command_in words = command_by (page_in words) words

@@ -1,5 +1,6 @@
 //! What the words of a command line ask for.
 
+use crate::pages::Page;
 use crate::settings::{LoadSettings, Settings};
 
 /// What the words of a command line ask for.
@@ -12,4 +13,6 @@ pub enum Command {
     Serve(Settings),
     /// `load SEED RULES QUERIES WORKERS`: a zone and queries are made from the seed, and answered.
     Load(LoadSettings),
+    /// `help`, `--help`, `--version` and the like: a page is shown.
+    Show(Page),
 }

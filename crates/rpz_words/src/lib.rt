@@ -4,6 +4,7 @@
 mod command;
 mod command_set;
 pub mod laws;
+mod pages;
 mod reading;
 mod settings;
 mod values;
@@ -11,6 +12,7 @@ mod words_error;
 mod zones;
 
 pub use command::Command;
+pub use pages::{Page, USAGE};
 pub use reading::read_words;
 pub use settings::{
     LOAD_WORKER_LIMIT, LoadSettings, QUERY_LIMIT, RULE_LIMIT, Settings, WORKER_LIMIT,

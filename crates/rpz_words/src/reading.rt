@@ -1,6 +1,6 @@
 //! Reads the words of a command line.
 
-ghost use Rattle.std.specs.Prelude.{◌≡◌, [], IfOk, OnOk, Err, None, Some, map, option_map, true};
+ghost use Rattle.std.specs.Prelude.{◌≡◌, [], IfOk, OnOk, Ok, Err, None, Some, map, option_map, true};
 ghost use Rattle.clap.specs.Words.{all_of, first_of, found_of, rows_of, subcommand_of, subcommand_rows_of, takes};
 ghost use Rattle.clap.specs.Faults.{fault_of};
 ghost use Rattle.rpz_words.specs.Outcome.{Gives};
@@ -8,10 +8,12 @@ ghost use Rattle.rpz_words.specs.Values.{endpoint_of};
 ghost use Rattle.rpz_words.specs.Values as values_form;
 ghost use Rattle.rpz_words.specs.Limits.{IsWithinLimits};
 ghost use Rattle.rpz_words.specs.Words as words_form;
-ghost use Rattle.rpz_words.specs.Words.{argv, command_of, load_settings_of, rpz_app, settings_of, value_at};
+ghost use Rattle.rpz_words.specs.Words.{argv, command_in, command_of, load_settings_of, page_in, rpz_app, settings_of, value_at};
+ghost use Rattle.rpz_words.specs.declared.pages.Page.{Page};
 
 use crate::command::Command;
 use crate::command_set::rpz_command;
+use crate::pages;
 use crate::settings::{
     LOAD_WORKER_LIMIT, LoadSettings, QUERY_LIMIT, RULE_LIMIT, SEED_LIMIT, Settings, TURN_LIMIT,
     WORKER_LIMIT,
@@ -24,20 +26,25 @@ use clap::error::ErrorKind;
 use edge_io::Endpoint;
 use std::alloc::{AllocError, Global};
 
-/// What the words of a command line ask for, without the program's name. `Usage` comes where they are none of the
-/// command set (a request for help is none), a value hasn't its form, a number is out of its bounds, there are more than
-/// 32 zones, or two have one name.
+/// What the words of a command line ask for, without the program's name: a page where they are those of one, which takes no
+/// memory. `Usage` comes where they are none of the command set, a value hasn't its form, a number is out of its bounds, there are
+/// more than 32 zones, or two have one name.
 #[tactic(auto, using(crate::proofs::Limits::outcome_within))]
 pub fn read_words(alloc: Global, words: &[String]) -> Result<Command, WordsError>
-    ensures ok { IfOk result (λ command.
-        command_of (subcommand_of rpz_app (argv words.now)) ≡ Some command) }
+    ensures ok { IfOk result (λ command. command_in words.now ≡ Some command) }
+    ensures page { (page : Page) → command_in words.now ≡ Some (Command.Show page) →
+        result ≡ Ok (Command.Show page) }
 
-    // nothing is asked for by words that `clap` refuses
-    ensures taken { OnOk result (fault_of rpz_app (argv words.now) ≡ []) }
+    // no command is asked for by words that `clap` refuses
+    ensures taken { OnOk result
+        (page_in words.now ≡ None → fault_of rpz_app (argv words.now) ≡ []) }
     ensures within { IfOk result IsWithinLimits }
     ensures usage { result ≡ Err WordsError.Usage → takes rpz_app (argv words.now) ≡ true →
-        command_of (subcommand_of rpz_app (argv words.now)) ≡ None }
+        command_in words.now ≡ None }
 {
+    if let Some(page) = pages::page_in(words) {
+        return Ok(Command::Show(page));
+    }
     let argv = with_program_name(alloc, words)?;
     let matches = matches_of(alloc, &argv)?;
     read_command(alloc, &matches)

@@ -1,6 +1,7 @@
-use Rattle.std.proofs.Common.{refl, sym, ◌∙◌}
+use Rattle.std.proofs.Common.{refl, sym, ap, ◌∙◌}
+use Rattle.rpz_words.specs.Pages.{page_text}
 use Rattle.rpz_program.specs.declared.serve_error.ServeError.TheVariants.{OutOfMemory}
-use Rattle.rpz_program.proofs.Loads.{begins, done_unless, ends_load, failed_if, nothing, same_load, written_if}
+use Rattle.rpz_program.proofs.Loads.{begins, begins_text, done_unless, ends_load, ends_page, nothing, same_load, same_page, written_if, written_text}
 use Rattle.rpz_program.proofs.RunSteps.{untouched}
 use Rattle.rpz_program.proofs.Runs.{stopped_at_start}
 use Rattle.rpz_program.proofs.Statuses.{bad_line_of, same_settings, stopped_by, verdict_is}
@@ -29,7 +30,7 @@ returns-in-Err-OutOfMemory-clause-stopped g c = λ early usage settings asks. re
 pub returns-in-Ok-Load-clause-loaded : goal.returns-in-Ok-Load-clause-loaded
 returns-in-Ok-Load-clause-loaded g c = λ done settings asks.
     let same = same_load _ c.in-Ok-Load.settings settings (rw c.in-Ok-Load.field-0-is at c.in-Ok-Load.ensures.ok) asks in
-    rw same at (written_if c.load.result _ c.load.ensures.ok (sym c.of_load.ensures ∙ done))
+    rw same at (written_if c.load.result _ c.load.ensures.ok (sym c.of_written.ensures ∙ done))
 
 pub returns-in-Ok-Load-clause-begins_line : goal.returns-in-Ok-Load-clause-begins_line
 returns-in-Ok-Load-clause-begins_line g c = λ settings asks.
@@ -37,14 +38,37 @@ returns-in-Ok-Load-clause-begins_line g c = λ settings asks.
     rw same at (begins c.load.result _ _ _ c.load.ensures.ok c.load.ensures.err)
 
 pub returns-in-Ok-Load-clause-ends_load : goal.returns-in-Ok-Load-clause-ends_load
-returns-in-Ok-Load-clause-ends_load g c = λ settings asks. rw c.of_load.ensures (ends_load c.load.result)
+returns-in-Ok-Load-clause-ends_load g c = λ settings asks. rw c.of_written.ensures (ends_load c.load.result)
 
 pub returns-in-Ok-Load-clause-complete_load : goal.returns-in-Ok-Load-clause-complete_load
 returns-in-Ok-Load-clause-complete_load g c = λ settings asks taken no_fault memory.
-    rw c.of_load.ensures (done_unless c.load.result _ c.load.ensures.failed no_fault (rw c.of_load.ensures at memory))
+    rw c.of_written.ensures (done_unless c.load.result _ c.load.ensures.failed no_fault (rw c.of_written.ensures at memory))
 
 pub returns-in-Err-Usage-clause-begins_line : goal.returns-in-Err-Usage-clause-begins_line
 returns-in-Err-Usage-clause-begins_line g c = λ settings asks. nothing _ _
 
 pub returns-in-Err-OutOfMemory-clause-begins_line : goal.returns-in-Err-OutOfMemory-clause-begins_line
 returns-in-Err-OutOfMemory-clause-begins_line g c = λ settings asks. nothing _ _
+
+pub returns-in-Ok-Show-clause-shown : goal.returns-in-Ok-Show-clause-shown
+returns-in-Ok-Show-clause-shown g c = λ done page asks.
+    let same = same_page _ c.in-Ok-Show.page page (rw c.in-Ok-Show.field-0-is at c.in-Ok-Show.ensures.ok) asks in
+    written_text c.write_all.result _ _ _ _ (c.as_bytes.ensures.value ∙ c.text.ensures ∙ ap page_text same) c.write_all.ensures.ok (sym c.of_written-in-Ok-Show.ensures ∙ done)
+
+pub returns-in-Ok-Show-clause-begins_page : goal.returns-in-Ok-Show-clause-begins_page
+returns-in-Ok-Show-clause-begins_page g c = λ page asks.
+    let same = same_page _ c.in-Ok-Show.page page (rw c.in-Ok-Show.field-0-is at c.in-Ok-Show.ensures.ok) asks in
+    begins_text c.write_all.result _ _ _ _ (c.as_bytes.ensures.value ∙ c.text.ensures ∙ ap page_text same) c.write_all.ensures.ok c.write_all.ensures.err
+
+pub returns-in-Ok-Show-clause-ends_page : goal.returns-in-Ok-Show-clause-ends_page
+returns-in-Ok-Show-clause-ends_page g c = λ page asks. rw c.of_written-in-Ok-Show.ensures (ends_page c.write_all.result)
+
+pub returns-in-Ok-Show-clause-complete_page : goal.returns-in-Ok-Show-clause-complete_page
+returns-in-Ok-Show-clause-complete_page g c = λ page asks no_fault memory.
+    rw c.of_written-in-Ok-Show.ensures (done_unless c.write_all.result _ c.write_all.ensures.failed no_fault (rw c.of_written-in-Ok-Show.ensures at memory))
+
+pub returns-in-Err-Usage-clause-begins_page : goal.returns-in-Err-Usage-clause-begins_page
+returns-in-Err-Usage-clause-begins_page g c = λ page asks. nothing _ _
+
+pub returns-in-Err-OutOfMemory-clause-begins_page : goal.returns-in-Err-OutOfMemory-clause-begins_page
+returns-in-Err-OutOfMemory-clause-begins_page g c = λ page asks. nothing _ _
