@@ -1,0 +1,114 @@
+#!/usr/bin/env python3
+"""package.py: makes a Debian package of the built program.
+
+    python3 tools/package.py [--program FILE] [--out FOLDER]
+
+Writes FOLDER/rpz_VERSION_ARCH.deb (FOLDER is the current one without --out): the program, its manual page, a systemd unit, an example
+zone with the configurations of NSD, Unbound and dnsdist that belong to it, and the documents. The program is crates/rpz/out/rpz, which
+`.ci/run` or `rt run` in crates/rpz proves and builds; its version is what `rpz --version` says. It wants `dpkg-deb`.
+"""
+import argparse
+import gzip
+import os
+import pathlib
+import shutil
+import subprocess
+import sys
+import tempfile
+
+ROOT = pathlib.Path(__file__).resolve().parent.parent
+DOCUMENTS = ("README.md", "SECURITY.md", "docs/OPERATING.md", "docs/FORMATS.md", "docs/PROFILE.md", "docs/GLOSSARY.md")
+DESCRIPTION = """DNS forwarder that enforces response policy zones
+ rpz stands between DNS clients and a recursive resolver, and rewrites or
+ withholds answers by the rules of response policy zones (RPZ), which it takes
+ by zone transfer. Every reply is proved to follow the policy.
+"""
+AFTER_INSTALLING = """#!/bin/sh
+set -e
+if [ -d /run/systemd/system ]; then systemctl daemon-reload; fi
+"""
+BEFORE_REMOVING = """#!/bin/sh
+set -e
+if [ "$1" = remove ] && [ -d /run/systemd/system ]; then systemctl disable --now rpz.service || true; fi
+"""
+
+
+def output(*words):
+    return subprocess.run(words, check=True, capture_output=True, text=True).stdout
+
+
+def put(source, target, mode=0o644):
+    target.parent.mkdir(parents=True, exist_ok=True)
+    shutil.copyfile(source, target)
+    target.chmod(mode)
+
+
+def put_packed(source, target):
+    """The file, packed by gzip, without a name or a time in it."""
+    target.parent.mkdir(parents=True, exist_ok=True)
+    target.write_bytes(gzip.compress(source.read_bytes(), 9, mtime=0))
+    target.chmod(0o644)
+
+
+def put_text(text, target, mode=0o644):
+    target.parent.mkdir(parents=True, exist_ok=True)
+    target.write_text(text)
+    target.chmod(mode)
+
+
+def fill(tree, program):
+    """All files that the package installs."""
+    put(program, tree / "usr/bin/rpz", 0o755)
+    put(ROOT / "packaging/rpz.service", tree / "lib/systemd/system/rpz.service")
+    put_packed(ROOT / "docs/rpz.8", tree / "usr/share/man/man8/rpz.8.gz")
+    documents = tree / "usr/share/doc/rpz"
+    put_packed(ROOT / "CHANGELOG.md", documents / "changelog.gz")
+    for name in DOCUMENTS:
+        put(ROOT / name, documents / pathlib.Path(name).name)
+    for example in sorted((ROOT / "packaging/examples").iterdir()):
+        put(example, documents / "examples" / example.name)
+
+
+def control(tree, version, arch):
+    """What dpkg reads of the package."""
+    size = sum(file.stat().st_size for file in tree.rglob("*") if file.is_file())
+    lines = {
+        "Package": "rpz",
+        "Version": version,
+        "Architecture": arch,
+        "Maintainer": "The developers of Daltuvik",
+        "Section": "net",
+        "Priority": "optional",
+        "Depends": "libc6",
+        "Suggests": "nsd, unbound, dnsdist",
+        "Installed-Size": str(-(-size // 1024)),
+        "Description": DESCRIPTION.rstrip("\n"),
+    }
+    put_text("".join(f"{name}: {value}\n" for name, value in lines.items()), tree / "DEBIAN/control")
+    put_text(AFTER_INSTALLING, tree / "DEBIAN/postinst", 0o755)
+    put_text(BEFORE_REMOVING, tree / "DEBIAN/prerm", 0o755)
+
+
+def main():
+    reader = argparse.ArgumentParser(description="Makes a Debian package of the built program.")
+    reader.add_argument("--program", type=pathlib.Path, default=ROOT / "crates/rpz/out/rpz", metavar="FILE")
+    reader.add_argument("--out", type=pathlib.Path, default=pathlib.Path.cwd(), metavar="FOLDER")
+    words = reader.parse_args()
+    if not words.program.exists():
+        sys.exit(f"{words.program} isn't there: `.ci/run`, or `rt run` in crates/rpz, proves and builds it")
+    version = output(words.program.resolve(), "--version").split()[1]
+    arch = output("dpkg", "--print-architecture").strip()
+    package = words.out / f"rpz_{version}_{arch}.deb"
+    with tempfile.TemporaryDirectory(prefix="rpz-package-") as room:
+        tree = pathlib.Path(room) / "rpz"
+        tree.mkdir(mode=0o755)
+        fill(tree, words.program)
+        control(tree, version, arch)
+        for folder, _, _ in os.walk(tree):
+            os.chmod(folder, 0o755)
+        subprocess.run(["dpkg-deb", "--root-owner-group", "--build", str(tree), str(package)], check=True)
+    print(package)
+
+
+if __name__ == "__main__":
+    main()
