@@ -11,13 +11,17 @@ import argparse
 import gzip
 import os
 import pathlib
+import re
 import shutil
 import subprocess
 import sys
 import tempfile
 
 ROOT = pathlib.Path(__file__).resolve().parent.parent
-DOCUMENTS = ("README.md", "SECURITY.md", "docs/OPERATING.md", "docs/FORMATS.md", "docs/PROFILE.md", "docs/GLOSSARY.md")
+DOCUMENTS = ("SECURITY.md", "docs/OPERATING.md", "docs/FORMATS.md", "docs/PROFILE.md", "docs/GLOSSARY.md")
+# Where the files that the documents lead to are installed, seen from the documents; other links are left out.
+INSTALLED = {pathlib.Path(name).name: pathlib.Path(name).name for name in DOCUMENTS}
+INSTALLED |= {"rpz.service": "/lib/systemd/system/rpz.service", "dnsdist.conf": "examples/dnsdist.conf"}
 DESCRIPTION = """DNS forwarder that enforces response policy zones
  rpz stands between DNS clients and a recursive resolver, and rewrites or
  withholds answers by the rules of response policy zones (RPZ), which it takes
@@ -25,7 +29,10 @@ DESCRIPTION = """DNS forwarder that enforces response policy zones
 """
 AFTER_INSTALLING = """#!/bin/sh
 set -e
-if [ -d /run/systemd/system ]; then systemctl daemon-reload; fi
+if [ -d /run/systemd/system ]; then
+    systemctl daemon-reload
+    if [ -n "$2" ]; then systemctl try-restart rpz.service || true; fi
+fi
 """
 BEFORE_REMOVING = """#!/bin/sh
 set -e
@@ -50,6 +57,23 @@ def put_packed(source, target):
     target.chmod(0o644)
 
 
+def led_inside(text):
+    """The text of a document whose links lead to what is installed."""
+
+    def link(found):
+        words, target = found.groups()
+        name, mark, heading = target.partition("#")
+        place = INSTALLED.get(pathlib.Path(name).name)
+        return found.group() if not name else f"[{words}]({place}{mark}{heading})" if place else words
+
+    return re.sub(r"\bdocs/(\w+\.md)", r"\1", re.sub(r"\[([^]]+)\]\(([^)]+)\)", link, text))
+
+
+def glibc_of(program):
+    """The newest version of glibc that the program's symbols name."""
+    return max(re.findall(rb"GLIBC_(\d+)\.(\d+)", program.read_bytes()), key=lambda version: tuple(map(int, version)))
+
+
 def put_text(text, target, mode=0o644):
     target.parent.mkdir(parents=True, exist_ok=True)
     target.write_text(text)
@@ -64,12 +88,12 @@ def fill(tree, program):
     documents = tree / "usr/share/doc/rpz"
     put_packed(ROOT / "CHANGELOG.md", documents / "changelog.gz")
     for name in DOCUMENTS:
-        put(ROOT / name, documents / pathlib.Path(name).name)
+        put_text(led_inside((ROOT / name).read_text(encoding="utf-8")), documents / pathlib.Path(name).name)
     for example in sorted((ROOT / "packaging/examples").iterdir()):
         put(example, documents / "examples" / example.name)
 
 
-def control(tree, version, arch):
+def control(tree, version, arch, glibc):
     """What dpkg reads of the package."""
     size = sum(file.stat().st_size for file in tree.rglob("*") if file.is_file())
     lines = {
@@ -79,7 +103,7 @@ def control(tree, version, arch):
         "Maintainer": "The developers of Daltuvik",
         "Section": "net",
         "Priority": "optional",
-        "Depends": "libc6",
+        "Depends": "libc6 (>= {}.{})".format(*(number.decode() for number in glibc)),
         "Suggests": "nsd, unbound, dnsdist",
         "Installed-Size": str(-(-size // 1024)),
         "Description": DESCRIPTION.rstrip("\n"),
@@ -103,7 +127,7 @@ def main():
         tree = pathlib.Path(room) / "rpz"
         tree.mkdir(mode=0o755)
         fill(tree, words.program)
-        control(tree, version, arch)
+        control(tree, version, arch, glibc_of(words.program))
         for folder, _, _ in os.walk(tree):
             os.chmod(folder, 0o755)
         subprocess.run(["dpkg-deb", "--root-owner-group", "--build", str(tree), str(package)], check=True)
