@@ -4,9 +4,9 @@
     python3 tools/wrong.py [NAME ..] [--keep FOLDER]
 
 NAME is a crate; without names, all that have a folder crates/NAME/wrong/. The edits there have the form of those in must-fail/. They
-are tried by `rt must-fail` in a clone of the last commit, in a folder that is removed behind it, unless --keep names a clone, which is
-brought up to that commit and stays: where the crates are built there already, that time is saved. Ends with status 1 where an edit is
-proved, can't be applied, or wasn't tried, and prints what became of each.
+are tried by `rt ci` in a clone of the last commit, in a folder that is removed behind it, unless --keep names a clone, which is brought
+up to that commit and stays. What earlier runs on this machine have proved and tried, over the same files, isn't done again. Ends with
+status 1 where an edit is proved, can't be applied, or wasn't tried, and prints what became of each.
 
 Run it for a crate whose contracts or bodies change, and write the day into docs/PROOFS.md.
 """
@@ -36,27 +36,29 @@ def clone(folder):
         subprocess.run(["git", "clone", "-q", str(ROOT), str(folder)], check=True)
 
 
-def put_edits(folder, name):
-    """The edits of wrong/ in the place of those that the gate tries; gives their number."""
-    target = folder / "crates" / name / "must-fail"
-    shutil.rmtree(target, ignore_errors=True)
-    shutil.copytree(folder / "crates" / name / "wrong", target)
-    return len(list(target.glob("*.edit")))
+def put_edits(folder, names):
+    """The edits of wrong/ of these crates in the place of all those that the gate tries; gives them as CRATE/FILE."""
+    for gate in folder.glob("crates/*/must-fail"):
+        shutil.rmtree(gate)
+    for name in names:
+        shutil.copytree(folder / "crates" / name / "wrong", folder / "crates" / name / "must-fail")
+    return {f"{edit.parent.parent.name}/{edit.name}" for edit in folder.glob("crates/*/must-fail/*.edit")}
 
 
 def try_all(folder, names):
-    """Tries the edits of the crates, with those of the gate out of the way, and prints what became of each."""
-    total = sum(put_edits(folder, name) for name in names)
-    process = subprocess.Popen(["rt", "must-fail", *names], cwd=folder, stdout=subprocess.PIPE, stderr=subprocess.STDOUT, text=True)
-    refused = 0
+    """Tries the edits of the crates, and prints what became of each."""
+    edits = put_edits(folder, names)
+    process = subprocess.Popen(["rt", "ci", *names], cwd=folder, stdout=subprocess.PIPE, stderr=subprocess.STDOUT, text=True)
+    refused = set()
     for line in process.stdout:
-        kept = re.search(r": (\d+) of its \d+ must-fail edits were tried by an earlier run", line)
-        refused += int(kept.group(1)) if kept else REFUSED in line
-        if kept or "must-fail" in line:
+        tried = re.search(r"must-fail (\S+\.edit): (.*)", line)
+        if tried:
             print(line, end="", flush=True)
+            if tried.group(2).startswith(REFUSED):
+                refused.add(tried.group(1))
     process.wait()
-    print(f"{refused} of {total} wrong bodies refused")
-    return refused == total
+    print(f"{len(edits & refused)} of {len(edits)} wrong bodies refused")
+    return edits <= refused
 
 
 def main():
