@@ -5,7 +5,6 @@ use Rattle.std.proofs.lemmas.List.{append-nil, take-append-le, take_all}
 use Rattle.zone_rows.specs.declared.transfer.Transfer as transfers
 use Rattle.zone_rows.specs.declared.zone.PlainZone.{PlainZone}
 use Rattle.zone_rows.specs.Zone.{apply_outcome}
-use Rattle.answer_cache.specs.declared.cache.TheConstants.{MOST_ENTRIES}
 use Rattle.answer_cache.specs.Recent.{AreApart, live_entry}
 use Rattle.answer_cache.proofs.Apart.{apart_kept, apart_none}
 use Rattle.answer_cache.proofs.Touched.{among_kept}
@@ -40,7 +39,7 @@ use Rattle.rpz_core.specs.declared.event.Output.TheVariants as output
 use Rattle.ixfr_apply.specs.Marks.{mark_at}
 use Rattle.ixfr_apply.specs.Offer.{Offer, takes, is_current, refuses, offer, request_of}
 use Rattle.ixfr_apply.specs.Stream.{reading}
-use Rattle.rpz_core.specs.declared.sessions.TheConstants.{WORKERS}
+use Rattle.rpz_core.specs.declared.sessions.TheConstants.{CACHE_LIMIT, WORKERS}
 use Rattle.rpz_core.specs.Answered.{AreAnswered}
 use Rattle.rpz_core.specs.History.{AreObtained, IsAnsweredAs, IsAskedAs, IsLearned, IsPendingAs, IsPendingAt, IsEarlierPolicy, Reaches, comes, failed, given, waits, begins, goes_on, now, before}
 use Rattle.rpz_core.specs.Offer.{offer_output}
@@ -283,10 +282,10 @@ module _ (origins : List (List (List ℕ))) (events : List Event) (w next : Worl
       let so = holds.pending worker pending at in
       turned origins (event ∷ events) w next worker pending.policy pending.incoming s (facts_with pending (fact_at w.clock entry)) (Some pending) out refl at e so.earlier
       (λ later known. given events w message pending later reached at so.obtained so.asks (subst (λ (fact : Fact). AreAnswered w.clock pending.policy pending.incoming s.cached (facts_with pending fact) later) (came_now w.clock message pending) known))
-      (λ x among. elim (among_kept MOST_ENTRIES entry w.sessions.cached x among) [
+      (λ x among. elim (among_kept CACHE_LIMIT entry w.sessions.cached x among) [
         | inl old ↦ before events event x (holds.cached x old)
         | inr is ↦ subst (IsLearned origins (event ∷ events)) is (now events w worker message pending reached at)
-      ]) (apart_kept MOST_ENTRIES entry w.sessions.cached holds.apart)
+      ]) (apart_kept CACHE_LIMIT entry w.sessions.cached holds.apart)
 
   failure_turns : (worker : ℕ) (slot : Option (Option PendingQuery)) (out : Output) → slice_get w.sessions.workers worker ≡ slot
       → with_sessions w (pending_step (λ pending. resumed_step w.clock w.sessions worker pending (Broken Failed)) slot) ≡ Ok (next, out) → Turned origins (Fail worker ∷ events) w next out

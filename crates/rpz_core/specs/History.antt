@@ -1,7 +1,6 @@
 -- What led to a reply of the core: what happened, the policy under which the query came, and the facts that were obtained for it.
 use Rattle.std.specs.Prelude.{◌≡◌, ℕ, ◌≤◌, List, [], ◌∷◌, length, take, Some, None, Ok, slice_get}
 use Rattle.dns_name.specs.Labels.{Name}
-use Rattle.answer_cache.specs.declared.cache.TheConstants.{MOST_ENTRIES}
 use Rattle.answer_cache.specs.Recent.{after_keep, live_entry}
 use Rattle.dns_message.specs.declared.request.Incoming.{Incoming}
 use Rattle.dns_message.specs.Request.{incoming_of}
@@ -17,6 +16,7 @@ use Rattle.reply_build.specs.declared.said.Said.{Said}
 use Rattle.reply_build.specs.declared.turn.Turn.TheVariants as turn
 use Rattle.policy_snapshot.specs.Policy.{PlainPolicy, policy_after}
 use Rattle.query_session.specs.Session.{turn_by}
+use Rattle.rpz_core.specs.declared.sessions.TheConstants.{CACHE_LIMIT}
 use Rattle.rpz_core.specs.declared.event.Event.{Event}
 use Rattle.rpz_core.specs.declared.event.Event.TheVariants.{Query, Give, Fail}
 use Rattle.rpz_core.specs.declared.event.Output.{Output}
@@ -55,7 +55,7 @@ pub data AreObtained (origins : List Name) (worker : ℕ) : List Event → Plain
       → AreObtained origins worker events pending.policy pending.incoming pending.facts
       → turn_by pending.policy pending.incoming pending.facts ≡ turn.Ask pending.question
       → AreAnswered world.clock pending.policy pending.incoming
-      (after_keep MOST_ENTRIES (learned_by pending message world.clock) world.sessions.cached)
+      (after_keep CACHE_LIMIT (learned_by pending message world.clock) world.sessions.cached)
       (facts_with pending (fact_from message pending.id pending.question)) facts
       → AreObtained origins worker (Give worker message ∷ events) pending.policy pending.incoming
       facts

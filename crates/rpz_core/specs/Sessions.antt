@@ -21,9 +21,8 @@ use Rattle.rpz_core.specs.declared.event.CoreFault.TheVariants as fault
 use Rattle.rpz_core.specs.declared.event.Output.{Output}
 use Rattle.rpz_core.specs.declared.event.Output.TheVariants as output
 use Rattle.upstream_link.specs.Vouched.{PlainLearned, fact_at, plain_learned}
-use Rattle.answer_cache.specs.declared.cache.TheConstants.{MOST_ENTRIES}
 use Rattle.answer_cache.specs.Recent.{after_keep}
-use Rattle.rpz_core.specs.declared.sessions.TheConstants.{WORKERS}
+use Rattle.rpz_core.specs.declared.sessions.TheConstants.{CACHE_LIMIT, WORKERS}
 use Rattle.rpz_core.specs.Resolving.{Resolved, resolve}
 
 -- A query that waits for an answer: the policy that it came under, the query, what is known, the question that was asked, and
@@ -123,7 +122,7 @@ learned_by pending message now = plain_learned pending.question pending.id messa
 
 -- an answer that comes is cached for its life
 abbrev pub with_learned : SessionsState → PlainLearned → SessionsState
-with_learned sessions entry = with_cached sessions (after_keep MOST_ENTRIES entry sessions.cached)
+with_learned sessions entry = with_cached sessions (after_keep CACHE_LIMIT entry sessions.cached)
 
 -- something comes to a worker for the question that its query asked
 abbrev pub pending_step : (PendingQuery → SessionsState × Output) → Option (Option PendingQuery) →

@@ -9,7 +9,7 @@ ghost use Rattle.upstream_link.specs.Vouched.{fact_at};
 use crate::event::{CoreError, CoreFault, Output};
 use crate::pending::{NextMessage, Pending, Resumed, next_message};
 use crate::resolving::Cache;
-use answer_cache::{AnswerCache, MOST_ENTRIES};
+use answer_cache::AnswerCache;
 use dns_name::Octets;
 use edge_io::{ListLink, WORKER_LIMIT};
 use ip_prefix::{Addr, Transport};
@@ -25,6 +25,9 @@ use upstream_link::{AnswerFault, Fact, Learned};
 /// How many workers a core has; the first is worker 0.
 pub const WORKERS: usize = WORKER_LIMIT;
 
+/// How many answers the cache of a core holds at most.
+pub const CACHE_LIMIT: usize = 4_096;
+
 /// The workers with their pending queries, and one cache for all of them. Contracts see the pending queries, the ID of the last
 /// question, and the entries of the cache.
 #[derive(Drop)]
@@ -36,8 +39,7 @@ pub(crate) struct Sessions {
 
 impl Model for Sessions {
     ghost use Rattle.std.specs.Prelude.{◌≡◌, length};
-    ghost use Rattle.answer_cache.specs.declared.cache.TheConstants.{MOST_ENTRIES};
-    ghost use Rattle.rpz_core.specs.declared.sessions.TheConstants.{WORKERS};
+    ghost use Rattle.rpz_core.specs.declared.sessions.TheConstants.{CACHE_LIMIT, WORKERS};
     ghost use Rattle.rpz_core.specs.Sessions.{SessionsState};
 
     ghost Value = { SessionsState };
@@ -45,7 +47,7 @@ impl Model for Sessions {
     ghost view = { λ s.
         record { workers = s.workers.items; last_id = s.last_id; cached = s.cache.entries } };
 
-    ghost invariant = { λ s. (length s.workers.items ≡ WORKERS) × (s.cache.limit ≡ MOST_ENTRIES) };
+    ghost invariant = { λ s. (length s.workers.items ≡ WORKERS) × (s.cache.limit ≡ CACHE_LIMIT) };
 }
 
 impl Sessions {
@@ -60,7 +62,7 @@ impl Sessions {
         Ok(Sessions {
             workers,
             last_id: 0,
-            cache: AnswerCache::open(alloc, MOST_ENTRIES, BuildHasherDefault::new())?,
+            cache: AnswerCache::open(alloc, CACHE_LIMIT, BuildHasherDefault::new())?,
         })
     }
 

@@ -1,11 +1,12 @@
 -- What is known at a point: facts, each beside the question that it answers.
 use Rattle.std.specs.Prelude.{◌≡◌, ℕ, ◌≤◌, Bool, List, [], ◌∷◌, ◌++◌, length, Option, Some, None, is_some}
-use Rattle.std.specs.List.{AllByRecursion, find}
+use Rattle.std.specs.List.{AllByRecursion, find, flat_map}
 use Rattle.std.specs.Option.{option_map}
 use Rattle.dns_name.specs.Labels.{Name}
 use Rattle.dns_record.specs.Record.{PlainRecord}
 use Rattle.dns_message.specs.declared.question.Question.{Question}
 use Rattle.dns_message.specs.declared.request.Query.{Query}
+use Rattle.dns_message.specs.Written.{lasting_octets}
 use Rattle.upstream_link.specs.declared.fact.Fact.{Fact}
 use Rattle.upstream_link.specs.declared.fact.Fact.TheVariants.{Answer, Broken}
 use Rattle.upstream_link.specs.declared.facts.TheConstants.{FACT_LIMIT}
@@ -60,6 +61,11 @@ AreDistinct (e ∷ facts) = (fact_about facts e.0 ≡ None) × AreDistinct facts
 abbrev pub IsKept : Fact → Type 0
 IsKept (Answer answer) = IsAnswer answer
 IsKept (Broken why) = Unit {0}
+
+-- how many octets its answers take but for their TTLs
+abbrev pub answer_octets : Fact → ℕ
+answer_octets (Answer answer) = length (flat_map lasting_octets answer.answers)
+answer_octets (Broken why) = 0
 
 abbrev pub AreKept : PlainFacts → Type 0
 AreKept facts = AllByRecursion (λ e. IsKept e.1) facts

@@ -3,7 +3,7 @@
 ghost use Rattle.std.specs.Prelude.{◌≡◌, option_copied, IfOk};
 ghost use Rattle.upstream_link.specs.Fact as form;
 ghost use Rattle.upstream_link.specs.Fact.{fact_from, fact_in};
-ghost use Rattle.upstream_link.specs.Facts.{IsKept};
+ghost use Rattle.upstream_link.specs.Facts.{IsKept, answer_octets};
 ghost use Rattle.upstream_link.specs.Life.{life_of, with_age};
 ghost use Rattle.upstream_link.specs.declared.fact.Fact.TheVariants as facts;
 ghost use Rattle.upstream_link.specs.declared.fact.AnswerFault.TheVariants as reasons;
@@ -30,6 +30,16 @@ impl Fact {
     {
         match self {
             Fact::Answer(answer) => answer.life(),
+            Fact::Broken(_) => 0,
+        }
+    }
+
+    /// How many octets its answers take but for their TTLs.
+    pub(crate) fn answers_len(&self) -> usize
+        ensures { result ≡ answer_octets self.now }
+    {
+        match self {
+            Fact::Answer(answer) => answer.answers_len(),
             Fact::Broken(_) => 0,
         }
     }

@@ -1,8 +1,9 @@
 //! What a link gave for a question.
 
 ghost use Rattle.std.specs.Prelude.{◌≡◌, IfOk};
+ghost use Rattle.upstream_link.specs.Facts.{answer_octets};
 ghost use Rattle.upstream_link.specs.Question.{question_bytes};
-ghost use Rattle.upstream_link.specs.Vouched.{Tells, Vouched, fact_at, life, live, plain_learned};
+ghost use Rattle.upstream_link.specs.Vouched.{Tells, Vouched, entry_fact, fact_at, life, live, plain_learned};
 
 use crate::fact::{Fact, fact_of};
 use dns_message::Question;
@@ -81,6 +82,13 @@ impl<L: Link> Learned<L> {
         ensures { result ≡ life self.now }
     {
         self.held.fact.life()
+    }
+
+    /// How many octets its answers take but for their TTLs.
+    pub fn answers_len(&self) -> usize
+        ensures { result ≡ answer_octets (entry_fact self.now) }
+    {
+        self.held.fact.answers_len()
     }
 
     /// Whether it has come by now and its life isn't over. It reads no bytes.
