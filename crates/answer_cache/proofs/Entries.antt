@@ -1,5 +1,5 @@
 -- The pairs of the map under the cache, and the list that contracts see.
-use Rattle.std.proofs.Common.{◌≡◌, ◌==◌, ◌≤◌, ◌<◌, ◌-◌, inl, inr, ℕ, zero, suc, Bool, true, false, cond, List, [], ◌∷◌, length, take, Option, Some, None, IfSome, refl, sym, ap, ◌∙◌, arith}
+use Rattle.std.proofs.Common.{◌≡◌, ◌==◌, ◌≤◌, ◌<◌, ◌-◌, inl, inr, ℕ, zero, suc, Bool, true, false, cond, List, [], ◌∷◌, length, take, Option, Some, None, IfSome, Result, Ok, Err, OnOk, OnErr, refl, sym, subst, ap, ◌∙◌, arith}
 use Rattle.std.specs.Global.{Vec}
 use Rattle.std.specs.List.{find}
 use Rattle.std.specs.Option.{option_map, option_map_or}
@@ -9,12 +9,12 @@ use Rattle.std.proofs.lemmas.List.{take-map, length-map, take_all}
 use Rattle.std.proofs.lemmas.Slice.Eq.{bytes_eq-Decides}
 use Rattle.std.proofs.lemmas.Bool.{cond_both}
 use Rattle.std.proofs.lemmas.Bool.Decides.{eqb_tells}
-use Rattle.lru.specs.LruCache.{LruCache, promoted, put_entries}
+use Rattle.lru.specs.LruCache.{LruCache, lru_cache, promoted, put_entries}
 use Rattle.lru.proofs.CallerLemmas.{Contains-lookup_entry}
 use Rattle.dns_message.specs.declared.question.Question.{Question}
 use Rattle.answer_cache.specs.Key.{key_of}
 use Rattle.upstream_link.specs.Vouched.{PlainLearned, life}
-use Rattle.answer_cache.specs.Recent.{is_about, without, after_look_up, put_first, after_keep}
+use Rattle.answer_cache.specs.Recent.{is_about, recent, without, after_look_up, put_first, after_keep}
 use Rattle.answer_cache.specs.Keyed.{IsKeyed, has}
 
 abbrev pub Pair : Type 0
@@ -142,3 +142,22 @@ pub kept-is_put : (limit : ℕ) (entry : PlainLearned) (entries : List PlainLear
 kept-is_put limit entry entries h =
     let other : (life entry == 0) ≡ false = elim (eqb_tells (life entry) 0) [ inl same ↦ absurd (h same.1) | inr differs ↦ differs.0 ] in
     ap (λ b. cond b entries (put_first limit entry entries)) other
+
+-- ---- what a push leaves, be there memory or not
+
+abbrev Map : Type 0
+Map = LruCache (Vec ℕ) PlainLearned
+
+abbrev pushed : Map → Vec ℕ → PlainLearned → Map
+pushed map key entry = lru_cache (put_entries (λ x y. bytes_eq x.items y.items) map key entry) map.cap
+
+pub IsKeyed-pushed : {A E : Type 0} (key : Vec ℕ) (entry : PlainLearned) → key.items ≡ key_of entry.question → (r : Result A E) (old new : Map) → OnOk r (new ≡ pushed old key entry) → OnErr r (new ≡ old) → IsKeyed old.entries → IsKeyed new.entries
+IsKeyed-pushed key entry is_key (Ok x) old new ok err h = subst (λ (c : Map). IsKeyed c.entries) (sym ok) (IsKeyed-put key entry is_key old h)
+IsKeyed-pushed key entry is_key (Err e) old new ok err h = subst (λ (c : Map). IsKeyed c.entries) (sym err) h
+
+pub values-pushed : {A E : Type 0} (key : Vec ℕ) (entry : PlainLearned) → key.items ≡ key_of entry.question → (r : Result A E) (old new : Map) → OnOk r (new ≡ pushed old key entry) → IsKeyed old.entries → length old.entries ≤ old.cap → 0 < old.cap → (life entry ≡ 0 → ⊥)
+    → OnOk r (recent (values_of new.entries) new.cap ≡ recent (after_keep old.cap entry (values_of old.entries)) old.cap)
+values-pushed key entry is_key (Ok x) old new ok h within room lasts =
+    ap (λ (c : Map). recent (values_of c.entries) c.cap) ok
+    ∙ ap (λ es. recent es old.cap) (values-put key entry is_key old h within room ∙ sym (kept-is_put old.cap entry (values_of old.entries) lasts))
+values-pushed key entry is_key (Err e) old new ok h within room lasts = tt

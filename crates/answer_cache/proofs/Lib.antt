@@ -1,4 +1,5 @@
 pub mod Apart
+pub mod Belonging
 pub mod Entries
 pub mod Finding
 pub mod Keys

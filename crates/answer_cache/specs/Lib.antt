@@ -1,3 +1,5 @@
 pub mod Key
 pub mod Recent
+pub mod Keeps
 pub mod Keyed
+pub mod Shards

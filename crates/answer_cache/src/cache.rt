@@ -1,20 +1,22 @@
 //! The cache.
 
-ghost use Rattle.std.specs.Prelude.{◌≡◌, ◌≤◌, [], option_copied, IfOk, IfSome, OnOk, OnErr};
+ghost use Rattle.std.specs.Prelude.{◌≡◌, ◌≢◌, ◌≤◌, [], option_copied, IfOk, IfSome, OnOk, OnErr};
+ghost use Rattle.answer_cache.specs.Key.{key_of};
 ghost use Rattle.answer_cache.specs.Recent.{AreApart, Serves, live_entry, if_live, after_keep, recent, after_look_up};
+ghost use Rattle.upstream_link.specs.Vouched as vouched;
 
 use crate::key::key_octets;
 use dns_message::Question;
 use edge_io::Link;
 use lru::LruCache;
-use std::alloc::{AllocError, Global};
+use std::alloc::{AllocError, AllocFailed, Global};
 use std::hash::BuildHasher;
 use std::marker::Model;
 use std::num::NonZeroUsize;
 use upstream_link::Learned;
 
 /// How many entries a cache has at most.
-pub const MOST_ENTRIES: usize = 4_096;
+pub const MOST_ENTRIES: usize = 65_536;
 
 /// What links of the kind `L` gave for questions, the most recently used first, each for as long as it may be kept. Contracts see
 /// the list of its entries, and how many there may be. `S` makes the hashers of its map, which decide on its speed alone: for
@@ -71,8 +73,27 @@ impl<L: Link, S: BuildHasher + Drop> AnswerCache<L, S> {
         // called for its clause: the keys of a map are distinct
         let _count = self.entries.len();
         let key = key_octets(alloc, question)?;
-        let entry = copied_if_live(self.entries.peek(key.as_slice()), now)?;
-        self.entries.promote(key.as_slice());
+        self.look_up(key.as_slice(), question, now)
+    }
+
+    // The same by the key of the question, which is made before a lock is taken. It takes no memory.
+    pub(crate) fn look_up(
+        &mut self,
+        key: &[u8],
+        question: &Question,
+        now: u32,
+    ) -> Result<Option<Learned<L>>, AllocError>
+        requires { key.now ≡ key_of question.now }
+        ensures found { IfOk result
+            (λ entry. entry ≡ live_entry question.now now self.old.entries) }
+        ensures serves { IfOk result (λ entry. IfSome entry (Serves question.now now)) }
+        ensures ok { OnOk result
+            (self.new ≡ recent (after_look_up question.now self.old.entries) self.old.limit) }
+        ensures err { OnErr result (self.new ≡ self.old) }
+    {
+        let _ = question;
+        let entry = copied_if_live(self.entries.peek(key), now)?;
+        self.entries.promote(key);
         Ok(entry)
     }
 
@@ -87,9 +108,28 @@ impl<L: Link, S: BuildHasher + Drop> AnswerCache<L, S> {
             return Ok(());
         }
         let key = key_octets(alloc, learned.question())?.into_vec();
+        match self.put(key, learned) {
+            Ok(_out) => Ok(()),
+            Err(_back) => Err(AllocError),
+        }
+    }
+
+    // Puts what was learned first, under its key, which is made before a lock is taken. What it takes the place of, or pushes out, is
+    // given back, so that it is dropped behind the unlock; and so is what finds no room.
+    pub(crate) fn put(
+        &mut self,
+        key: Vec<u8>,
+        learned: Learned<L>,
+    ) -> Result<Option<(Vec<u8>, Learned<L>)>, AllocFailed<(Vec<u8>, Learned<L>)>>
+        requires key { key.items ≡ key_of learned.question }
+        requires some { vouched.life learned ≢ 0 }
+        ensures ok { OnOk result (self.new
+            ≡ recent (after_keep self.old.limit learned self.old.entries) self.old.limit) }
+        ensures err { OnErr result (self.new ≡ self.old) }
+    {
+        // called for its clause: there are no more entries than there may be
         let _within = self.entries.len();
-        self.entries.put(key, learned)?;
-        Ok(())
+        self.entries.push(key, learned)
     }
 
     /// Drops all entries.

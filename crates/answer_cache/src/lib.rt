@@ -2,7 +2,13 @@
 #![tactic(auto)]
 
 mod cache;
+mod keeps;
 mod key;
 pub mod laws;
+mod shard;
+mod shared;
 
 pub use cache::{AnswerCache, MOST_ENTRIES};
+pub use keeps::Keeps;
+pub use shard::{SHARDS, shard_number};
+pub use shared::{MOST_OCTETS, Shared, SharedCache};

@@ -1,0 +1,110 @@
+//! One shard of a cache that workers share.
+
+ghost use Rattle.std.specs.Prelude.{◌≡◌, ◌≢◌, ◌≤◌, ◌+◌, ◌%◌, ◌*◌, [], length, map, IfOk, IfSome, OnOk, OnErr};
+ghost use Rattle.std.specs.Char.{to_ascii_lowercase};
+ghost use Rattle.std.specs.List.{sum};
+ghost use Rattle.answer_cache.specs.Key.{key_of};
+ghost use Rattle.answer_cache.specs.Recent.{Serves, recent};
+ghost use Rattle.answer_cache.specs.Shards.{shard_of};
+ghost use Rattle.answer_cache.specs.declared.cache.TheConstants.{MOST_ENTRIES};
+ghost use Rattle.upstream_link.specs.Vouched as vouched;
+
+use crate::cache::AnswerCache;
+use dns_message::Question;
+use edge_io::Link;
+use std::alloc::{AllocError, AllocFailed, Global};
+use std::hash::RandomState;
+use std::marker::Model;
+use upstream_link::Learned;
+
+/// How many shards a shared cache has.
+pub const SHARDS: u32 = 16;
+
+/// To which shard a question belongs: the octets of its name as it is written, in lower case, are added, and its type; of that the
+/// remainder by [`SHARDS`].
+pub fn shard_number(question: &Question) -> u8
+    ensures { result ≡ shard_of question.now }
+{
+    remainder(octet_sum(question.name.octets()), question.qtype)
+}
+
+// What is left of a sum of octets and a type. The type is given by value, so that its range is known.
+fn remainder(total: u32, qtype: u16) -> u8
+    requires { total ≤ 255 * 255 }
+    ensures { result ≡ (total + qtype) % SHARDS }
+{
+    ((total + u32::from(qtype)) % SHARDS) as u8
+}
+
+// The octets in lower case, added.
+fn octet_sum(octets: &[u8]) -> u32
+    requires { length octets.now ≤ 255 }
+    ensures sum { result ≡ sum (map to_ascii_lowercase octets.now) }
+    ensures bound { result ≤ 255 * 255 }
+{
+    let mut total: u32 = 0;
+    for octet in octets {
+        total += u32::from(octet.to_ascii_lowercase());
+    }
+    total
+}
+
+/// The shard of the number `N`: what was learned of questions that belong there. Contracts see a cache.
+#[derive(Drop)]
+pub(crate) struct Shard<L: Link, const N: u8> {
+    cache: AnswerCache<L, RandomState>,
+}
+
+impl<L: Link, const N: u8> Model for Shard<L, N> {
+    ghost use Rattle.answer_cache.specs.Recent.{Recent};
+    ghost use Rattle.answer_cache.specs.Shards.{Belong};
+
+    ghost Value = { Recent };
+
+    ghost view = { λ s. s.cache };
+
+    ghost invariant = { λ s. Belong N s.cache.entries };
+}
+
+impl<L: Link, const N: u8> Shard<L, N> {
+    /// An empty shard for at most so many entries.
+    pub(crate) fn open(
+        alloc: Global,
+        entries: usize,
+        hashers: RandomState,
+    ) -> Result<Self, AllocError>
+        requires some { 1 ≤ entries }
+        requires most { entries ≤ MOST_ENTRIES }
+        ensures { IfOk result (λ shard. shard ≡ recent [] entries) }
+    {
+        Ok(Shard {
+            cache: AnswerCache::open(alloc, entries, hashers)?,
+        })
+    }
+
+    /// What was learned of the question of this key, if it is live. It takes no memory.
+    pub(crate) fn look_up(
+        &mut self,
+        key: &[u8],
+        question: &Question,
+        now: u32,
+    ) -> Result<Option<Learned<L>>, AllocError>
+        requires { key.now ≡ key_of question.now }
+        ensures serves { IfOk result (λ entry. IfSome entry (Serves question.now now)) }
+    {
+        self.cache.look_up(key, question, now)
+    }
+
+    /// Puts what was learned first, under its key. That it belongs here is a condition.
+    pub(crate) fn put(
+        &mut self,
+        key: Vec<u8>,
+        learned: Learned<L>,
+    ) -> Result<Option<(Vec<u8>, Learned<L>)>, AllocFailed<(Vec<u8>, Learned<L>)>>
+        requires here { shard_of learned.question ≡ N }
+        requires key { key.items ≡ key_of learned.question }
+        requires some { vouched.life learned ≢ 0 }
+    {
+        self.cache.put(key, learned)
+    }
+}
