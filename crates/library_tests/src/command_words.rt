@@ -10,15 +10,26 @@ static SERVE: &str =
     "serve 127.0.0.1:5300 9.9.9.9:53 2 16 rpz.example@127.0.0.1:5301 b@127.0.0.2:65535";
 
 // Lines that ask for a server.
-static TAKEN: [&str; 4] = [
+static TAKEN: [&str; 6] = [
     "serve 127.0.0.1:1 9.9.9.9:53 1 1 a@127.0.0.1:5301",
     "serve 127.0.0.1:65535 9.9.9.9:53 4294967295 16 a@127.0.0.1:5301",
     "serve 127.000.0.01:00053 9.9.9.9:53 0000000002 01 a.b.@127.0.0.1:5301",
     "serve -- 127.0.0.1:5300 9.9.9.9:53 2 1 a@127.0.0.1:5301",
+    "serve --cache 16 127.0.0.1:1 9.9.9.9:53 1 1 a@127.0.0.1:5301",
+    "serve --cache 1048576 127.0.0.1:1 9.9.9.9:53 1 1 a@127.0.0.1:5301",
+];
+
+// Lines that ask for a server with a cache of 64 answers.
+static CACHES: [&str; 5] = [
+    "serve --cache 64 127.0.0.1:1 9.9.9.9:53 1 1 a@127.0.0.1:5301",
+    "serve 127.0.0.1:1 --cache=64 9.9.9.9:53 1 1 a@127.0.0.1:5301",
+    "serve 127.0.0.1:1 9.9.9.9:53 1 1 a@127.0.0.1:5301 --cache 64 b@127.0.0.1:5301",
+    "serve 127.0.0.1:1 9.9.9.9:53 1 1 a@127.0.0.1:5301 --cache 0000000064",
+    "serve --cache 64 -- 127.0.0.1:1 9.9.9.9:53 1 1 a@127.0.0.1:5301",
 ];
 
 // Lines that ask for nothing.
-static REFUSED: [&str; 42] = [
+static REFUSED: [&str; 57] = [
     "",
     "replay x",
     "frob",
@@ -61,6 +72,21 @@ static REFUSED: [&str; 42] = [
     "serve 127.0.0.1:5300 9.9.9.9:53 2 1 a..b@127.0.0.1:5301",
     "serve 127.0.0.1:5300 9.9.9.9:53 2 1 rpz.example@127.0.0.1:5301 RPZ.Example@127.0.0.2:5301",
     "serve 127.0.0.1:5300 9.9.9.9:53 2 1 rpz.example@127.0.0.1:5301 rpz.example.@127.0.0.1:5301",
+    "--cache 64 serve 127.0.0.1:5300 9.9.9.9:53 2 1 a@127.0.0.1:5301",
+    "load --cache 64 1 0 0 2",
+    "serve --cache 15 127.0.0.1:5300 9.9.9.9:53 2 1 a@127.0.0.1:5301",
+    "serve --cache 1048577 127.0.0.1:5300 9.9.9.9:53 2 1 a@127.0.0.1:5301",
+    "serve --cache 4294967360 127.0.0.1:5300 9.9.9.9:53 2 1 a@127.0.0.1:5301",
+    "serve --cache 00000000064 127.0.0.1:5300 9.9.9.9:53 2 1 a@127.0.0.1:5301",
+    "serve --cache +64 127.0.0.1:5300 9.9.9.9:53 2 1 a@127.0.0.1:5301",
+    "serve --cache -64 127.0.0.1:5300 9.9.9.9:53 2 1 a@127.0.0.1:5301",
+    "serve --cache= 127.0.0.1:5300 9.9.9.9:53 2 1 a@127.0.0.1:5301",
+    "serve 127.0.0.1:5300 9.9.9.9:53 2 1 a@127.0.0.1:5301 --cache",
+    "serve --cache 64 127.0.0.1:5300 9.9.9.9:53 2 1 a@127.0.0.1:5301 --cache 64",
+    "serve --cache=64 --cache=65 127.0.0.1:5300 9.9.9.9:53 2 1 a@127.0.0.1:5301",
+    "serve --cach 64 127.0.0.1:5300 9.9.9.9:53 2 1 a@127.0.0.1:5301",
+    "serve -- --cache 64 127.0.0.1:5300 9.9.9.9:53 2 1 a@127.0.0.1:5301",
+    "serve --cache -- 64 127.0.0.1:5300 9.9.9.9:53 2 1 a@127.0.0.1:5301",
 ];
 
 // The words of a line, which single spaces separate.
@@ -136,6 +162,16 @@ fn a_server_gets_its_settings(rt: HostRuntime) -> Result<(), Fail> {
     assert_eq!(rt; settings.upstream, upstream);
     assert_eq!(rt; settings.turns, 2);
     assert_eq!(rt; settings.workers, 16);
+    assert_eq!(rt; settings.cache, 65_536);
+    Ok(())
+}
+
+#[test]
+fn a_cache_is_limited_wherever_the_option_stands(rt: HostRuntime) -> Result<(), Fail> {
+    for line in CACHES {
+        let settings = served(rt.alloc(), line)?.ok_or("no server")?;
+        assert_eq!(rt; settings.cache, 64, "{line}");
+    }
     Ok(())
 }
 

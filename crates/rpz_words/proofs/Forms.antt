@@ -1,29 +1,26 @@
 -- Forms of values.
-use Rattle.std.proofs.Common.{◌≡◌, ℕ, ◌^◌, ◌≤◌, Bool, false, ◌||◌, List, [], ◌∷◌, length, Some, None, eqb, ltb, refl, arith, subst, drop_of_length-le}
+use Rattle.std.proofs.Common.{◌≡◌, ℕ, ◌^◌, ◌≤◌, Bool, false, ◌||◌, List, [], ◌∷◌, length, Some, None, ltb, refl, arith, subst, drop_of_length-le}
 use Rattle.std.specs.Char.{is_ascii_digit}
 use Rattle.std.specs.List.{position_or_len, before_first, after_first}
 use Rattle.std.specs.Result.{result_ok}
-use Rattle.std.proofs.lemmas.Bool.{and_left, and_right, or_parts, eqb-false, ltb-false}
+use Rattle.std.proofs.lemmas.Bool.{and_left, and_right, or_parts, ltb-false}
 use Rattle.edge_io.specs.declared.endpoint.Endpoint.{Endpoint}
 use Rattle.script_codec.specs.Field.{is_number, number_field, v4_field}
 use Rattle.rpz_words.specs.declared.values.TheConstants.{PORT_DIGITS, PORT_LIMIT}
 use Rattle.rpz_words.specs.Outcome.{none_if}
-use Rattle.rpz_words.specs.Values.{count_to, number_to, port_of, endpoint_of, origin_of, zone_setting_of, is_colon, is_at_sign}
+use Rattle.rpz_words.specs.Values.{count_to, number_between, port_of, endpoint_of, origin_of, zone_setting_of, is_colon, is_at_sign}
 use Rattle.rpz_words.proofs.Binding.{bind_none, bind_some, not_held, some_is}
 
 -- numbers
 
-not_zero : (n : ℕ) → eqb n 0 ≡ false → 1 ≤ n
-not_zero n h = omega (arith, eqb-false n 0 h)
-
--- a number is from 1 to its limit
-pub number_within : (most : ℕ) (digits : List ℕ) (number : ℕ) → number_to most digits ≡ Some number → (1 ≤ number) × (number ≤ most)
-unfolding number_to
-number_within most digits number e =
+-- a number is between its bounds
+pub number_within : (least most : ℕ) (digits : List ℕ) (number : ℕ) → number_between least most digits ≡ Some number → (least ≤ number) × (number ≤ most)
+unfolding number_between
+number_within least most digits number e =
     let a = bind_some (result_ok (number_field digits)) _ number e in
-    let b = bind_some (none_if (eqb a.0 0 || ltb most a.0)) _ number a.2 in
-    let tests = or_parts (eqb a.0 0) (ltb most a.0) (not_held _ b.0 b.1) in
-    subst (λ n. (1 ≤ n) × (n ≤ most)) (some_is a.0 number b.2) (not_zero a.0 tests.0, ltb-false most a.0 tests.1)
+    let b = bind_some (none_if (ltb a.0 least || ltb most a.0)) _ number a.2 in
+    let tests = or_parts (ltb a.0 least) (ltb most a.0) (not_held _ b.0 b.1) in
+    subst (λ n. (least ≤ n) × (n ≤ most)) (some_is a.0 number b.2) (ltb-false a.0 least tests.0, ltb-false most a.0 tests.1)
 
 -- a count is at most its limit
 pub count_within : (most : ℕ) (digits : List ℕ) (number : ℕ) → count_to most digits ≡ Some number → number ≤ most
@@ -37,9 +34,9 @@ not_number : (most bound sign : ℕ) (digits : List ℕ) → is_ascii_digit sign
 not_number most bound sign digits h = and_left _ _ (and_right _ _ (and_left _ _ h))
 
 -- what begins with another byte than a digit is no number
-pub no_sign : (most sign : ℕ) (digits : List ℕ) → is_ascii_digit sign ≡ false → number_to most (sign ∷ digits) ≡ None
-unfolding number_to number_field
-no_sign most sign digits h = rw (not_number 10 (2 ^ 32) sign digits h) refl
+pub no_sign : (least most sign : ℕ) (digits : List ℕ) → is_ascii_digit sign ≡ false → number_between least most (sign ∷ digits) ≡ None
+unfolding number_between number_field
+no_sign least most sign digits h = rw (not_number 10 (2 ^ 32) sign digits h) refl
 
 -- endpoints
 
@@ -47,7 +44,7 @@ port_within : (digits : List ℕ) (port : ℕ) → port_of digits ≡ Some port 
 unfolding port_of
 port_within digits port e =
     let a = bind_some (none_if (ltb PORT_DIGITS (length digits))) _ port e in
-    (number_within PORT_LIMIT digits port a.2).0
+    (number_within 1 PORT_LIMIT digits port a.2).0
 
 -- an endpoint has a port
 pub endpoint_port : (text : List ℕ) (endpoint : Endpoint) → endpoint_of text ≡ Some endpoint → 1 ≤ endpoint.port
@@ -58,7 +55,7 @@ endpoint_port text endpoint e =
     subst (λ (x : Endpoint). 1 ≤ x.port) (some_is _ endpoint b.2) (port_within _ b.0 b.1)
 
 no_port : port_of [] ≡ None
-unfolding port_of number_to number_field
+unfolding port_of number_between number_field
 no_port = refl
 
 nothing_behind : (p : ℕ → Bool) (text : List ℕ) → position_or_len p text ≡ length text → after_first p text ≡ []

@@ -13,14 +13,14 @@ use Rattle.dns_name.specs.Labels.{lowered}
 use Rattle.zone_rows.specs.declared.zone.TheConstants.{ZONE_LIMIT}
 use Rattle.rpz_words.specs.declared.command.Command.{Command}
 use Rattle.rpz_words.specs.declared.command.Command.TheVariants.{Load, Replay, Serve}
-use Rattle.rpz_words.specs.declared.settings.TheConstants.{LOAD_WORKER_LIMIT, QUERY_LIMIT, RULE_LIMIT}
+use Rattle.rpz_words.specs.declared.settings.TheConstants.{LEAST_CACHE, LOAD_WORKER_LIMIT, MOST_CACHE, QUERY_LIMIT, RULE_LIMIT}
 use Rattle.rpz_words.specs.declared.settings.LoadSettings.{LoadSettings}
 use Rattle.rpz_words.specs.declared.settings.Settings.{Settings}
-use Rattle.rpz_words.specs.declared.settings.TheConstants.{TURN_LIMIT, WORKER_LIMIT}
+use Rattle.rpz_words.specs.declared.settings.TheConstants.{TURN_LIMIT, USUAL_CACHE, WORKER_LIMIT}
 use Rattle.rpz_words.specs.declared.words_error.WordsError.{WordsError}
 use Rattle.rpz_words.specs.declared.zones.ZoneSetting.{ZoneSetting}
 use Rattle.rpz_words.specs.Outcome.{Gives, none_if}
-use Rattle.rpz_words.specs.Values.{endpoint_of, load_workers_of, queries_of, rules_of, seed_of, turns_of, workers_of, zone_setting_of, zone_settings_of, zones_of}
+use Rattle.rpz_words.specs.Values.{cache_of, endpoint_of, load_workers_of, queries_of, rules_of, seed_of, turns_of, workers_of, zone_setting_of, zone_settings_of, zones_of}
 use Rattle.rpz_words.specs.Limits.{IsLoadable, IsServable, IsWithinLimits}
 use Rattle.rpz_words.specs.Words.{command_of, load_settings_of, named_command, settings_of, value_at, zones_at}
 use Rattle.rpz_words.specs.Zones.{HasDistinctOrigins, has_origin, has_repeated}
@@ -81,6 +81,17 @@ zones_within texts zones e =
 
 -- settings
 
+record IsCacheLimit (most : ℕ) : Type 0 where
+  enough : LEAST_CACHE ≤ most
+  few : most ≤ MOST_CACHE
+
+-- what `--cache` says is within its bounds, and so is the usual number
+cache_within : (value : Option Text) (most : ℕ) → cache_of value ≡ Some most → IsCacheLimit most
+cache_within None most e = subst IsCacheLimit (some_is USUAL_CACHE most e) (record { enough = omega arith; few = omega arith })
+cache_within (Some digits) most e =
+    let bounds = number_within LEAST_CACHE MOST_CACHE digits most e in
+    record { enough = bounds.0; few = bounds.1 }
+
 settings_within : (rows : List Row) (settings : Settings) → settings_of rows ≡ Some settings → IsServable settings
 unfolding settings_of
 settings_within rows settings e =
@@ -88,15 +99,19 @@ settings_within rows settings e =
     let b = bind_some (value_at endpoint_of (codes "UPSTREAM") rows) _ settings a.2 in
     let c = bind_some (value_at turns_of (codes "TURNS") rows) _ settings b.2 in
     let d = bind_some (value_at workers_of (codes "WORKERS") rows) _ settings c.2 in
-    let f = bind_some (zones_at (codes "ZONE@PRIMARY") rows) _ settings d.2 in
+    let g = bind_some (cache_of (first_of (codes "ENTRIES") rows)) _ settings d.2 in
+    let f = bind_some (zones_at (codes "ZONE@PRIMARY") rows) _ settings g.2 in
     let turns = bind_some (first_of (codes "TURNS") rows) turns_of c.0 c.1 in
     let workers = bind_some (first_of (codes "WORKERS") rows) workers_of d.0 d.1 in
     let texts = bind_some (all_of (codes "ZONE@PRIMARY") rows) zones_of f.0 f.1 in
+    let cache = cache_within (first_of (codes "ENTRIES") rows) g.0 g.1 in
     let zones = zones_within texts.0 f.0 texts.2 in
     subst IsServable (some_is _ settings f.2) (record {
-      some_turns = (number_within TURN_LIMIT turns.0 c.0 turns.2).0;
-      some_workers = (number_within WORKER_LIMIT workers.0 d.0 workers.2).0;
-      few_workers = (number_within WORKER_LIMIT workers.0 d.0 workers.2).1;
+      some_turns = (number_within 1 TURN_LIMIT turns.0 c.0 turns.2).0;
+      some_workers = (number_within 1 WORKER_LIMIT workers.0 d.0 workers.2).0;
+      few_workers = (number_within 1 WORKER_LIMIT workers.0 d.0 workers.2).1;
+      enough_entries = cache.enough;
+      few_entries = cache.few;
       some_zones = zones.some_zones;
       few_zones = zones.few_zones;
       distinct = zones.distinct_zones;
@@ -115,8 +130,8 @@ load_within rows settings e =
     subst IsLoadable (some_is _ settings d.2) (record {
       few_rules = count_within RULE_LIMIT rules.0 b.0 rules.2;
       few_queries = count_within QUERY_LIMIT queries.0 c.0 queries.2;
-      some_workers = (number_within LOAD_WORKER_LIMIT workers.0 d.0 workers.2).0;
-      few_workers = (number_within LOAD_WORKER_LIMIT workers.0 d.0 workers.2).1;
+      some_workers = (number_within 1 LOAD_WORKER_LIMIT workers.0 d.0 workers.2).0;
+      few_workers = (number_within 1 LOAD_WORKER_LIMIT workers.0 d.0 workers.2).1;
     })
 
 -- commands

@@ -1,5 +1,5 @@
 -- What the value of an argument says, if it has the form.
-use Rattle.std.specs.Prelude.{ℕ, ◌==◌, ◌||◌, Bool, nat_lt, List, [], ◌∷◌, length, Option, Some}
+use Rattle.std.specs.Prelude.{ℕ, ◌==◌, ◌||◌, Bool, nat_lt, List, [], ◌∷◌, length, Option, Some, None}
 use Rattle.std.specs.List.{before_first, after_first}
 use Rattle.std.specs.Result.{result_ok}
 use Rattle.dns_name.specs.Labels.{Name}
@@ -7,18 +7,23 @@ use Rattle.dns_name.specs.Text.{text_name}
 use Rattle.edge_io.specs.declared.endpoint.Endpoint.{Endpoint}
 use Rattle.script_codec.specs.Field.{number_field, v4_field}
 use Rattle.zone_rows.specs.declared.zone.TheConstants.{ZONE_LIMIT}
-use Rattle.rpz_words.specs.declared.settings.TheConstants.{LOAD_WORKER_LIMIT, QUERY_LIMIT, RULE_LIMIT, SEED_LIMIT, TURN_LIMIT, WORKER_LIMIT}
+use Rattle.rpz_words.specs.declared.settings.TheConstants.{LEAST_CACHE, LOAD_WORKER_LIMIT, MOST_CACHE, QUERY_LIMIT, RULE_LIMIT, SEED_LIMIT}
+use Rattle.rpz_words.specs.declared.settings.TheConstants.{TURN_LIMIT, USUAL_CACHE, WORKER_LIMIT}
 use Rattle.rpz_words.specs.declared.values.TheConstants.{PORT_DIGITS, PORT_LIMIT}
 use Rattle.rpz_words.specs.declared.zones.ZoneSetting.{ZoneSetting}
 use Rattle.rpz_words.specs.Outcome.{◌>>=◌, none_if}
 use Rattle.rpz_words.specs.Zones.{has_repeated}
 
--- a number from 1 to `most`: 1 to 10 decimal digits, without a sign
-unfoldable pub number_to : ℕ → List ℕ → Option ℕ
-number_to most digits = do
+-- a number from `least` to `most`: 1 to 10 decimal digits, without a sign
+unfoldable pub number_between : ℕ → ℕ → List ℕ → Option ℕ
+number_between least most digits = do
   number ← result_ok (number_field digits)
-  _ ← none_if (number == 0 || nat_lt most number)
+  _ ← none_if (nat_lt number least || nat_lt most number)
   Some number
+
+-- a number from 1 to `most`
+abbrev pub number_to : ℕ → List ℕ → Option ℕ
+number_to most digits = number_between 1 most digits
 
 -- a number of at most `most`: 1 to 10 decimal digits, without a sign
 unfoldable pub count_to : ℕ → List ℕ → Option ℕ
@@ -49,6 +54,11 @@ turns_of digits = number_to TURN_LIMIT digits
 -- how many workers answer: 1 to 16
 abbrev pub workers_of : List ℕ → Option ℕ
 workers_of digits = number_to WORKER_LIMIT digits
+
+-- how many answers the cache holds at most, by the value of `--cache`: 65,536 where it isn't given, else 16 to 1,048,576
+abbrev pub cache_of : Option (List ℕ) → Option ℕ
+cache_of None = Some USUAL_CACHE
+cache_of (Some digits) = number_between LEAST_CACHE MOST_CACHE digits
 
 -- a port: 1 to 5 decimal digits, from 1 to 65,535
 unfoldable pub port_of : List ℕ → Option ℕ

@@ -3,7 +3,7 @@
 ghost use Rattle.std.specs.Prelude.{◌≡◌, false, IfOk};
 ghost use Rattle.clap.specs.Words.{app_of, rule_of, with_subcommand};
 ghost use Rattle.clap.specs.declared.builder.command.Command.TheViews.{out-Command as fields_of};
-ghost use Rattle.rpz_words.specs.Words.{load_app, one_value, rpz_app, serve_app, some_values};
+ghost use Rattle.rpz_words.specs.Words.{load_app, one_value, option_value, rpz_app, serve_app, some_values};
 
 use clap::{Arg, ArgAction, Command};
 use std::alloc::{AllocError, Global};
@@ -27,13 +27,23 @@ fn list_arg<'a>(alloc: Global, id: &'a str) -> Arg<'a>
         .num_args(1..)
 }
 
-// `serve LISTEN UPSTREAM TURNS WORKERS ZONE@PRIMARY...`
+// An option `--name` with one value, which may be left out.
+fn option_arg<'a>(alloc: Global, name: &'a str, id: &'a str) -> Arg<'a>
+    ensures rule { rule_of result ≡ option_value name.entry.now id.entry.now }
+    ensures local { result.global ≡ false }
+{
+    Arg::new(alloc, id).long(name).action(ArgAction::Set)
+}
+
+// `serve [--cache ENTRIES] LISTEN UPSTREAM TURNS WORKERS ZONE@PRIMARY...`
 fn serve_command<'a>(alloc: Global) -> Result<Command<'a>, AllocError>
     ensures app { IfOk result (λ c. app_of c ≡ serve_app) }
     ensures local { IfOk result (λ c. (fields_of c).has_globals ≡ false) }
 {
+    let cache = option_arg(alloc, "cache", "ENTRIES");
+    let with_cache = Command::new(alloc, "serve").arg(cache)?;
     let listen = value_arg(alloc, "LISTEN");
-    let with_listen = Command::new(alloc, "serve").arg(listen)?;
+    let with_listen = with_cache.arg(listen)?;
     let upstream = value_arg(alloc, "UPSTREAM");
     let with_upstream = with_listen.arg(upstream)?;
     let turns = value_arg(alloc, "TURNS");

@@ -3,13 +3,13 @@
 ghost use Rattle.std.specs.Prelude.{◌≡◌, ◌≤◌, ◌∷◌, ℕ, List, Option, None, Some};
 ghost use Rattle.clap.specs.Words.{Row, Text};
 ghost use Rattle.edge_io.specs.declared.endpoint.Endpoint.{Endpoint};
-ghost use Rattle.rpz_words.specs.Values.{endpoint_of, number_to};
+ghost use Rattle.rpz_words.specs.Values.{endpoint_of, number_between};
 ghost use Rattle.rpz_words.specs.Limits.{IsWithinLimits};
 ghost use Rattle.rpz_words.specs.Words.{command_of};
 ghost use Rattle.rpz_words.specs.declared.command.Command.{Command};
 
-/// What words ask for is within its limits: a server takes an arrival or more, has 1 to 16 workers, and 1 to 32 zones
-/// of distinct names; a load run has at most 1,000,000 rules and as many queries, and 1 to 16 workers.
+/// What words ask for is within its limits: a server takes an arrival or more, has 1 to 16 workers, a cache of 16 to 1,048,576
+/// answers, and 1 to 32 zones of distinct names; a load run has at most 1,000,000 rules and as many queries, and 1 to 16 workers.
 pub fn what_is_asked_for_is_within_limits()
     ensures { (found : Option (Text × List Row)) (command : Command) →
         command_of found ≡ Some command → IsWithinLimits command }
@@ -23,6 +23,8 @@ pub fn the_port_of_an_endpoint_is_not_0()
 
 /// A number has no sign: neither `+` nor `-` may stand before its digits.
 pub fn a_number_has_no_sign()
-    ensures plus { (most : ℕ) (digits : Text) → number_to most (43 ∷ digits) ≡ None }
-    ensures minus { (most : ℕ) (digits : Text) → number_to most (45 ∷ digits) ≡ None }
+    ensures plus { (least most : ℕ) (digits : Text) →
+        number_between least most (43 ∷ digits) ≡ None }
+    ensures minus { (least most : ℕ) (digits : Text) →
+        number_between least most (45 ∷ digits) ≡ None }
 {}

@@ -15,7 +15,8 @@ pub use command::Command;
 pub use pages::{Page, USAGE};
 pub use reading::read_words;
 pub use settings::{
-    LOAD_WORKER_LIMIT, LoadSettings, QUERY_LIMIT, RULE_LIMIT, Settings, WORKER_LIMIT,
+    LEAST_CACHE, LOAD_WORKER_LIMIT, LoadSettings, MOST_CACHE, QUERY_LIMIT, RULE_LIMIT, Settings,
+    USUAL_CACHE, WORKER_LIMIT,
 };
 pub use words_error::WordsError;
 pub use zones::{ZoneSetting, Zones};

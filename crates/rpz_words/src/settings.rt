@@ -21,6 +21,15 @@ pub(crate) const SEED_LIMIT: u32 = u32::MAX;
 /// The most arrivals that a server takes.
 pub(crate) const TURN_LIMIT: u32 = u32::MAX;
 
+/// The fewest answers that a server's cache may be limited to.
+pub const LEAST_CACHE: u32 = 16;
+
+/// The most answers that a server's cache may be limited to.
+pub const MOST_CACHE: u32 = 1_048_576;
+
+/// How many answers a server's cache holds at most where `--cache` isn't given.
+pub const USUAL_CACHE: u32 = 65_536;
+
 /// What a server is to do.
 #[derive(Debug, Drop)]
 pub struct Settings {
@@ -32,6 +41,8 @@ pub struct Settings {
     pub turns: u32,
     /// How many workers answer: 1 to 16.
     pub workers: usize,
+    /// How many answers the cache that all workers share holds at most: 16 to 1,048,576.
+    pub cache: u32,
     /// The policy zones in order, 1 to 32, of distinct names: rules of earlier ones go before those of later ones.
     pub zones: Zones,
 }

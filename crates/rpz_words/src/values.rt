@@ -19,17 +19,25 @@ const PORT_DIGITS: usize = 5;
 /// The greatest port.
 const PORT_LIMIT: u32 = 65_535;
 
+/// The number between two bounds, both included, that 1 to 10 decimal digits write.
+#[tactic(auto, unfolding(crate::specs::Values::number_between))]
+pub(crate) fn number_between(digits: &[u8], least: u32, most: u32) -> Option<u32>
+    ensures value { result ≡ values_form.number_between least most digits.now }
+    ensures within { IfSome result (λ number. number ≤ most) }
+{
+    let number = read_number(digits).ok()?;
+    if number < least || number > most {
+        return None;
+    }
+    Some(number)
+}
+
 /// The number from 1 to the limit that 1 to 10 decimal digits write.
-#[tactic(auto, unfolding(crate::specs::Values::number_to))]
 pub(crate) fn number_to(digits: &[u8], most: u32) -> Option<u32>
     ensures value { result ≡ values_form.number_to most digits.now }
     ensures within { IfSome result (λ number. number ≤ most) }
 {
-    let number = read_number(digits).ok()?;
-    if number == 0 || number > most {
-        return None;
-    }
-    Some(number)
+    number_between(digits, 1, most)
 }
 
 /// The number of at most the limit that 1 to 10 decimal digits write.
