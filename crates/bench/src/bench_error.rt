@@ -1,6 +1,7 @@
 //! Why a bench ended early.
 
 use axfr_apply::TransferError;
+use dns_message::MessageError;
 use dns_name::TextError;
 use edge_io::{FrameError, SinkError};
 use rpz_core::CoreError;
@@ -31,10 +32,13 @@ pub enum BenchError {
     OtherLine,
     Line(UnnumberedError),
     Core(CoreError),
+    /// What the upstream gave can't be read, or has no question.
+    Message(MessageError),
+    NoQuestion,
     /// A message is too long to be written behind its length.
     Long,
     Write(SinkError),
-    /// A thread could not be made, or a line not be written.
+    /// A thread could not be made, a line not be written, or no seed be drawn.
     System,
 }
 
@@ -83,6 +87,12 @@ impl From<UnnumberedError> for BenchError {
 impl From<CoreError> for BenchError {
     fn from(error: CoreError) -> Self {
         BenchError::Core(error)
+    }
+}
+
+impl From<MessageError> for BenchError {
+    fn from(error: MessageError) -> Self {
+        BenchError::Message(error)
     }
 }
 

@@ -3,6 +3,7 @@
 #![tactic(auto)]
 
 mod bench_error;
+mod caching;
 mod queries;
 mod serving;
 mod stream;

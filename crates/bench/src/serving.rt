@@ -1,10 +1,11 @@
-//! Workers in threads of their own, and a thread that publishes.
+//! Workers in threads of their own, over one cache, and a thread that publishes.
 
 ghost use Rattle.std.specs.Prelude.{◌≡◌};
 
 use crate::bench_error::BenchError;
+use crate::caching::BenchCache;
 use crate::words::Plan;
-use answer_cache::AnswerCache;
+use answer_cache::Shared;
 use axfr_apply::{Taken, Wanted};
 use dns_name::{Name, Octets};
 use dns_record::Soa;
@@ -16,7 +17,7 @@ use reply_build::Said;
 use rpz_workers::{Job, NoGate, Worker};
 use std::alloc::{AllocError, Global};
 use std::collections::VecDeque;
-use std::hash::{BuildHasherDefault, FoldHasher};
+use std::hash::RandomState;
 use std::sync::atomic::{AtomicU64, Ordering};
 use std::sync::{Arc, Wait};
 use std::thread;
@@ -24,7 +25,7 @@ use std::thread::{JoinHandle, Threads};
 use std::time::{Clock, Duration};
 use zone_rows::{Rows, Transfer};
 
-type BenchWorker<N> = Worker<N, ListLink, BuildHasherDefault<FoldHasher>, ListIds, NoGate>;
+type BenchWorker<N, R> = Worker<N, ListLink, Shared<R, ListLink>, ListIds, NoGate>;
 
 /// The stream of a transfer, and the messages of clients.
 #[derive(Drop)]
@@ -33,22 +34,24 @@ pub struct Input {
     pub messages: Vec<Octets>,
 }
 
-/// How many replies there were, and how many messages got none.
+/// How many replies there were, and how many messages got none or SERVFAIL.
 #[derive(Clone, Copy)]
 pub struct Counts {
     pub replies: u64,
     pub others: u64,
 }
 
-// A worker whose link always fails.
-fn worker<N: StoreName>(
+// A worker over the cache, whose link always fails.
+fn worker<N: StoreName, R: Wait + Drop>(
+    rt: R,
     alloc: Global,
     reader: PolicyReader<N>,
-) -> Result<BenchWorker<N>, AllocError> {
-    let cache = AnswerCache::open(alloc, 4_096, BuildHasherDefault::new())?;
+    cache: &BenchCache,
+) -> Result<BenchWorker<N, R>, AllocError> {
+    let shared = Shared::new(rt, Arc::try_clone(cache)?);
     let link = ListLink::new(Vec::new(alloc), Vec::new(alloc));
     let ids = ListIds::new(alloc, VecDeque::new(alloc));
-    Ok(Worker::new(alloc, reader, cache, link, ids, NoGate))
+    Ok(Worker::new(alloc, reader, shared, link, ids, NoGate))
 }
 
 // The messages as jobs of a client.
@@ -67,21 +70,49 @@ fn jobs(alloc: Global, messages: &[Octets]) -> Result<Vec<Job>, BenchError> {
     Ok(jobs)
 }
 
-// Answers so many jobs, in turn, over and over.
-fn answer_all<N: StoreName>(worker: &mut BenchWorker<N>, jobs: &[Job], queries: u64) -> Counts {
+// Whether a reply isn't SERVFAIL (RFC 1035, section 4.1.1), which comes where the link is asked.
+fn is_answer(reply: &[u8]) -> bool {
+    match reply.get(3) {
+        Some(flags) => *flags % 16 != 2,
+        None => false,
+    }
+}
+
+// Answers a job, and says whether there is such a reply.
+fn answers<N: StoreName, R: Wait + Drop>(worker: &mut BenchWorker<N, R>, job: &Job) -> bool {
+    match worker.answer(job, 0) {
+        Ok(Said::Reply(reply)) => is_answer(reply.as_slice()),
+        _ => false,
+    }
+}
+
+// Which jobs a worker takes: so many, in turn from this place on, over and over.
+#[derive(Clone, Copy)]
+struct Turns {
+    first: usize,
+    queries: u64,
+}
+
+// Answers the jobs of these turns.
+fn answer_all<N: StoreName, R: Wait + Drop>(
+    worker: &mut BenchWorker<N, R>,
+    jobs: &[Job],
+    turns: Turns,
+) -> Counts {
     let mut replies = 0u64;
     let mut others = 0u64;
-    let mut place = 0usize;
-    for _query in 0..queries {
+    let mut place = turns.first;
+    for _query in 0..turns.queries {
         if place >= jobs.len() {
             place = 0;
         }
         let Some(job) = jobs.get(place) else {
             break;
         };
-        match worker.answer(job, 0) {
-            Ok(Said::Reply(_)) => replies = replies.wrapping_add(1),
-            _ => others = others.wrapping_add(1),
+        if answers(worker, job) {
+            replies = replies.wrapping_add(1);
+        } else {
+            others = others.wrapping_add(1);
         }
         place = place.wrapping_add(1);
     }
@@ -89,18 +120,22 @@ fn answer_all<N: StoreName>(worker: &mut BenchWorker<N>, jobs: &[Job], queries: 
 }
 
 // A worker in a thread of its own, which counts itself out at its end.
-fn start<N: StoreName + Send + Sync + 'static, R: Threads + Copy + Drop + Send + Sync + 'static>(
+fn start<
+    N: StoreName + Send + Sync + 'static,
+    R: Threads + Wait + Copy + Drop + Send + Sync + 'static,
+>(
     rt: R,
     alloc: Global,
     reader: PolicyReader<N>,
+    cache: &BenchCache,
     messages: &[Octets],
-    queries: u64,
+    turns: Turns,
     running: Arc<AtomicU64, Global>,
 ) -> Result<JoinHandle<Counts>, BenchError> {
-    let mut worker = worker(alloc, reader)?;
+    let mut worker = worker(rt, alloc, reader, cache)?;
     let jobs = jobs(alloc, messages)?;
     let started = thread::spawn(&rt, move || {
-        let counts = answer_all(&mut worker, &jobs, queries);
+        let counts = answer_all(&mut worker, &jobs, turns);
         running.fetch_sub(1, Ordering::SeqCst);
         counts
     });
@@ -108,6 +143,46 @@ fn start<N: StoreName + Send + Sync + 'static, R: Threads + Copy + Drop + Send +
         Ok(handle) => Ok(handle),
         Err(_) => Err(BenchError::System),
     }
+}
+
+// A worker in a thread of its own for each reader. Each begins at another message.
+fn start_all<
+    N: StoreName + Send + Sync + 'static,
+    R: Threads + Wait + Copy + Drop + Send + Sync + 'static,
+>(
+    rt: R,
+    alloc: Global,
+    readers: Vec<PolicyReader<N>>,
+    cache: &BenchCache,
+    messages: &[Octets],
+    plan: Plan,
+    running: &Arc<AtomicU64, Global>,
+) -> Result<Vec<JoinHandle<Counts>>, BenchError> {
+    let apart = messages.len().checked_div(plan.workers).unwrap_or(0);
+    let mut threads = Vec::new(alloc);
+    let mut first = 0usize;
+    for reader in readers {
+        let count = Arc::try_clone(running)?;
+        let turns = Turns {
+            first,
+            queries: plan.queries,
+        };
+        threads.push(start(rt, alloc, reader, cache, messages, turns, count)?)?;
+        first = first.wrapping_add(apart);
+    }
+    Ok(threads)
+}
+
+// The sum of what the threads count.
+fn join_all<R: Threads>(rt: &R, threads: Vec<JoinHandle<Counts>>) -> Counts {
+    let mut replies = 0u64;
+    let mut others = 0u64;
+    for thread in threads {
+        let counts = thread.join(rt);
+        replies = replies.wrapping_add(counts.replies);
+        others = others.wrapping_add(counts.others);
+    }
+    Counts { replies, others }
 }
 
 // The first zone takes the transfer of the input.
@@ -177,15 +252,23 @@ fn say<R: Eprint>(rt: &R, text: &str) -> Result<(), BenchError> {
     Ok(())
 }
 
-/// Loads the first zone, answers in as many threads as the store has readers, and publishes the second zone meanwhile.
+/// Loads the first zone, answers over this cache in as many threads as the store has readers, and publishes the second zone
+/// meanwhile.
 pub fn serve<
     N: StoreName + Send + Sync + 'static,
     R: Threads + Wait + Clock + Eprint + Copy + Drop + Send + Sync + 'static,
->(rt: R, alloc: Global, parts: Parts, input: Input, plan: Plan) -> Result<Counts, BenchError>
+>(
+    rt: R,
+    alloc: Global,
+    parts: Parts,
+    cache: &BenchCache,
+    input: Input,
+    plan: Plan,
+) -> Result<Counts, BenchError>
     requires { parts ≡ N.store }
 {
     let (mut publisher, readers) = parts.open::<N, R>(&rt, alloc)?;
-    let counts = load_and_answer(rt, alloc, &mut publisher, readers, input, plan);
+    let counts = load_and_answer(rt, alloc, &mut publisher, readers, cache, input, plan);
     publisher.close(&rt);
     counts
 }
@@ -198,6 +281,7 @@ fn load_and_answer<
     alloc: Global,
     publisher: &mut Publisher<N>,
     readers: Vec<PolicyReader<N>>,
+    cache: &BenchCache,
     input: Input,
     plan: Plan,
 ) -> Result<Counts, BenchError> {
@@ -205,19 +289,9 @@ fn load_and_answer<
     load(&rt, alloc, publisher, stream)?;
     say(&rt, "loaded")?;
     let running = Arc::new(alloc, AtomicU64::new(readers.len() as u64))?;
-    let mut threads = Vec::new(alloc);
-    for reader in readers {
-        let count = Arc::try_clone(&running)?;
-        threads.push(start(rt, alloc, reader, &messages, plan.queries, count)?)?;
-    }
+    let threads = start_all(rt, alloc, readers, cache, &messages, plan, &running)?;
     publish_while(&rt, alloc, publisher, &running, plan.pause)?;
-    let mut replies = 0u64;
-    let mut others = 0u64;
-    for thread in threads {
-        let counts = thread.join(&rt);
-        replies = replies.wrapping_add(counts.replies);
-        others = others.wrapping_add(counts.others);
-    }
+    let counts = join_all(&rt, threads);
     say(&rt, "answered")?;
-    Ok(Counts { replies, others })
+    Ok(counts)
 }

@@ -10,6 +10,7 @@ use rpz_program::status::Status;
 use rpz_workers::Report;
 use std::alloc::{AllocError, Global};
 use std::collections::VecDeque;
+use std::hash::RandomState;
 use std::sync::Wait;
 use std::thread::Threads;
 
@@ -63,6 +64,7 @@ impl Case {
         rt: R,
         alloc: Global,
         script: Vec<u8>,
+        hashers: RandomState,
     ) -> Result<Vec<u8>, AllocError> {
         let mut source = ListSource::new(script, self.piece, Vec::new(alloc));
         let mut sink = ListSink::new(Vec::new(alloc), self.piece, Vec::new(alloc));
@@ -92,6 +94,7 @@ impl Case {
             &mut spawner,
             &mut clock,
             &mut ids,
+            hashers,
         );
         let first = format!(in alloc; "case {}\n", self.name)?;
         let mut out = Vec::from_slice(alloc, first.as_bytes())?;

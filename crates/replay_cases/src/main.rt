@@ -9,6 +9,7 @@
 mod case;
 
 use crate::case::Case;
+use std::hash::RandomState;
 use std::io;
 use std::io::{BufRead, BufReader, BufWriter, Read, Write};
 use std::process::ExitCode;
@@ -17,6 +18,7 @@ fn main(rt: HostRuntime) -> io::Result<ExitCode> {
     let alloc = rt.alloc();
     let mut input = BufReader::new(alloc, rt.reader())?;
     let mut out = BufWriter::new(alloc, io::writer(&rt))?;
+    let hashers = RandomState::new(&rt)?;
     let mut header = String::new(alloc);
     for _turn in 0..u64::MAX {
         header.clear();
@@ -31,7 +33,7 @@ fn main(rt: HostRuntime) -> io::Result<ExitCode> {
         input.read_exact(&mut script)?;
         header.clear();
         input.read_line(&mut header)?;
-        out.write_all(case.run(rt, alloc, script)?.as_slice())?;
+        out.write_all(case.run(rt, alloc, script, hashers)?.as_slice())?;
     }
     out.flush()?;
     Ok(ExitCode::SUCCESS)

@@ -9,6 +9,9 @@ use rpz_program::status::Status;
 use rpz_workers::Report;
 use std::alloc::{AllocError, Global};
 use std::collections::VecDeque;
+use std::hash::RandomState;
+use std::io;
+use std::random::RandomSource;
 use std::sync::Wait;
 use std::thread::Threads;
 
@@ -22,13 +25,12 @@ pub fn replay_words(alloc: Global) -> Result<Vec<String>, AllocError> {
 }
 
 /// Runs words over a script and an output, without a network.
-pub fn run_alone<R: Threads + Wait + Copy + Drop + Send + Sync + 'static, S: Source, K: Sink>(
-    rt: R,
-    alloc: Global,
-    words: &[String],
-    script: &mut S,
-    out: &mut K,
-) -> Status {
+pub fn run_alone<
+    R: Threads + Wait + RandomSource + Copy + Drop + Send + Sync + 'static,
+    S: Source,
+    K: Sink,
+>(rt: R, alloc: Global, words: &[String], script: &mut S, out: &mut K) -> io::Result<Status> {
+    let hashers = RandomState::new(&rt)?;
     let mut wires: NoWires = ListWires::new(
         alloc,
         VecDeque::new(alloc),
@@ -40,7 +42,7 @@ pub fn run_alone<R: Threads + Wait + Copy + Drop + Send + Sync + 'static, S: Sou
     let mut spawner: TaskSpawner<Report, R> = TaskSpawner::new(rt, alloc, true, Vec::new(alloc));
     let mut clock = ListClock::new(alloc, VecDeque::new(alloc));
     let mut ids = ListIds::new(alloc, VecDeque::new(alloc));
-    run(
+    Ok(run(
         &rt,
         alloc,
         words,
@@ -50,5 +52,6 @@ pub fn run_alone<R: Threads + Wait + Copy + Drop + Send + Sync + 'static, S: Sou
         &mut spawner,
         &mut clock,
         &mut ids,
-    )
+        hashers,
+    ))
 }

@@ -10,6 +10,7 @@ use rpz_program::status::Status;
 use std::alloc::Global;
 use std::collections::VecDeque;
 use std::process::Abort;
+use std::random::RandomSource;
 use std::sync::{Arc, Wait};
 use std::test::Fail;
 use std::thread::Threads;
@@ -83,7 +84,7 @@ fn assert_both<R: Wait + Abort>(rt: &R, replies: &Receiver<Octets>) -> Result<()
     Ok(())
 }
 
-fn meet<R: Threads + Wait + Abort + Clock + Copy + Drop + Send + Sync + 'static>(
+fn meet<R: Threads + Wait + Abort + Clock + RandomSource + Copy + Drop + Send + Sync + 'static>(
     rt: R,
     alloc: Global,
 ) -> Result<(), Fail> {

@@ -8,6 +8,7 @@ use std::alloc::Global;
 use std::io::{Read, Write};
 use std::net::{IpAddr, Ipv4Addr, Net, SocketAddr, TcpListener, TcpStream, UdpSocket};
 use std::process::Abort;
+use std::random::RandomSource;
 use std::sync::Wait;
 use std::test::Fail;
 use std::thread::Threads;
@@ -68,6 +69,7 @@ fn serve_and_ask<
         + Wait
         + Abort
         + Clock
+        + RandomSource
         + Copy
         + Drop
         + Send

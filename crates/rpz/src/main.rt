@@ -22,6 +22,7 @@ use edge_io::{ReaderSource, TaskSpawner, WriterSink};
 use rpz_net::{NetWires, RandomIds, SystemClock};
 use rpz_program::run::run;
 use rpz_workers::Report;
+use std::hash::RandomState;
 use std::process::ExitCode;
 use std::{env, io};
 
@@ -39,6 +40,7 @@ fn main(rt: HostRuntime) -> io::Result<ExitCode> {
     );
     let mut clock = SystemClock::new(rt);
     let mut ids = RandomIds::new(rt);
+    let hashers = RandomState::new(&rt)?;
     let status = run(
         &rt,
         alloc,
@@ -49,6 +51,7 @@ fn main(rt: HostRuntime) -> io::Result<ExitCode> {
         &mut spawner,
         &mut clock,
         &mut ids,
+        hashers,
     );
     if let Some(text) = status.text(alloc)? {
         eprintln!(rt; "{text}")?;

@@ -72,7 +72,7 @@ fn each_line_is_answered_before_more_is_read(rt: HostRuntime) -> Result<(), Fail
     };
     let mut sink = CountingSink { written: &written };
     let words = replay_words(rt.alloc())?;
-    let status = run_alone(rt, rt.alloc(), &words, &mut source, &mut sink);
+    let status = run_alone(rt, rt.alloc(), &words, &mut source, &mut sink)?;
     assert_eq!(rt; status, Status::Done);
     assert_eq!(rt; written.get(), OUTPUT * 3);
     assert!(rt; !is_ahead.get());

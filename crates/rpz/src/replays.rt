@@ -6,6 +6,7 @@ use rpz_program::laws::a_line_of_the_grammar_is_done;
 use rpz_program::replayed;
 use rpz_program::status::Status;
 use std::alloc::Global;
+use std::random::RandomSource;
 use std::sync::Wait;
 use std::test::Fail;
 use std::thread::Threads;
@@ -17,7 +18,7 @@ const SCRIPT: &[u8] = b"query 0 udp 192.0.2.7 -\nquery 1 udp 192.0.2.7 abcd11000
 const OUTPUT: &[u8] = b"silent 0\nreply 1 abcd91840000000000000000\n";
 
 // The status and the output of the script, read 10 bytes and written 5 bytes at a time, where these reads and writes fail.
-fn run_failing<R: Threads + Wait + Copy + Drop + Send + Sync + 'static>(
+fn run_failing<R: Threads + Wait + RandomSource + Copy + Drop + Send + Sync + 'static>(
     rt: R,
     alloc: Global,
     reads: Vec<u64>,
@@ -25,7 +26,7 @@ fn run_failing<R: Threads + Wait + Copy + Drop + Send + Sync + 'static>(
 ) -> Result<(Status, Vec<u8>), Fail> {
     let mut source = ListSource::new(SCRIPT.to_vec(alloc)?, 10, reads);
     let mut sink = ListSink::new(Vec::new(alloc), 5, writes);
-    let status = run_alone(rt, alloc, &replay_words(alloc)?, &mut source, &mut sink);
+    let status = run_alone(rt, alloc, &replay_words(alloc)?, &mut source, &mut sink)?;
     Ok((status, sink.bytes))
 }
 

@@ -14,7 +14,9 @@ use rpz_program::status::Status;
 use rpz_workers::Report;
 use std::alloc::Global;
 use std::collections::VecDeque;
+use std::hash::RandomState;
 use std::process::Abort;
+use std::random::RandomSource;
 use std::sync::atomic::AtomicBool;
 use std::sync::{Arc, Wait};
 use std::test::Fail;
@@ -136,7 +138,10 @@ fn wires<R: Threads + Wait + Clock + Copy + Drop + Send + Sync + 'static>(
 }
 
 /// Runs a line of words over wires, with workers in threads: how it ends, and what it writes, one byte a call.
-pub fn run_line<R: Threads + Wait + Clock + Copy + Drop + Send + Sync + 'static, W: Wires>(
+pub fn run_line<
+    R: Threads + Wait + Clock + RandomSource + Copy + Drop + Send + Sync + 'static,
+    W: Wires,
+>(
     rt: R,
     alloc: Global,
     line: &str,
@@ -155,6 +160,7 @@ pub fn run_line<R: Threads + Wait + Clock + Copy + Drop + Send + Sync + 'static,
     );
     let mut clock = ListClock::new(alloc, VecDeque::new(alloc));
     let mut ids = ListIds::new(alloc, VecDeque::new(alloc));
+    let hashers = RandomState::new(&rt)?;
     let status = run(
         &rt,
         alloc,
@@ -165,6 +171,7 @@ pub fn run_line<R: Threads + Wait + Clock + Copy + Drop + Send + Sync + 'static,
         &mut spawner,
         &mut clock,
         &mut ids,
+        hashers,
     );
     Ok((status, out.bytes))
 }
@@ -186,7 +193,7 @@ pub fn assert_replies<R: Wait + Abort>(
     assert!(rt; replies.try_recv(rt).is_err(), "{name}");
 }
 
-fn run_case<R: Threads + Wait + Abort + Clock + Copy + Drop + Send + Sync + 'static>(
+fn run_case<R: Threads + Wait + Abort + Clock + RandomSource + Copy + Drop + Send + Sync + 'static>(
     rt: R,
     alloc: Global,
     case: &Case,
@@ -209,11 +216,9 @@ fn servers_run(rt: HostRuntime) -> Result<(), Fail> {
 }
 
 // Each write of the first case fails in turn: what was written before it stays.
-fn fail_each<R: Threads + Wait + Abort + Clock + Copy + Drop + Send + Sync + 'static>(
-    rt: R,
-    alloc: Global,
-    case: &Case,
-) -> Result<(), Fail> {
+fn fail_each<
+    R: Threads + Wait + Abort + Clock + RandomSource + Copy + Drop + Send + Sync + 'static,
+>(rt: R, alloc: Global, case: &Case) -> Result<(), Fail> {
     for call in 0..SERVED.len() {
         let (sender, _replies) = unbounded(alloc)?;
         let mut wires = wires(rt, alloc, case, &sender)?;

@@ -12,6 +12,7 @@ mod replaying;
 pub mod run;
 mod serve_error;
 mod server;
+mod server_cache;
 mod serving;
 mod showing;
 mod stage;

@@ -24,6 +24,7 @@ use edge_io::{Clock, Ids, Sink, Source, Spawner, Wires, write_all};
 use rpz_words::{Command, WordsError, read_words};
 use rpz_workers::Report;
 use std::alloc::Global;
+use std::hash::RandomState;
 use std::sync::Wait;
 use std::thread::Threads;
 
@@ -33,6 +34,8 @@ use std::thread::Threads;
 /// accepted so far answers. `serve` answers clients over the wires, with workers that the spawner runs, and writes the lines of its
 /// polls and of its end to the sink. `load` makes a zone and queries from a seed, answers them in threads, and writes one line to the
 /// sink, which is the same for every number of threads. `help`, `--help`, `--version` and the like write a page to the sink.
+///
+/// `hashers` makes the hash of the cache that workers share: where strangers pick the questions, one with a random seed.
 pub fn run<
     R: Threads + Wait + Copy + Drop + Send + Sync + 'static,
     S: Source,
@@ -51,6 +54,7 @@ pub fn run<
     spawner: &mut P,
     clock: &mut C,
     ids: &mut I,
+    hashers: RandomState,
 ) -> Status
     // The words are refused only where they are none of the command set, and then nothing is touched.
     ensures usage { result ≡ Status.Usage → AreTaken words.now → command_in words.now ≡ None }
@@ -174,7 +178,7 @@ pub fn run<
     match read_words(alloc, words) {
         Ok(Command::Replay) => Status::of_replay(replay_script(alloc, script, out)),
         Ok(Command::Serve(settings)) => Status::of_server(serve(
-            rt, alloc, &settings, wires, spawner, clock, ids, out,
+            rt, alloc, &settings, wires, spawner, clock, ids, out, hashers,
         )),
         Ok(Command::Load(settings)) => Status::of_written(load(rt, alloc, settings, out)),
         Ok(Command::Show(page)) => Status::of_written(write_all(out, page.text().as_bytes())),

@@ -8,6 +8,7 @@ ghost use Rattle.rpz_program.specs.Serving.{ServesWhole, StopsServing, linked_wi
 ghost use Rattle.rpz_words.specs.Limits.{IsServable};
 
 use crate::serve_error::ServeError;
+use crate::server_cache::open_cache;
 use crate::serving::{Plan, serve_over};
 use crate::zones::zone_sources;
 use edge_io::{Clock, Ids, Sink, Spawner, WireError, Wires};
@@ -15,12 +16,15 @@ use policy_publish::start_store;
 use rpz_words::Settings;
 use rpz_workers::Report;
 use std::alloc::Global;
+use std::hash::RandomState;
 use std::marker::Brand;
 use std::sync::Wait;
 use std::thread::Threads;
 
-/// Serves as the settings say: binds the endpoint, starts the workers, polls all zones, takes the arrivals, and writes the line that
-/// sums up what became of them. However it ends, the workers that were started are stopped and gathered first.
+/// Serves as the settings say: opens the cache that the workers share, binds the endpoint, starts the workers, polls all zones, takes
+/// the arrivals, and writes the line that sums up what became of them. Where the cache finds no memory, nothing was bound yet. However
+/// it ends, the workers that were started are stopped and gathered first. `hashers` makes the hash of the cache: where strangers pick
+/// the questions, one with a random seed.
 pub fn serve<
     W: Wires,
     P: Spawner<Report>,
@@ -37,6 +41,7 @@ pub fn serve<
     clock: &mut C,
     ids: &mut I,
     out: &mut K,
+    hashers: RandomState,
 ) -> Result<(), ServeError>
     requires { IsServable settings.now }
     ensures ok { OnOk result (ServesWhole
@@ -68,6 +73,7 @@ pub fn serve<
         upstream: settings.upstream,
         turns: settings.turns,
         zones: zone_sources(alloc, &settings.zones)?,
+        cache: open_cache(alloc, settings.cache, hashers)?,
     };
     match wires.bind(settings.listen) {
         Ok(()) => {

@@ -9,27 +9,30 @@ ghost use Rattle.rpz_program.specs.Sums.{saturated};
 
 use crate::poll_lines::served_text;
 use crate::serve_error::ServeError;
+use crate::server_cache::ServerCache;
 use crate::starting::start_all;
 use crate::sums::{Sums, gather_all};
 use crate::telling::Queues;
 use crate::turns::take_all;
 use crate::zone_source::ZoneSource;
-use edge_io::{Clock, Endpoint, Ids, Sink, SinkError, Spawner, Wires, write_all};
+use edge_io::{Clock, Endpoint, Ids, Link, Sink, SinkError, Spawner, Wires, write_all};
 use policy_publish::{Parts, PolicyReader, Publisher, StoreName};
 use rpz_workers::Report;
 use std::alloc::Global;
 use std::sync::Wait;
 use std::thread::Threads;
 
-/// What a server does once its endpoint is bound.
+/// What a server does once its endpoint is bound, and over which cache.
 #[derive(Drop)]
-pub struct Plan {
+pub struct Plan<L: Link> {
     /// Where questions are asked.
     pub upstream: Endpoint,
     /// How many arrivals are taken.
     pub turns: u32,
     /// The policy zones in order.
     pub zones: Vec<ZoneSource>,
+    /// What was learned from the upstream, for all workers.
+    pub cache: ServerCache<L>,
 }
 
 // Writes the line that ends a run. Arrivals that came back count as those for which memory ran out.
@@ -69,7 +72,7 @@ fn run_turns<
 >(
     rt: &R,
     alloc: Global,
-    plan: &Plan,
+    plan: &Plan<W::Up>,
     publisher: &mut Publisher<N>,
     readers: Vec<PolicyReader<N>>,
     wires: &mut W,
@@ -112,6 +115,7 @@ fn run_turns<
         rt,
         alloc,
         plan.upstream,
+        &plan.cache,
         readers,
         wires,
         spawner,
@@ -144,7 +148,7 @@ fn serve_open<
 >(
     rt: &R,
     alloc: Global,
-    plan: &Plan,
+    plan: &Plan<W::Up>,
     publisher: &mut Publisher<N>,
     readers: Vec<PolicyReader<N>>,
     wires: &mut W,
@@ -213,7 +217,7 @@ pub(crate) fn serve_over<
     rt: &R,
     alloc: Global,
     parts: Parts,
-    plan: &Plan,
+    plan: &Plan<W::Up>,
     wires: &mut W,
     spawner: &mut P,
     clock: &mut C,

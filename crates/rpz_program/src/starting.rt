@@ -7,8 +7,9 @@ ghost use Rattle.rpz_program.specs.Serving.{linked_with};
 ghost use Rattle.rpz_program.specs.Wires.{FetchesNothing};
 
 use crate::serve_error::ServeError;
+use crate::server_cache::ServerCache;
 use crate::telling::Queues;
-use answer_cache::{AnswerCache, MOST_ENTRIES};
+use answer_cache::Shared;
 use crossbeam_channel::{Receiver, Sender, unbounded};
 use edge_io::{
     Clock, Endpoint, Ids, Link, Sink, Source, Spawner, StartError, Task, WireError, Wires,
@@ -16,12 +17,8 @@ use edge_io::{
 use policy_publish::{PolicyReader, StoreName, Told};
 use rpz_workers::{ChannelItems, Item, NoGate, Report, ServeTask, Worker};
 use std::alloc::{AllocError, Global};
-use std::hash::{BuildHasherDefault, FoldHasher};
-use std::sync::Wait;
+use std::sync::{Arc, Wait};
 use std::thread::Threads;
-
-// The cache of a worker.
-type OwnCache<L> = AnswerCache<L, BuildHasherDefault<FoldHasher>>;
 
 // A link to the upstream, and a place for replies.
 fn wire_worker<W: Wires>(wires: &mut W, upstream: Endpoint) -> Result<(W::Up, W::Back), ServeError>
@@ -68,22 +65,22 @@ fn start_task<J: Task<Report> + Send + Drop + 'static, P: Spawner<Report>, R: Th
     }
 }
 
-// An empty cache, and the items of a worker: those of the queue, and what it is told.
+// A worker's hold on the cache, and its items: those of the queue, and what it is told.
 fn cache_and_items<N: StoreName, L: Link, S: Source + Drop, K: Sink + Drop, R: Wait + Copy + Drop>(
     rt: &R,
     alloc: Global,
+    cache: &ServerCache<L>,
     items: &Receiver<Item<N, S, K>>,
     told: &mut Vec<Sender<Told<N>>>,
-) -> Result<(OwnCache<L>, ChannelItems<N, S, K, R>), AllocError> {
-    let hashers: BuildHasherDefault<FoldHasher> = BuildHasherDefault::new();
-    let cache = AnswerCache::open(alloc, MOST_ENTRIES, hashers)?;
+) -> Result<(Shared<R, L>, ChannelItems<N, S, K, R>), AllocError> {
+    let shared = Shared::new(*rt, Arc::try_clone(cache)?);
     let (sender, receiver) = unbounded(alloc)?;
     told.push(sender)?;
     let items = items.clone()?;
-    Ok((cache, ChannelItems::new(*rt, items, receiver)))
+    Ok((shared, ChannelItems::new(*rt, items, receiver)))
 }
 
-// Starts a worker that takes from the queue, with an empty cache.
+// Starts a worker that takes from the queue, over the cache that all workers share.
 fn start_worker<
     N: StoreName + Send + Sync + 'static,
     W: Wires,
@@ -94,6 +91,7 @@ fn start_worker<
 >(
     rt: &R,
     alloc: Global,
+    cache: &ServerCache<W::Up>,
     reader: PolicyReader<N>,
     link: W::Up,
     replies: W::Back,
@@ -112,8 +110,8 @@ fn start_worker<
     ensures not_socket { result ≢ Err ServeError.SocketFault }
     ensures not_write { result ≢ Err ServeError.WriteFault }
 {
-    let (cache, items) = cache_and_items(rt, alloc, items, told)?;
-    let worker = Worker::new(alloc, reader, cache, link, ids, NoGate);
+    let (shared, items) = cache_and_items(rt, alloc, cache, items, told)?;
+    let worker = Worker::new(alloc, reader, shared, link, ids, NoGate);
     start_task(
         rt,
         spawner,
@@ -121,7 +119,7 @@ fn start_worker<
     )
 }
 
-// Starts a worker for a reader, with a clock and IDs of its own.
+// Starts a worker for a reader, over the cache, with a clock and IDs of its own.
 fn start_one<
     N: StoreName + Send + Sync + 'static,
     W: Wires,
@@ -133,6 +131,7 @@ fn start_one<
     rt: &R,
     alloc: Global,
     upstream: Endpoint,
+    cache: &ServerCache<W::Up>,
     reader: PolicyReader<N>,
     wires: &mut W,
     spawner: &mut P,
@@ -158,11 +157,11 @@ fn start_one<
     let (link, replies) = wire_worker(wires, upstream)?;
     let (own_clock, own_ids) = (clock.another(), ids.another());
     start_worker::<N, W, P, C, I, R>(
-        rt, alloc, reader, link, replies, spawner, own_clock, own_ids, items, told,
+        rt, alloc, cache, reader, link, replies, spawner, own_clock, own_ids, items, told,
     )
 }
 
-/// Opens the queue, and starts a worker for each reader, with a clock and IDs of its own.
+/// Opens the queue, and starts a worker for each reader, over the cache, with a clock and IDs of its own.
 pub(crate) fn start_all<
     N: StoreName + Send + Sync + 'static,
     W: Wires,
@@ -174,6 +173,7 @@ pub(crate) fn start_all<
     rt: &R,
     alloc: Global,
     upstream: Endpoint,
+    cache: &ServerCache<W::Up>,
     readers: Vec<PolicyReader<N>>,
     wires: &mut W,
     spawner: &mut P,
@@ -208,6 +208,7 @@ pub(crate) fn start_all<
             rt,
             alloc,
             upstream,
+            cache,
             reader,
             wires,
             spawner,

@@ -1,3 +1,4 @@
+pub mod Limits
 pub mod Stages
 pub mod Answered
 pub mod LiveEntries

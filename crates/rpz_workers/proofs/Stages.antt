@@ -5,7 +5,8 @@ use Rattle.dns_message.specs.declared.request.Incoming.{Incoming}
 use Rattle.upstream_link.specs.declared.fact.Fact.{Fact}
 use Rattle.upstream_link.specs.Facts.{PlainFacts}
 use Rattle.upstream_link.specs.Vouched.{PlainLearned}
-use Rattle.answer_cache.specs.Recent.{Recent, recent, live_entry, after_keep, after_look_up}
+use Rattle.answer_cache.specs.Keeps.{IsFound, kept, looked_up}
+use Rattle.answer_cache.specs.Recent.{Recent}
 use Rattle.policy_snapshot.specs.Policy.{PlainPolicy}
 use Rattle.query_session.specs.Session.{turn_by}
 use Rattle.reply_build.specs.declared.said.Said.{Said}
@@ -16,76 +17,75 @@ use Rattle.rpz_workers.specs.Obtaining.{Inquiry, MayKeep, Obtains, ObtainsFor, w
 use Rattle.rpz_workers.specs.Turns.{Asks, Leads, Says, TakesTurn, inquiry}
 
 -- a keep that may fail
-pub may_keep : {E : Type 0} (limit : ℕ) (entry : PlainLearned) (before : List PlainLearned) (after : Recent) (r : Result (Unit {0}) E)
-    → OnOk r (after ≡ recent (after_keep limit entry before) limit) → OnErr r (after ≡ recent before limit)
-    → MayKeep limit entry before after.entries × (after.limit ≡ limit)
-may_keep limit entry before after (Ok done) ok err = (inl (ap (λ c. c.entries) ok), ap (λ c. c.limit) ok)
-may_keep limit entry before after (Err e) ok err = (inr (ap (λ c. c.entries) err), ap (λ c. c.limit) err)
+pub may_keep : {E : Type 0} (entry : PlainLearned) (before after : Option Recent) (r : Result (Unit {0}) E)
+    → OnOk r (after ≡ kept entry before) → OnErr r (after ≡ before) → MayKeep entry before after
+may_keep entry before after (Ok done) ok err = inl ok
+may_keep entry before after (Err e) ok err = inr err
 
 -- what the link gave, where the cache was looked at before
-pub asked_behind : {L : Type 0} (gave : List ℕ → List ℕ → ℕ → Type 0) (limit now : ℕ) (question : Question) (before : Inquiry) (one : Obtained L) (after : Inquiry)
-    → live_entry question now before.cached ≡ None
-    → Asks gave limit now question (inquiry before.facts (after_look_up question before.cached) before.ids before.link_faults) one after
-    → ObtainsFor gave limit now question before one after
-asked_behind gave limit now question before (Learned entry) after none gets =
+pub asked_behind : {L : Type 0} (gave : List ℕ → List ℕ → ℕ → Type 0) (now : ℕ) (question : Question) (before : Inquiry) (one : Obtained L) (after : Inquiry)
+    → IsFound question now None before.cached
+    → Asks gave now question (inquiry before.facts (looked_up question before.cached) before.ids before.link_faults) one after
+    → ObtainsFor gave now question before one after
+asked_behind gave now question before (Learned entry) after none gets =
     inr (record { not_found = none; id = gets.id; next = gets.next; asks = gets.asks; vouched = gets.vouched; facts = gets.facts; cached = gets.cached; link_faults = gets.link_faults })
-asked_behind gave limit now question before (Failed asked) after none fails =
+asked_behind gave now question before (Failed asked) after none fails =
     (fails.0, record { not_found = none; id = fails.1.id; next = fails.1.next; facts = fails.1.facts; cached = fails.1.cached; link_faults = fails.1.link_faults })
 
 one_longer : (facts after : PlainFacts) (question : Question) (fact : Fact) → after ≡ with_fact facts question fact → length after ≡ length facts + 1
 one_longer facts after question fact e = ap length e ∙ length-append facts ((question, fact) ∷ [])
 
 -- each answer is one fact more
-pub one_fact_more : {L : Type 0} (gave : List ℕ → List ℕ → ℕ → Type 0) (limit now : ℕ) (question : Question) (before : Inquiry) (one : Obtained L) (after : Inquiry)
-    → ObtainsFor gave limit now question before one after → length after.facts ≡ length before.facts + 1
-one_fact_more gave limit now question before (Learned entry) after by =
-    elim by [ inl live_entry ↦ one_longer _ _ _ _ live_entry.facts | inr asked ↦ one_longer _ _ _ _ asked.facts ]
-one_fact_more gave limit now question before (Failed asked) after by = one_longer _ _ _ _ by.1.facts
+pub one_fact_more : {L : Type 0} (gave : List ℕ → List ℕ → ℕ → Type 0) (now : ℕ) (question : Question) (before : Inquiry) (one : Obtained L) (after : Inquiry)
+    → ObtainsFor gave now question before one after → length after.facts ≡ length before.facts + 1
+one_fact_more gave now question before (Learned entry) after by =
+    elim by [ inl hit ↦ one_longer _ _ _ _ hit.facts | inr asked ↦ one_longer _ _ _ _ asked.facts ]
+one_fact_more gave now question before (Failed asked) after by = one_longer _ _ _ _ by.1.facts
 
 -- nothing obtained leads nowhere
-pub leads_nowhere : {L : Type 0} (gave : List ℕ → List ℕ → ℕ → Type 0) (limit now : ℕ) (policy : PlainPolicy) (incoming : Incoming) (first : Inquiry) (obtained : List (Obtained L)) (last : Inquiry)
-    → obtained ≡ [] → last ≡ first → Leads gave limit now policy incoming first obtained last
-leads_nowhere gave limit now policy incoming first obtained last none same = record { stages = []; chain = same; obtained_is = none }
+pub leads_nowhere : {L : Type 0} (gave : List ℕ → List ℕ → ℕ → Type 0) (now : ℕ) (policy : PlainPolicy) (incoming : Incoming) (first : Inquiry) (obtained : List (Obtained L)) (last : Inquiry)
+    → obtained ≡ [] → last ≡ first → Leads gave now policy incoming first obtained last
+leads_nowhere gave now policy incoming first obtained last none same = record { stages = []; chain = same; obtained_is = none }
 
 -- what a turn does that says nothing
-turn_asks : {L : Type 0} (gave : List ℕ → List ℕ → ℕ → Type 0) (limit now : ℕ) (policy : PlainPolicy) (incoming : Incoming) (middle : Inquiry) (said : Option Said) (obtained more : List (Obtained L)) (last : Inquiry)
-    → said ≡ None → TakesTurn gave limit now policy incoming middle said obtained more last
-    → TakesTurn gave limit now policy incoming middle None obtained more last
-turn_asks gave limit now policy incoming middle None obtained more last none takes = takes
-turn_asks gave limit now policy incoming middle (Some said) obtained more last none takes = absurd (cc)
+turn_asks : {L : Type 0} (gave : List ℕ → List ℕ → ℕ → Type 0) (now : ℕ) (policy : PlainPolicy) (incoming : Incoming) (middle : Inquiry) (said : Option Said) (obtained more : List (Obtained L)) (last : Inquiry)
+    → said ≡ None → TakesTurn gave now policy incoming middle said obtained more last
+    → TakesTurn gave now policy incoming middle None obtained more last
+turn_asks gave now policy incoming middle None obtained more last none takes = takes
+turn_asks gave now policy incoming middle (Some said) obtained more last none takes = absurd (cc)
 
 -- one answer more
-pub leads_on : {L : Type 0} (gave : List ℕ → List ℕ → ℕ → Type 0) (limit limit_now now : ℕ) (policy policy_now : PlainPolicy) (incoming incoming_now : Incoming) (first middle : Inquiry) (said : Option Said) (obtained more : List (Obtained L)) (last : Inquiry)
-    → limit_now ≡ limit → policy_now ≡ policy → incoming_now ≡ incoming → said ≡ None
-    → Leads gave limit now policy incoming first obtained middle
-    → TakesTurn gave limit_now now policy_now incoming_now middle said obtained more last
-    → Leads gave limit now policy incoming first more last
-leads_on {L} gave limit limit_now now policy policy_now incoming incoming_now first middle said obtained more last same_limit same_policy same_incoming none leads turned =
-    let takes = turn_asks gave limit_now now policy_now incoming_now middle said obtained more last none turned in
-    let P : ℕ → PlainPolicy → Incoming → Type 0 = λ l p i. Obtains gave l now p i middle takes.0 last in
-    let one = subst (λ (l : ℕ). P l policy incoming) same_limit (subst (λ (p : PlainPolicy). P limit_now p incoming) same_policy (subst (λ (i : Incoming). P limit_now policy_now i) same_incoming takes.1.0)) in
+pub leads_on : {L : Type 0} (gave : List ℕ → List ℕ → ℕ → Type 0) (now : ℕ) (policy policy_now : PlainPolicy) (incoming incoming_now : Incoming) (first middle : Inquiry) (said : Option Said) (obtained more : List (Obtained L)) (last : Inquiry)
+    → policy_now ≡ policy → incoming_now ≡ incoming → said ≡ None
+    → Leads gave now policy incoming first obtained middle
+    → TakesTurn gave now policy_now incoming_now middle said obtained more last
+    → Leads gave now policy incoming first more last
+leads_on {L} gave now policy policy_now incoming incoming_now first middle said obtained more last same_policy same_incoming none leads turned =
+    let takes = turn_asks gave now policy_now incoming_now middle said obtained more last none turned in
+    let P : PlainPolicy → Incoming → Type 0 = λ p i. Obtains gave now p i middle takes.0 last in
+    let one = subst (λ (p : PlainPolicy). P p incoming) same_policy (subst (λ (i : Incoming). P policy_now i) same_incoming takes.1.0) in
     record {
       stages = record { turn = takes.0; before = middle } ∷ leads.stages;
       chain = (one, leads.chain);
       obtained_is = takes.1.1 ∙ ap (λ (list : List (Obtained L)). list ++ takes.0 ∷ []) leads.obtained_is;
     }
 
-pub turn_adds_one : {L : Type 0} (gave : List ℕ → List ℕ → ℕ → Type 0) (limit now : ℕ) (policy : PlainPolicy) (incoming : Incoming) (middle : Inquiry) (said : Option Said) (obtained more : List (Obtained L)) (last : Inquiry)
-    → said ≡ None → TakesTurn gave limit now policy incoming middle said obtained more last → length last.facts ≡ length middle.facts + 1
-turn_adds_one gave limit now policy incoming middle said obtained more last none turned =
-    let takes = turn_asks gave limit now policy incoming middle said obtained more last none turned in
-    one_fact_more gave limit now takes.1.0.question middle takes.0 last takes.1.0.by
+pub turn_adds_one : {L : Type 0} (gave : List ℕ → List ℕ → ℕ → Type 0) (now : ℕ) (policy : PlainPolicy) (incoming : Incoming) (middle : Inquiry) (said : Option Said) (obtained more : List (Obtained L)) (last : Inquiry)
+    → said ≡ None → TakesTurn gave now policy incoming middle said obtained more last → length last.facts ≡ length middle.facts + 1
+turn_adds_one gave now policy incoming middle said obtained more last none turned =
+    let takes = turn_asks gave now policy incoming middle said obtained more last none turned in
+    one_fact_more gave now takes.1.0.question middle takes.0 last takes.1.0.by
 
 -- where nothing more is asked, something is said
-pub says_last : {L E : Type 0} (gave : List ℕ → List ℕ → ℕ → Type 0) (limit now : ℕ) (policy policy_now : PlainPolicy) (incoming incoming_now : Incoming) (first middle : Inquiry) (obtained : List (Obtained L)) (r : Result Said E)
+pub says_last : {L E : Type 0} (gave : List ℕ → List ℕ → ℕ → Type 0) (now : ℕ) (policy policy_now : PlainPolicy) (incoming incoming_now : Incoming) (first middle : Inquiry) (obtained : List (Obtained L)) (r : Result Said E)
     → policy_now ≡ policy → incoming_now ≡ incoming
-    → Leads gave limit now policy incoming first obtained middle
+    → Leads gave now policy incoming first obtained middle
     → IfOk r (λ said. turn_by policy_now incoming_now middle.facts ≡ turn.Said said)
-    → IfOk r (λ said. Says gave limit now policy incoming first said obtained middle.cached middle.ids middle.link_faults)
-says_last gave limit now policy policy_now incoming incoming_now first middle obtained (Ok said) same_policy same_incoming leads says =
+    → IfOk r (λ said. Says gave now policy incoming first said obtained middle.cached middle.ids middle.link_faults)
+says_last gave now policy policy_now incoming incoming_now first middle obtained (Ok said) same_policy same_incoming leads says =
     record {
       facts = middle.facts;
       leads = leads;
       says = sym (ap (λ (p : PlainPolicy). turn_by p incoming_now middle.facts) same_policy ∙ ap (λ (i : Incoming). turn_by policy i middle.facts) same_incoming) ∙ says;
     }
-says_last gave limit now policy policy_now incoming incoming_now first middle obtained (Err e) same_policy same_incoming leads says = tt
+says_last gave now policy policy_now incoming incoming_now first middle obtained (Err e) same_policy same_incoming leads says = tt

@@ -4,7 +4,8 @@ use mathlib.Core.List.{IsPrefix}
 use Rattle.dns_name.specs.Labels.{Name}
 use Rattle.edge_io.specs.Chain.{Chain, Stage}
 use Rattle.dns_message.specs.Request.{incoming_of}
-use Rattle.upstream_link.specs.Vouched.{PlainLearned}
+use Rattle.answer_cache.specs.Keeps.{emptied}
+use Rattle.answer_cache.specs.Recent.{Recent}
 use Rattle.policy_snapshot.specs.Policy.{policy_after}
 use Rattle.policy_publish.specs.Lists.{GoesOn, Known}
 use Rattle.query_session.specs.Session.{turn_by}
@@ -12,15 +13,14 @@ use Rattle.reply_build.specs.declared.said.Said.{Said}
 use Rattle.reply_build.specs.declared.turn.Turn.TheVariants as turn
 use Rattle.rpz_workers.specs.declared.item.Job.{Job}
 use Rattle.rpz_workers.specs.declared.obtained.Obtained.{Obtained}
-use Rattle.rpz_workers.specs.Obtaining.{Inquiry, Obtains}
+use Rattle.rpz_workers.specs.Obtaining.{Inquiry, Obtains, limit_of}
 
 -- what contracts see of a worker: the list of transfers that it saw last and the longest that it was told, the entries of its cache
--- and how many there may be, the IDs that are still to come, where they are known, how often its link has failed, and what it
--- obtained for its last query, in order
+-- and how many there may be, where it tells them, the IDs that are still to come, where they are known, how often its link has
+-- failed, and what it obtained for its last query, in order
 pub record PlainWorker (L : Type 0) : Type 0 where
   pub known : Known
-  pub cached : List PlainLearned
-  pub limit : ℕ
+  pub cached : Option Recent
   pub ids : Option (List ℕ)
   pub link_faults : ℕ
   pub obtained : List (Obtained L)
@@ -48,7 +48,7 @@ pub record IsAnswer {L : Type 0} (origins : List Name)
     (old new : PlainWorker L) : Type 0 where
   pub stages : List (Stage Inquiry (Obtained L))
   pub last : Inquiry
-  pub obtains : Chain (Obtains gave old.limit now (policy_after origins new.known.seen)
+  pub obtains : Chain (Obtains gave now (policy_after origins new.known.seen)
       (incoming_of job.message job.peer.addr job.transport)) (beginning old) stages last
   pub says : turn_by (policy_after origins new.known.seen)
       (incoming_of job.message job.peer.addr job.transport) last.facts ≡ turn.Said said
@@ -56,16 +56,16 @@ pub record IsAnswer {L : Type 0} (origins : List Name)
   pub goes_on : GoesOn old.known new.known.seen
   pub told : new.known.told ≡ old.known.told
   pub cached : new.cached ≡ last.cached
-  pub limit : new.limit ≡ old.limit
+  pub limit : limit_of new.cached ≡ limit_of old.cached
   pub ids : new.ids ≡ last.ids
   pub link_faults : new.link_faults ≡ last.link_faults
 
--- Memory ran out. A later list may be seen, IDs may be used, and the cache is as it was, or empty.
+-- Memory ran out. A later list may be seen, IDs may be used, and the cache is as it was, or empty, where it tells its entries.
 pub record IsNoAnswer {L : Type 0} (old new : PlainWorker L) : Type 0 where
   pub seen : IsPrefix old.known.seen new.known.seen
   pub told : new.known.told ≡ old.known.told
-  pub cached : (new.cached ≡ old.cached) ⊎ (new.cached ≡ [])
-  pub limit : new.limit ≡ old.limit
+  pub cached : (new.cached ≡ old.cached) ⊎ (new.cached ≡ emptied old.cached)
+  pub limit : limit_of new.cached ≡ limit_of old.cached
   pub link_faults : old.link_faults ≤ new.link_faults
   pub obtained : new.obtained ≡ []
 

@@ -1,11 +1,11 @@
 -- What a live entry of the cache comes to.
-use Rattle.std.specs.Prelude.{◌≡◌, ℕ, Some}
+use Rattle.std.specs.Prelude.{◌≡◌, ℕ, Option, Some}
 use Rattle.edge_io.specs.Chain.{Stage}
 use Rattle.dns_message.specs.declared.question.Question.{Question}
 use Rattle.dns_message.specs.declared.request.Incoming.{Incoming}
 use Rattle.upstream_link.specs.Vouched.{PlainLearned}
 use Rattle.answer_cache.specs.Key.{key_of}
-use Rattle.answer_cache.specs.Recent.{Serves, live_entry}
+use Rattle.answer_cache.specs.Recent.{Recent, Serves, live_entry}
 use Rattle.policy_snapshot.specs.Policy.{PlainPolicy}
 use Rattle.query_session.specs.Session.{turn_by}
 use Rattle.reply_build.specs.declared.turn.Turn.TheVariants as turn
@@ -13,11 +13,18 @@ use Rattle.rpz_workers.specs.declared.obtained.Obtained.{Obtained}
 use Rattle.rpz_workers.specs.declared.obtained.Obtained.TheVariants.{Learned}
 use Rattle.rpz_workers.specs.Obtaining.{Inquiry}
 
+-- the cache tells its entries, and this is the live one about the question
+pub record HasLiveEntry (now : ℕ) (question : Question) (entry : PlainLearned)
+    (cached : Option Recent) : Type 0 where
+  pub cache : Recent
+  pub tells : cached ≡ Some cache
+  pub is_live : live_entry question now cache.entries ≡ Some entry
+
 -- what was obtained is this entry, which the cache had, live and about the question
 pub record IsHit {L : Type 0} (now : ℕ) (asked : Question) (entry : PlainLearned)
     (stage : Stage Inquiry (Obtained L)) : Type 0 where
   pub turn_is : stage.turn ≡ Learned entry
-  pub is_found : live_entry asked now stage.before.cached ≡ Some entry
+  pub is_found : HasLiveEntry now asked entry stage.before.cached
   pub serves : Serves asked now entry
 
 -- if this stage asks a question like this one, this entry of the cache answers it

@@ -10,6 +10,7 @@ use crate::bare_reply::bare_reply;
 use crate::gate::Gate;
 use crate::item::Job;
 use crate::worker::Worker;
+use answer_cache::Keeps;
 use dns_name::Octets;
 use edge_io::{
     CONNECTION_MESSAGES, Clock, Endpoint, FrameError, FrameFault, Ids, Link, Sink, SinkError,
@@ -19,7 +20,6 @@ use ip_prefix::Transport;
 use policy_publish::StoreName;
 use reply_build::Said;
 use std::alloc::AllocError;
-use std::hash::BuildHasher;
 
 /// How many messages of a connection are answered. Behind them it ends.
 pub const FRAME_LIMIT: u32 = CONNECTION_MESSAGES;
@@ -50,10 +50,10 @@ fn write_reply<K: Sink>(
     }
 }
 
-impl<N: StoreName, L: Link + Drop, H: BuildHasher + Drop, I: Ids + Drop, G: Gate + Drop> Worker<
+impl<N: StoreName, L: Link + Drop, A: Keeps<L> + Drop, I: Ids + Drop, G: Gate + Drop> Worker<
     N,
     L,
-    H,
+    A,
     I,
     G,
 > {

@@ -13,11 +13,11 @@ use crate::item::{Item, Items, Job};
 use crate::report::Report;
 use crate::took::Took;
 use crate::worker::Worker;
+use answer_cache::Keeps;
 use edge_io::{Clock, Endpoint, Ids, Link, Replies, SendError, Sink, Source};
 use policy_publish::StoreName;
 use reply_build::Said;
 use std::alloc::AllocError;
-use std::hash::BuildHasher;
 use std::sync::Wait;
 
 // Sends the reply to a message, where there is one, and says what became of the job.
@@ -52,10 +52,10 @@ fn send_reply<S: Source, K: Sink, P: Replies<S, K>>(
     }
 }
 
-impl<N: StoreName, L: Link + Drop, H: BuildHasher + Drop, I: Ids + Drop, G: Gate + Drop> Worker<
+impl<N: StoreName, L: Link + Drop, A: Keeps<L> + Drop, I: Ids + Drop, G: Gate + Drop> Worker<
     N,
     L,
-    H,
+    A,
     I,
     G,
 > {

@@ -1,32 +1,31 @@
-//! A worker's answers, out of its cache or over its link.
+//! A worker's answers, out of a cache or over its link.
 
 ghost use Rattle.std.specs.Prelude.{◌≡◌, ◌≤◌, [], length, Some, IfOk, IfSome, IsSome, OnOk};
 ghost use Rattle.dns_message.specs.Request.{incoming_of};
 ghost use Rattle.query_session.specs.Session.{after_fact, turn_of};
 ghost use Rattle.reply_build.specs.Short.{IsShort};
 ghost use Rattle.upstream_link.specs.Vouched.{Tells, Vouched, fact_at};
-ghost use Rattle.rpz_workers.specs.Obtaining.{MayKeep, ObtainsFor};
+ghost use Rattle.rpz_workers.specs.Obtaining.{ObtainsFor, limit_of};
 ghost use Rattle.rpz_workers.specs.Turns.{Asks, Says, TakesTurn, inquiry};
 
 use crate::gate::{GATE_TURNS, Gate};
 use crate::item::Job;
 use crate::obtained::Obtained;
-use answer_cache::AnswerCache;
+use answer_cache::Keeps;
 use dns_message::Question;
 use edge_io::{Ids, Link};
 use policy_snapshot::Snapshot;
 use query_session::Session;
 use reply_build::{Said, Turn};
 use std::alloc::{AllocError, Global};
-use std::hash::BuildHasher;
 use std::sync::Arc;
 use upstream_link::{AnswerFault, AskOutcome, FACT_LIMIT, Fact, Learned, ask};
 
 /// A cache, and the link that is asked where no live entry of the cache answers, with the IDs of its messages and what is passed
 /// before each.
 #[derive(Drop)]
-pub(crate) struct Sources<L: Link + Drop, H: BuildHasher + Drop, I: Ids + Drop, G: Gate + Drop> {
-    pub(crate) cache: AnswerCache<L, H>,
+pub(crate) struct Sources<L: Link + Drop, A: Keeps<L> + Drop, I: Ids + Drop, G: Gate + Drop> {
+    pub(crate) cache: A,
     pub(crate) link: L,
     pub(crate) ids: I,
     pub(crate) gate: G,
@@ -69,21 +68,6 @@ fn give_failed<L: Link>(
     Ok(Obtained::Failed(copy))
 }
 
-// Keeps what was learned in the cache, where memory suffices.
-fn keep<L: Link, H: BuildHasher + Drop>(
-    alloc: Global,
-    cache: &mut AnswerCache<L, H>,
-    learned: &Learned<L>,
-)
-    ensures kept { MayKeep cache.old.limit learned.now cache.old.entries cache.new.entries }
-    ensures limit { cache.new.limit ≡ cache.old.limit }
-{
-    let Ok(copy) = learned.copied() else {
-        return;
-    };
-    let _kept = cache.keep(alloc, copy);
-}
-
 // The reply, or silence, after as many facts as a query may have.
 fn last_turn(session: &mut Session) -> Result<Said, AllocError>
     requires { FACT_LIMIT ≤ length session.old.facts }
@@ -98,7 +82,7 @@ fn last_turn(session: &mut Session) -> Result<Said, AllocError>
     }
 }
 
-impl<L: Link + Drop, H: BuildHasher + Drop, I: Ids + Drop, G: Gate + Drop> Sources<L, H, I, G> {
+impl<L: Link + Drop, A: Keeps<L> + Drop, I: Ids + Drop, G: Gate + Drop> Sources<L, A, I, G> {
     // Asks the question over the link, and gives the answer to the session.
     fn ask_link(
         &mut self,
@@ -108,13 +92,13 @@ impl<L: Link + Drop, H: BuildHasher + Drop, I: Ids + Drop, G: Gate + Drop> Sourc
         now: u32,
     ) -> Result<Obtained<L>, AllocError>
         requires { session.old.asked ≡ Some question.now }
-        ensures obtains { IfOk result (λ obtained. Asks L.gave self.old.cache.limit now question.now
-            (inquiry session.old.facts self.old.cache.entries
+        ensures obtains { IfOk result (λ obtained. Asks L.gave now question.now
+            (inquiry session.old.facts (A.entries self.old.cache)
             (I.ids self.old.ids) (L.faults self.old.link))
             obtained
-            (inquiry session.new.facts self.new.cache.entries
+            (inquiry session.new.facts (A.entries self.new.cache)
             (I.ids self.new.ids) (L.faults self.new.link))) }
-        ensures limit { self.new.cache.limit ≡ self.old.cache.limit }
+        ensures limit { limit_of (A.entries self.new.cache) ≡ limit_of (A.entries self.old.cache) }
         ensures count { L.faults self.old.link ≤ L.faults self.new.link }
         ensures policy { session.new.policy ≡ session.old.policy }
         ensures incoming { session.new.incoming ≡ session.old.incoming }
@@ -124,7 +108,8 @@ impl<L: Link + Drop, H: BuildHasher + Drop, I: Ids + Drop, G: Gate + Drop> Sourc
         let asked = ask(alloc, &mut self.link, id, question, now)?;
         match asked {
             AskOutcome::Learned(learned) => {
-                keep(alloc, &mut self.cache, &learned);
+                // an answer that can't be cached, since an allocation failed, is used all the same
+                let _kept = self.cache.keep(alloc, &learned);
                 give(alloc, session, learned, now)
             }
             AskOutcome::Failed => give_failed(session, question),
@@ -140,14 +125,13 @@ impl<L: Link + Drop, H: BuildHasher + Drop, I: Ids + Drop, G: Gate + Drop> Sourc
         now: u32,
     ) -> Result<Obtained<L>, AllocError>
         requires { session.old.asked ≡ Some question.now }
-        ensures obtains { IfOk result
-            (λ obtained. ObtainsFor L.gave self.old.cache.limit now question.now
-            (inquiry session.old.facts self.old.cache.entries
+        ensures obtains { IfOk result (λ obtained. ObtainsFor L.gave now question.now
+            (inquiry session.old.facts (A.entries self.old.cache)
             (I.ids self.old.ids) (L.faults self.old.link))
             obtained
-            (inquiry session.new.facts self.new.cache.entries
+            (inquiry session.new.facts (A.entries self.new.cache)
             (I.ids self.new.ids) (L.faults self.new.link))) }
-        ensures limit { self.new.cache.limit ≡ self.old.cache.limit }
+        ensures limit { limit_of (A.entries self.new.cache) ≡ limit_of (A.entries self.old.cache) }
         ensures count { L.faults self.old.link ≤ L.faults self.new.link }
         ensures policy { session.new.policy ≡ session.old.policy }
         ensures incoming { session.new.incoming ≡ session.old.incoming }
@@ -167,15 +151,15 @@ impl<L: Link + Drop, H: BuildHasher + Drop, I: Ids + Drop, G: Gate + Drop> Sourc
         now: u32,
         obtained: &mut Vec<Obtained<L>>,
     ) -> Result<Option<Said>, AllocError>
-        ensures takes { IfOk result (λ said. TakesTurn L.gave self.old.cache.limit now
+        ensures takes { IfOk result (λ said. TakesTurn L.gave now
             session.old.policy session.old.incoming
-            (inquiry session.old.facts self.old.cache.entries
+            (inquiry session.old.facts (A.entries self.old.cache)
             (I.ids self.old.ids) (L.faults self.old.link))
             said obtained.old.items obtained.new.items
-            (inquiry session.new.facts self.new.cache.entries
+            (inquiry session.new.facts (A.entries self.new.cache)
             (I.ids self.new.ids) (L.faults self.new.link))) }
         ensures short { IfOk result (λ said. IfSome said IsShort) }
-        ensures limit { self.new.cache.limit ≡ self.old.cache.limit }
+        ensures limit { limit_of (A.entries self.new.cache) ≡ limit_of (A.entries self.old.cache) }
         ensures count { L.faults self.old.link ≤ L.faults self.new.link }
         ensures policy { session.new.policy ≡ session.old.policy }
         ensures incoming { session.new.incoming ≡ session.old.incoming }
@@ -201,14 +185,14 @@ impl<L: Link + Drop, H: BuildHasher + Drop, I: Ids + Drop, G: Gate + Drop> Sourc
     ) -> Result<Said, AllocError>
         requires facts { session.old.facts ≡ [] }
         requires none { obtained.old.items ≡ [] }
-        ensures leads { IfOk result (λ said. Says L.gave self.old.cache.limit now
+        ensures leads { IfOk result (λ said. Says L.gave now
             session.old.policy session.old.incoming
-            (inquiry [] self.old.cache.entries
+            (inquiry [] (A.entries self.old.cache)
             (I.ids self.old.ids) (L.faults self.old.link))
-            said obtained.new.items self.new.cache.entries
+            said obtained.new.items (A.entries self.new.cache)
             (I.ids self.new.ids) (L.faults self.new.link)) }
         ensures short { IfOk result IsShort }
-        ensures limit { self.new.cache.limit ≡ self.old.cache.limit }
+        ensures limit { limit_of (A.entries self.new.cache) ≡ limit_of (A.entries self.old.cache) }
         ensures count { L.faults self.old.link ≤ L.faults self.new.link }
     {
         for _count in 0..FACT_LIMIT {
@@ -229,14 +213,14 @@ impl<L: Link + Drop, H: BuildHasher + Drop, I: Ids + Drop, G: Gate + Drop> Sourc
         obtained: &mut Vec<Obtained<L>>,
     ) -> Result<Said, AllocError>
         requires { obtained.old.items ≡ [] }
-        ensures leads { IfOk result (λ said. Says L.gave self.old.cache.limit now policy.value.zones
+        ensures leads { IfOk result (λ said. Says L.gave now policy.value.zones
             (incoming_of job.now.message job.now.peer.addr job.now.transport)
-            (inquiry [] self.old.cache.entries
+            (inquiry [] (A.entries self.old.cache)
             (I.ids self.old.ids) (L.faults self.old.link))
-            said obtained.new.items self.new.cache.entries
+            said obtained.new.items (A.entries self.new.cache)
             (I.ids self.new.ids) (L.faults self.new.link)) }
         ensures short { IfOk result IsShort }
-        ensures limit { self.new.cache.limit ≡ self.old.cache.limit }
+        ensures limit { limit_of (A.entries self.new.cache) ≡ limit_of (A.entries self.old.cache) }
         ensures count { L.faults self.old.link ≤ L.faults self.new.link }
     {
         let mut session = Session::start(

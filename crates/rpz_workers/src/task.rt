@@ -4,9 +4,9 @@ use crate::gate::Gate;
 use crate::item::Items;
 use crate::report::Report;
 use crate::worker::Worker;
+use answer_cache::Keeps;
 use edge_io::{Clock, Ids, Link, Replies, Sink, Source, Task};
 use policy_publish::StoreName;
-use std::hash::BuildHasher;
 use std::marker::PhantomData;
 use std::sync::Wait;
 
@@ -15,7 +15,7 @@ use std::sync::Wait;
 pub struct ServeTask<
     N: StoreName,
     L: Link + Drop,
-    H: BuildHasher + Drop,
+    A: Keeps<L> + Drop,
     I: Ids + Drop,
     G: Gate + Drop,
     S: Source + Drop,
@@ -26,7 +26,7 @@ pub struct ServeTask<
     R: Wait + Drop,
 > {
     rt: R,
-    worker: Worker<N, L, H, I, G>,
+    worker: Worker<N, L, A, I, G>,
     items: Q,
     replies: P,
     clock: C,
@@ -36,7 +36,7 @@ pub struct ServeTask<
 impl<
     N: StoreName,
     L: Link + Drop,
-    H: BuildHasher + Drop,
+    A: Keeps<L> + Drop,
     I: Ids + Drop,
     G: Gate + Drop,
     S: Source + Drop,
@@ -45,9 +45,9 @@ impl<
     P: Replies<S, K> + Drop,
     C: Clock + Drop,
     R: Wait + Drop,
-> ServeTask<N, L, H, I, G, S, K, Q, P, C, R> {
+> ServeTask<N, L, A, I, G, S, K, Q, P, C, R> {
     /// The run of this worker over these.
-    pub fn new(rt: R, worker: Worker<N, L, H, I, G>, items: Q, replies: P, clock: C) -> Self {
+    pub fn new(rt: R, worker: Worker<N, L, A, I, G>, items: Q, replies: P, clock: C) -> Self {
         ServeTask {
             rt,
             worker,
@@ -62,7 +62,7 @@ impl<
 impl<
     N: StoreName,
     L: Link + Drop,
-    H: BuildHasher + Drop,
+    A: Keeps<L> + Drop,
     I: Ids + Drop,
     G: Gate + Drop,
     S: Source + Drop,
@@ -71,7 +71,7 @@ impl<
     P: Replies<S, K> + Drop,
     C: Clock + Drop,
     R: Wait + Drop,
-> Task<Report> for ServeTask<N, L, H, I, G, S, K, Q, P, C, R> {
+> Task<Report> for ServeTask<N, L, A, I, G, S, K, Q, P, C, R> {
     fn run(self) -> Report {
         let ServeTask {
             rt,

@@ -9,68 +9,53 @@ use crate::gate::Gate;
 use crate::item::Job;
 use crate::obtained::Obtained;
 use crate::sources::Sources;
-use answer_cache::AnswerCache;
+use answer_cache::Keeps;
 use edge_io::{Ids, Link};
 use policy_publish::{PolicyReader, StoreName, Told};
 use reply_build::Said;
 use std::alloc::{AllocError, Global};
-use std::hash::BuildHasher;
 use std::marker::Model;
 
 /// A worker: it answers each query by the version of the policy that is published when the query comes, and by what live entries of
-/// its cache and its link give. Contracts see what its reader saw and was told, the entries of its cache, the IDs that are still to
-/// come, how often its link has failed, and what it obtained for its last query.
+/// its cache and its link give. The cache is the worker's own, or one that others use as well. Contracts see what its reader saw and
+/// was told, the entries of its cache and how many there may be, where it tells them, the IDs that are still to come, how often its
+/// link has failed, and what it obtained for its last query.
 #[derive(Drop)]
-pub struct Worker<
-    N: StoreName,
-    L: Link + Drop,
-    H: BuildHasher + Drop,
-    I: Ids + Drop,
-    G: Gate + Drop,
-> {
+pub struct Worker<N: StoreName, L: Link + Drop, A: Keeps<L> + Drop, I: Ids + Drop, G: Gate + Drop> {
     alloc: Global,
     reader: PolicyReader<N>,
-    sources: Sources<L, H, I, G>,
+    sources: Sources<L, A, I, G>,
     obtained: Vec<Obtained<L>>,
 }
 
-impl<N: StoreName, L: Link + Drop, H: BuildHasher + Drop, I: Ids + Drop, G: Gate + Drop> Model
-    for Worker<N, L, H, I, G> {
+impl<N: StoreName, L: Link + Drop, A: Keeps<L> + Drop, I: Ids + Drop, G: Gate + Drop> Model
+    for Worker<N, L, A, I, G> {
     ghost use Rattle.rpz_workers.specs.Answering.{PlainWorker};
 
     ghost Value = { PlainWorker L };
 
     ghost view = { λ w. record {
       known = w.reader;
-      cached = w.sources.cache.entries;
-      limit = w.sources.cache.limit;
+      cached = A.entries w.sources.cache;
       ids = I.ids w.sources.ids;
       link_faults = L.faults w.sources.link;
       obtained = w.obtained.items;
     } };
 }
 
-impl<N: StoreName, L: Link + Drop, H: BuildHasher + Drop, I: Ids + Drop, G: Gate + Drop> Worker<
+impl<N: StoreName, L: Link + Drop, A: Keeps<L> + Drop, I: Ids + Drop, G: Gate + Drop> Worker<
     N,
     L,
-    H,
+    A,
     I,
     G,
 > {
     /// A worker that has answered nothing, over these parts.
-    pub fn new(
-        alloc: Global,
-        reader: PolicyReader<N>,
-        cache: AnswerCache<L, H>,
-        link: L,
-        ids: I,
-        gate: G,
-    ) -> Self
+    pub fn new(alloc: Global, reader: PolicyReader<N>, cache: A, link: L, ids: I, gate: G) -> Self
         ensures { result
             ≡ record {
               known = reader;
-              cached = cache.entries;
-              limit = cache.limit;
+              cached = A.entries cache;
               ids = I.ids ids;
               link_faults = L.faults link;
               obtained = [];
@@ -106,7 +91,9 @@ impl<N: StoreName, L: Link + Drop, H: BuildHasher + Drop, I: Ids + Drop, G: Gate
 
     /// Answers a message that came at this second, in seconds, by the version of the policy that is published now. A question is
     /// asked over the link only where no live entry of the cache answers it; what can't be cached, since an allocation failed,
-    /// is used all the same. It takes no lock. Out of memory the cache is emptied, which gives memory back.
+    /// is used all the same. Over a cache that is shared it takes a lock for a look-up and for a keep, and for nothing else; over
+    /// one of its own it takes none. Out of memory a cache of the worker's own is emptied, which gives memory back; one that is
+    /// shared stays.
     pub fn answer(&mut self, job: &Job, now: u32) -> Result<Said, AllocError>
         ensures answers { Answers N.store.origins L.gave job.now now result self.old self.new }
         ensures short { IfOk result IsShort }
@@ -119,7 +106,7 @@ impl<N: StoreName, L: Link + Drop, H: BuildHasher + Drop, I: Ids + Drop, G: Gate
         match said {
             Ok(said) => Ok(said),
             Err(error) => {
-                self.sources.cache.clear();
+                self.sources.cache.drop_own();
                 self.obtained.clear();
                 Err(error)
             }

@@ -2,13 +2,16 @@
 
 use crate::publishing::{PUBLICATIONS, publish, transfer};
 use crate::stores::{Trial, attempt};
-use crate::workers::{ListWorker, job, list_worker};
+use crate::workers::{ListWorker, WorkerOver, job, list_worker, lone_hold, worker_over};
+use answer_cache::Keeps;
 use dns_name::Octets;
+use edge_io::ListLink;
 use policy_publish::{PolicyReader, Publisher, StoreName};
 use reply_build::Said;
 use rpz_workers::NoGate;
 use std::alloc::Global;
 use std::process::Abort;
+use std::random::RandomSource;
 use std::sync::Wait;
 use std::test::Fail;
 
@@ -30,9 +33,9 @@ const AGED: &[u8] =
     b"\x12\x35\x81\x80\0\x01\0\x01\0\0\0\0\x01x\x07example\0\0\x01\0\x01\x01x\x07example\0\0\x01\0\x01\0\0\0\x01\0\x04\xc0\0\x02\x09";
 
 // The bytes of the worker's reply to the query at a given second.
-fn said<N: StoreName>(
+fn said<N: StoreName, A: Keeps<ListLink> + Drop>(
     alloc: Global,
-    worker: &mut ListWorker<N, NoGate>,
+    worker: &mut WorkerOver<N, A, NoGate>,
     now: u32,
 ) -> Result<Octets, Fail> {
     match worker.answer(&job(alloc, 53_000, QUERY)?, now)? {
@@ -46,16 +49,27 @@ fn a_query_is_answered_by_link_cache_and_rule(rt: HostRuntime) -> Result<(), Fai
     attempt(rt, rt.alloc(), Trial::Answers)
 }
 
-/// Asked of the link at the second 100, answered by the cache at 159, asked again at 160; and then by the rule of which the worker is
-/// told, while the answer is still cached.
-pub fn answer_all<N: StoreName, R: Wait + Abort>(
+/// Asked of the link at the second 100, answered by the cache at 159, asked again at 160, over a cache that workers share and over one
+/// of the worker's own; and then by the rule of which the worker is told, while the answer is still cached.
+pub fn answer_all<N: StoreName, R: Wait + RandomSource + Abort + Copy + Drop>(
     rt: &R,
     alloc: Global,
     publisher: &mut Publisher<N>,
     readers: &mut Vec<PolicyReader<N>>,
 ) -> Result<(), Fail> {
+    answer_over_common(rt, alloc, readers)?;
     let mut worker = list_worker(alloc, readers, messages(alloc)?, NoGate)?;
     answer_by_turns(rt, alloc, publisher, &mut worker)
+}
+
+fn answer_over_common<N: StoreName, R: Wait + RandomSource + Abort + Copy + Drop>(
+    rt: &R,
+    alloc: Global,
+    readers: &mut Vec<PolicyReader<N>>,
+) -> Result<(), Fail> {
+    let hold = lone_hold(*rt, alloc)?;
+    let mut worker = worker_over(alloc, readers, hold, messages(alloc)?, NoGate)?;
+    answer_by_link_and_cache(rt, alloc, &mut worker)
 }
 
 // What the link gives.
@@ -79,10 +93,10 @@ fn answer_by_turns<N: StoreName, R: Wait + Abort>(
     answer_by_rule(rt, alloc, worker)
 }
 
-fn answer_by_link_and_cache<N: StoreName, R: Abort>(
+fn answer_by_link_and_cache<N: StoreName, A: Keeps<ListLink> + Drop, R: Abort>(
     rt: &R,
     alloc: Global,
-    worker: &mut ListWorker<N, NoGate>,
+    worker: &mut WorkerOver<N, A, NoGate>,
 ) -> Result<(), Fail> {
     for (now, reply) in [(100, FRESH), (159, AGED), (160, FRESH)] {
         let said = said(alloc, worker, now)?;

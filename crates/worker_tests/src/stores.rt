@@ -14,6 +14,7 @@ use policy_publish::{Parts, PolicyReader, Publisher, StoreName, start_store};
 use std::alloc::Global;
 use std::marker::Brand;
 use std::process::Abort;
+use std::random::RandomSource;
 use std::sync::Wait;
 use std::test::Fail;
 use std::thread::Threads;
@@ -32,18 +33,16 @@ pub enum Trial {
 }
 
 /// Tries something over a store of two readers, where nothing is published.
-pub fn attempt<R: Threads + Wait + Abort + Clock + Copy + Drop + Send + Sync + 'static>(
-    rt: R,
-    alloc: Global,
-    trial: Trial,
-) -> Result<(), Fail> {
+pub fn attempt<
+    R: Threads + Wait + Abort + Clock + RandomSource + Copy + Drop + Send + Sync + 'static,
+>(rt: R, alloc: Global, trial: Trial) -> Result<(), Fail> {
     let origins = vec![in alloc; Name::from_text(alloc, b"rpz.example")?]?;
     open::<Brand, R>(rt, alloc, start_store(origins, 2), trial)
 }
 
 fn open<
     N: StoreName + Send + Sync + 'static,
-    R: Threads + Wait + Abort + Clock + Copy + Drop + Send + Sync + 'static,
+    R: Threads + Wait + Abort + Clock + RandomSource + Copy + Drop + Send + Sync + 'static,
 >(rt: R, alloc: Global, parts: Parts, trial: Trial) -> Result<(), Fail>
     requires { parts ≡ N.store }
 {
@@ -56,7 +55,7 @@ fn open<
 
 fn attempt_over<
     N: StoreName + Send + Sync + 'static,
-    R: Threads + Wait + Abort + Clock + Copy + Drop + Send + Sync + 'static,
+    R: Threads + Wait + Abort + Clock + RandomSource + Copy + Drop + Send + Sync + 'static,
 >(
     rt: &R,
     alloc: Global,

@@ -14,6 +14,11 @@ returns-in_err-zone_sources-clause-err g c =
     let p = err_from_is_err_and c.from_residual-in_err-zone_sources.result c.from_residual-in_err-zone_sources.ensures.1 in
     rw (p.1, p.2) (stopped_at_start _ _ _ _ _ (λ e. cc))
 
+pub returns-in_err-open_cache-clause-err : goal.returns-in_err-open_cache-clause-err
+returns-in_err-open_cache-clause-err g c =
+    let p = err_from_is_err_and c.from_residual-in_err-open_cache.result c.from_residual-in_err-open_cache.ensures.1 in
+    rw (p.1, p.2) (stopped_at_start _ _ _ _ _ (λ e. cc))
+
 pub serve_over-requires-clause-zones : goal.serve_over-requires-clause-zones
 serve_over-requires-clause-zones g c = λ lifetimes outlives.
     let named = c.start_store-parts.ensures.0 ∙ c.in_ok-origins.ensures in

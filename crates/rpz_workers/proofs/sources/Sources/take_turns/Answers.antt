@@ -6,7 +6,7 @@ use Rattle.rpz_workers.proofs.sources.Sources.take_turns.Goals as goal
 pub loop-count-init : goal.loop-count-init
 loop-count-init g c =
     record {
-      leads = leads_nowhere _ _ _ _ _ _ _ _ c.requires.none (ap (λ facts. inquiry facts c.args.self.now.cache.entries (g.I.Ids.ids c.args.self.now.ids) (g.L.Link.faults c.args.self.now.link)) c.requires.facts);
+      leads = leads_nowhere _ _ _ _ _ _ _ c.requires.none (ap (λ facts. inquiry facts (g.A.Keeps.entries c.args.self.now.cache) (g.I.Ids.ids c.args.self.now.ids) (g.L.Link.faults c.args.self.now.link)) c.requires.facts);
       facts = ap length c.requires.facts;
       limit = refl;
       count = omega arith;
@@ -19,8 +19,8 @@ loop-count-preserved g c =
     let was = c.loop-count.invariant in
     let turned = c.in_ok-said.ensures.takes in
     record {
-      leads = leads_on _ _ _ _ _ _ _ _ _ _ _ _ _ _ was.limit was.policy was.incoming c.in_default.is was.leads turned;
-      facts = turn_adds_one _ _ _ _ _ _ _ _ _ _ c.in_default.is turned ∙ ap (λ n. n + 1) was.facts;
+      leads = leads_on _ _ _ _ _ _ _ _ _ _ _ _ was.policy was.incoming c.in_default.is was.leads turned;
+      facts = turn_adds_one _ _ _ _ _ _ _ _ _ c.in_default.is turned ∙ ap (λ n. n + 1) was.facts;
       limit = c.take_turn.ensures.limit ∙ was.limit;
       count = omega arith;
       policy = c.take_turn.ensures.policy ∙ was.policy;
@@ -29,4 +29,4 @@ loop-count-preserved g c =
 
 pub returns-clause-leads : goal.returns-clause-leads
 returns-clause-leads g c =
-    let was = c.loop-count.invariant in says_last _ _ _ _ _ _ _ _ _ _ _ was.policy was.incoming was.leads c.last_turn.ensures.says
+    let was = c.loop-count.invariant in says_last _ _ _ _ _ _ _ _ _ _ was.policy was.incoming was.leads c.last_turn.ensures.says

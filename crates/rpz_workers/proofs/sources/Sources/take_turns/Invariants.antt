@@ -1,15 +1,16 @@
 use Rattle.std.proofs.Common.{◌≡◌, ◌≤◌, [], length}
+use Rattle.rpz_workers.specs.Obtaining.{limit_of}
 use Rattle.rpz_workers.specs.Turns.{Leads, inquiry}
 use Rattle.rpz_workers.proofs.sources.Sources.take_turns.Given as goal
 
 abbrev pub invariant-loop-count : goal.invariant-loop-count
 invariant-loop-count g l = record {
-  leads : Leads g.L.Link.gave l.initial.self.cache.limit l.now l.initial.session.policy l.initial.session.incoming
-      (inquiry [] l.initial.self.cache.entries (g.I.Ids.ids l.initial.self.ids) (g.L.Link.faults l.initial.self.link))
+  leads : Leads g.L.Link.gave l.now l.initial.session.policy l.initial.session.incoming
+      (inquiry [] (g.A.Keeps.entries l.initial.self.cache) (g.I.Ids.ids l.initial.self.ids) (g.L.Link.faults l.initial.self.link))
       l.obtained.items
-      (inquiry l.session.facts l.self.cache.entries (g.I.Ids.ids l.self.ids) (g.L.Link.faults l.self.link));
+      (inquiry l.session.facts (g.A.Keeps.entries l.self.cache) (g.I.Ids.ids l.self.ids) (g.L.Link.faults l.self.link));
   facts : length l.session.facts ≡ l._count;
-  limit : l.self.cache.limit ≡ l.initial.self.cache.limit;
+  limit : limit_of (g.A.Keeps.entries l.self.cache) ≡ limit_of (g.A.Keeps.entries l.initial.self.cache);
   count : g.L.Link.faults l.initial.self.link ≤ g.L.Link.faults l.self.link;
   policy : l.session.policy ≡ l.initial.session.policy;
   incoming : l.session.incoming ≡ l.initial.session.incoming;

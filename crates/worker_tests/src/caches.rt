@@ -1,0 +1,243 @@
+//! What a worker's own cache and one that workers share give at a second, for names that all belong to one shard.
+
+use crate::workers::{Hold, common_cache, lone_hold, own_cache};
+use answer_cache::{Keeps, Shared, shard_number};
+use dns_message::Question;
+use dns_name::{Name, Octets};
+use dns_record::{class, rtype};
+use edge_io::ListLink;
+use std::alloc::{AllocError, Global};
+use std::process::Abort;
+use std::random::RandomSource;
+use std::sync::{Arc, Wait};
+use std::test::Fail;
+use std::thread;
+use std::thread::Threads;
+use upstream_link::Learned;
+
+// The first labels of these have the same letters, so that they belong to one shard.
+const ABC: &[u8] = b"abc.example";
+
+const ACB: &[u8] = b"acb.example";
+
+const BAC: &[u8] = b"bac.example";
+
+const BCA: &[u8] = b"bca.example";
+
+const CAB: &[u8] = b"cab.example";
+
+const CBA: &[u8] = b"cba.example";
+
+// The octets of this name as it is written, in lower case, add up to 876.
+const X: &[u8] = b"x.example";
+
+const CAPITAL_X: &[u8] = b"X.EXAMPLE";
+
+fn question(alloc: Global, name: &[u8], qtype: u16) -> Result<Question, Fail> {
+    Ok(Question {
+        name: Name::from_text(alloc, name)?,
+        qtype,
+        qclass: class::IN,
+    })
+}
+
+// Writes the record of an address of a name, 192.0.2.0 and up, with the TTL 60.
+fn push_address(out: &mut Octets, name: &Name, last: u8) -> Result<(), AllocError> {
+    out.append(name.octets())?;
+    out.append(b"\0\x01\0\x01\0\0\0\x3c\0\x04\xc0\0\x02")?;
+    out.push(last)
+}
+
+// The response of the ID 7 to the question for a name, with so many addresses (RFC 1035, section 4.1).
+fn response(alloc: Global, name: &Name, count: u8) -> Result<Octets, AllocError> {
+    let mut out = Octets::from_slice(alloc, b"\0\x07\x81\x80\0\x01\0")?;
+    out.push(count)?;
+    out.append(b"\0\0\0\0")?;
+    out.append(name.octets())?;
+    out.append(b"\0\x01\0\x01")?;
+    for last in 0..count {
+        push_address(&mut out, name, last)?;
+    }
+    Ok(out)
+}
+
+// What was learned at a second of so many addresses of a name.
+fn learned(alloc: Global, name: &[u8], count: u8, moment: u32) -> Result<Learned<ListLink>, Fail> {
+    let asked = question(alloc, name, rtype::A)?;
+    let bytes = response(alloc, &asked.name, count)?;
+    Ok(Learned::given(alloc, 7, &asked, &bytes, moment)?)
+}
+
+// Whether a look-up at a second finds something.
+fn is_found<C: Keeps<ListLink>>(
+    alloc: Global,
+    cache: &mut C,
+    name: &[u8],
+    qtype: u16,
+    now: u32,
+) -> Result<bool, Fail> {
+    let asked = question(alloc, name, qtype)?;
+    Ok(cache.get(alloc, &asked, now)?.is_some())
+}
+
+// What is done with a cache.
+#[derive(Clone, Copy)]
+enum Step {
+    // The address of the name that was learned at this second is kept.
+    Keep(&'static [u8], u32),
+    // A look-up for the name and the type at this second finds something.
+    Found(&'static [u8], u16, u32),
+    // It finds nothing.
+    Missing(&'static [u8], u16, u32),
+}
+
+// What is done with an empty cache for four entries.
+struct Case {
+    name: &'static str,
+    steps: &'static [Step],
+}
+
+// RFC 2308, section 5: each may be told for 60 seconds from the second on at which it came.
+static CASES: [Case; 3] = [
+    Case {
+        name: "an entry and its life",
+        steps: &[
+            Step::Keep(ABC, 100),
+            Step::Missing(ABC, rtype::A, 99),
+            Step::Found(ABC, rtype::A, 100),
+            Step::Found(ABC, rtype::A, 159),
+            Step::Missing(ABC, rtype::A, 160),
+            Step::Missing(ABC, rtype::AAAA, 100),
+            Step::Missing(ACB, rtype::A, 100),
+            Step::Found(ABC, rtype::A, 100),
+        ],
+    },
+    Case {
+        name: "a live entry behind dead ones",
+        steps: &[
+            Step::Keep(ABC, 100),
+            Step::Keep(ACB, 100),
+            Step::Keep(BAC, 100),
+            Step::Keep(BCA, 100),
+            Step::Missing(BCA, rtype::A, 160),
+            Step::Keep(CAB, 160),
+            Step::Found(CAB, rtype::A, 160),
+            Step::Missing(ACB, rtype::A, 160),
+        ],
+    },
+    Case {
+        name: "more entries than there may be",
+        steps: &[
+            Step::Keep(ABC, 100),
+            Step::Keep(ACB, 100),
+            Step::Keep(BAC, 100),
+            Step::Keep(BCA, 100),
+            Step::Keep(CAB, 100),
+            Step::Keep(CBA, 100),
+            Step::Missing(ABC, rtype::A, 100),
+            Step::Missing(ACB, rtype::A, 100),
+            Step::Found(BAC, rtype::A, 100),
+            Step::Found(BCA, rtype::A, 100),
+            Step::Found(CAB, rtype::A, 100),
+            Step::Found(CBA, rtype::A, 100),
+        ],
+    },
+];
+
+// Whether a step does what it says.
+fn is_done<C: Keeps<ListLink>>(alloc: Global, cache: &mut C, step: &Step) -> Result<bool, Fail> {
+    match step {
+        Step::Keep(name, moment) => {
+            let entry = learned(alloc, name, 1, *moment)?;
+            Ok(cache.keep(alloc, &entry).is_ok())
+        }
+        Step::Found(name, qtype, now) => is_found(alloc, cache, name, *qtype, *now),
+        Step::Missing(name, qtype, now) => Ok(!is_found(alloc, cache, name, *qtype, *now)?),
+    }
+}
+
+fn run_over<C: Keeps<ListLink>, R: Abort>(
+    rt: &R,
+    alloc: Global,
+    cache: &mut C,
+    case: &Case,
+) -> Result<(), Fail> {
+    for (place, step) in case.steps.iter().enumerate() {
+        assert!(rt; is_done(alloc, cache, step)?, "{} {place}", case.name);
+    }
+    Ok(())
+}
+
+fn run_case<R: Wait + RandomSource + Abort + Copy + Drop>(
+    rt: R,
+    alloc: Global,
+    case: &Case,
+) -> Result<(), Fail> {
+    run_over(&rt, alloc, &mut own_cache(alloc)?, case)?;
+    run_over(&rt, alloc, &mut lone_hold(rt, alloc)?, case)
+}
+
+#[test]
+fn caches_give_what_is_live(rt: HostRuntime) -> Result<(), Fail> {
+    for case in &CASES {
+        run_case(rt, rt.alloc(), case)?;
+    }
+    Ok(())
+}
+
+#[test]
+fn questions_belong_to_shards(rt: HostRuntime) -> Result<(), Fail> {
+    for (name, qtype, shard) in [
+        (X, rtype::A, 13),
+        (CAPITAL_X, rtype::A, 13),
+        (X, rtype::AAAA, 8),
+    ] {
+        let asked = question(rt.alloc(), name, qtype)?;
+        assert_eq!(rt; shard_number(&asked), shard, "{qtype}");
+    }
+    Ok(())
+}
+
+// Whether a thread of its own could keep an address that was learned at the second 100.
+fn keeps_there<R: Threads + Wait + Copy + Drop + Send + Sync + 'static>(
+    rt: R,
+    alloc: Global,
+    mut hold: Hold<R>,
+) -> Result<bool, Fail> {
+    let entry = learned(alloc, ABC, 1, 100)?;
+    let thread = thread::spawn(&rt, move || hold.keep(alloc, &entry).is_ok())?;
+    Ok(thread.join(&rt))
+}
+
+// One hold finds at the second 159 what another one kept in a thread.
+fn read_back<R: Threads + Wait + RandomSource + Abort + Copy + Drop + Send + Sync + 'static>(
+    rt: R,
+    alloc: Global,
+) -> Result<(), Fail> {
+    let cache = common_cache(&rt, alloc)?;
+    let mut hold = Shared::new(rt, Arc::try_clone(&cache)?);
+    assert!(rt; keeps_there(rt, alloc, Shared::new(rt, cache))?);
+    assert!(rt; is_found(alloc, &mut hold, ABC, rtype::A, 159)?);
+    Ok(())
+}
+
+#[test]
+fn a_worker_reads_what_another_one_kept(rt: HostRuntime) -> Result<(), Fail> {
+    read_back(rt, rt.alloc())
+}
+
+// Whether an answer of so many addresses is there once it was to be kept.
+fn is_kept<R: Wait + RandomSource + Drop>(rt: R, alloc: Global, count: u8) -> Result<bool, Fail> {
+    let mut hold = lone_hold(rt, alloc)?;
+    hold.keep(alloc, &learned(alloc, ABC, count, 100)?)?;
+    is_found(alloc, &mut hold, ABC, rtype::A, 100)
+}
+
+// But for its TTL each record has 23 octets: 89 have 2,047, and 90 have 2,070, more than 2 KiB.
+#[test]
+fn a_long_answer_is_not_kept(rt: HostRuntime) -> Result<(), Fail> {
+    for (count, kept) in [(89, true), (90, false)] {
+        assert_eq!(rt; is_kept(rt, rt.alloc(), count)?, kept, "{count}");
+    }
+    Ok(())
+}
