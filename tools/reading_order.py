@@ -204,7 +204,7 @@ def doubled(modules, definitions, types):
 def page(found):
     with open("crates.txt", encoding="utf-8") as file:
         lines = [line.partition("#")[0].strip() for line in file]
-    crates = [line.split(":")[0] for line in lines if line]
+    crates = [line.split(":")[0].split()[0] for line in lines if line]
     modules = read_modules()
 
     def rank(key):

@@ -99,7 +99,13 @@ impl<L: Link, S: BuildHasher + Drop> AnswerCache<L, S> {
 
     /// Puts what was learned first, in place of an entry about its question, and drops the last one exactly where there would be
     /// too many. What has a life of 0 isn't kept. An `Err` leaves the cache as it was.
-    pub fn keep(&mut self, alloc: Global, learned: Learned<L>) -> Result<(), AllocError>
+    pub fn keep(
+        &mut self,
+        alloc: Global,
+        question: &Question,
+        learned: Learned<L>,
+    ) -> Result<(), AllocError>
+        requires { learned.question ≡ question.now }
         ensures ok { OnOk result (self.new
             ≡ recent (after_keep self.old.limit learned self.old.entries) self.old.limit) }
         ensures err { OnErr result (self.new ≡ self.old) }
@@ -107,7 +113,7 @@ impl<L: Link, S: BuildHasher + Drop> AnswerCache<L, S> {
         if learned.life() == 0 {
             return Ok(());
         }
-        let key = key_octets(alloc, learned.question())?.into_vec();
+        let key = key_octets(alloc, question)?.into_vec();
         match self.put(key, learned) {
             Ok(_out) => Ok(()),
             Err(_back) => Err(AllocError),

@@ -28,8 +28,14 @@ pub trait Keeps<L: Link> {
         ensures ok { OnOk result (entries self.new ≡ looked_up question.now (entries self.old)) }
         ensures err { OnErr result (entries self.new ≡ entries self.old) };
 
-    /// Keeps what was learned, by another handle. An `Err` leaves the cache as it was.
-    fn keep(&mut self, alloc: Global, learned: &Learned<L>) -> Result<(), AllocError>
+    /// Keeps what was learned of the question, by another handle. An `Err` leaves the cache as it was.
+    fn keep(
+        &mut self,
+        alloc: Global,
+        question: &Question,
+        learned: &Learned<L>,
+    ) -> Result<(), AllocError>
+        requires { learned.now.question ≡ question.now }
         ensures ok { OnOk result (entries self.new ≡ kept learned.now (entries self.old)) }
         ensures err { OnErr result (entries self.new ≡ entries self.old) };
 
@@ -50,8 +56,13 @@ impl<L: Link, S: BuildHasher + Drop> Keeps<L> for AnswerCache<L, S> {
         AnswerCache::get(self, alloc, question, now)
     }
 
-    fn keep(&mut self, alloc: Global, learned: &Learned<L>) -> Result<(), AllocError> {
-        AnswerCache::keep(self, alloc, learned.copied()?)
+    fn keep(
+        &mut self,
+        alloc: Global,
+        question: &Question,
+        learned: &Learned<L>,
+    ) -> Result<(), AllocError> {
+        AnswerCache::keep(self, alloc, question, learned.copied()?)
     }
 
     fn drop_own(&mut self) {

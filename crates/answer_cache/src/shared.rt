@@ -121,14 +121,17 @@ impl<L: Link> SharedCache<L> {
         &self,
         rt: &R,
         alloc: Global,
+        question: &Question,
         learned: Learned<L>,
-    ) -> Result<(), AllocError> {
+    ) -> Result<(), AllocError>
+        requires { learned.question ≡ question.now }
+    {
         if learned.life() == 0 || learned.answers_len() > MOST_OCTETS {
             return Ok(());
         }
-        let key = key_octets(alloc, learned.question())?.into_vec();
+        let key = key_octets(alloc, question)?.into_vec();
         // what was pushed out, or found no room, is dropped behind the unlock
-        match self.put(rt, key, learned) {
+        match self.put(rt, question, key, learned) {
             Ok(_out) => Ok(()),
             Err(_back) => Err(AllocError),
         }
@@ -139,13 +142,15 @@ impl<L: Link> SharedCache<L> {
     fn put<R: Wait>(
         &self,
         rt: &R,
+        question: &Question,
         key: Vec<u8>,
         learned: Learned<L>,
     ) -> Result<Option<(Vec<u8>, Learned<L>)>, AllocFailed<(Vec<u8>, Learned<L>)>>
+        requires question { learned.question ≡ question.now }
         requires key { key.items ≡ key_of learned.question }
         requires some { vouched.life learned ≢ 0 }
     {
-        match shard_number(learned.question()) {
+        match shard_number(question) {
             0 => self.s0_3.a.lock(rt).put(key, learned),
             1 => self.s0_3.b.lock(rt).put(key, learned),
             2 => self.s0_3.c.lock(rt).put(key, learned),
@@ -192,8 +197,14 @@ impl<R: Wait + Drop, L: Link> Keeps<L> for Shared<R, L> {
         self.cache.get(&self.rt, alloc, question, now)
     }
 
-    fn keep(&mut self, alloc: Global, learned: &Learned<L>) -> Result<(), AllocError> {
-        self.cache.keep(&self.rt, alloc, learned.copied()?)
+    fn keep(
+        &mut self,
+        alloc: Global,
+        question: &Question,
+        learned: &Learned<L>,
+    ) -> Result<(), AllocError> {
+        self.cache
+            .keep(&self.rt, alloc, question, learned.copied()?)
     }
 
     fn drop_own(&mut self) {}

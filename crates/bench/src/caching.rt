@@ -2,7 +2,7 @@
 
 use crate::bench_error::BenchError;
 use answer_cache::SharedCache;
-use dns_message::{Message, read_message};
+use dns_message::{Question, read_message};
 use dns_name::Octets;
 use edge_io::{ListLink, Source, read_frame};
 use std::alloc::Global;
@@ -24,21 +24,30 @@ fn open<R: RandomSource>(rt: &R, alloc: Global) -> Result<BenchCache, BenchError
     Ok(Arc::new(alloc, cache)?)
 }
 
-// What is learned of a message of the ID 0, which is read from these bytes, that came at the second 0.
-fn learned_of(
+// Keeps what is learned of a message of the ID 0, which came at the second 0, for its question.
+fn keep_for<R: Wait>(
+    rt: &R,
     alloc: Global,
-    message: &Message,
+    cache: &BenchCache,
+    question: Option<&Question>,
     bytes: &Octets,
-) -> Result<Learned<ListLink>, BenchError> {
-    match &message.question {
-        Some(question) => Ok(Learned::given(alloc, 0, question, bytes, 0)?),
-        None => Err(BenchError::NoQuestion),
-    }
+) -> Result<(), BenchError> {
+    let Some(question) = question else {
+        return Err(BenchError::NoQuestion);
+    };
+    let learned = Learned::given(alloc, 0, question, bytes, 0)?;
+    Ok(cache.keep(rt, alloc, question, learned)?)
 }
 
-fn learned(alloc: Global, bytes: &Octets) -> Result<Learned<ListLink>, BenchError> {
+// The same of the message that these bytes are.
+fn keep<R: Wait>(
+    rt: &R,
+    alloc: Global,
+    cache: &BenchCache,
+    bytes: &Octets,
+) -> Result<(), BenchError> {
     let message = read_message(alloc, bytes.as_slice())?;
-    learned_of(alloc, &message, bytes)
+    keep_for(rt, alloc, cache, message.question.as_ref(), bytes)
 }
 
 // Keeps what is learned of each message up to the end of the input.
@@ -52,7 +61,7 @@ fn fill<R: Wait, S: Source>(
         let Some(message) = read_frame(alloc, source)? else {
             break;
         };
-        cache.keep(rt, alloc, learned(alloc, &message)?)?;
+        keep(rt, alloc, cache, &message)?;
     }
     Ok(())
 }

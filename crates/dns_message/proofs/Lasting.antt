@@ -9,8 +9,8 @@ use Rattle.dns_record.specs.Number.{number_octets}
 use Rattle.dns_record.specs.Record.{PlainRecord, record_octets}
 use Rattle.dns_message.specs.Aged.{aged}
 use Rattle.dns_message.specs.Spelling.{records_octets}
-use Rattle.dns_message.specs.Written.{IsWritten, PlainWritten, all_aged, back_octets, first_aged, front_octets, front_of, lasting_octets, place_of, rest_aged, span}
-use Rattle.dns_message.specs.declared.written.Place.{Place}
+use Rattle.dns_message.specs.Written.{AreWritten, all_aged, back_octets, first_aged, front_octets, front_of, lasting_octets, place_of, rest_aged, span}
+use Rattle.dns_message.specs.declared.record_refs.Place.{Place}
 
 -- ---- one record
 
@@ -29,11 +29,11 @@ lasting_pieces r before a b c d e ea eb ec ed ee =
     ∙ ap (λ (l : List ℕ). l ++ number_octets 2 r.rtype) ea)))
     ∙ five_regrouped before (name_octets r.owner) (number_octets 2 r.rtype) (number_octets 2 r.class) (number_octets 2 (length r.rdata)) r.rdata
 
-two_octets : (n : ℕ) → length (number_octets 2 n) ≡ 2
+pub two_octets : (n : ℕ) → length (number_octets 2 n) ≡ 2
 unfolding number_octets
 two_octets n = refl
 
-front_length : (r : PlainRecord) → length (front_octets r) ≡ length (name_octets r.owner) + 4
+pub front_length : (r : PlainRecord) → length (front_octets r) ≡ length (name_octets r.owner) + 4
 unfolding front_octets
 front_length r =
     let name = name_octets r.owner in
@@ -43,7 +43,7 @@ front_length r =
     let first : length (name ++ rtype) ≡ length name + length rtype = length-append name rtype in
     omega (arith, both, first, two_octets r.rtype, two_octets r.class)
 
-back_length : (r : PlainRecord) → length (back_octets r) ≡ length r.rdata + 2
+pub back_length : (r : PlainRecord) → length (back_octets r) ≡ length r.rdata + 2
 unfolding back_octets
 back_length r =
     let both : length (number_octets 2 (length r.rdata) ++ r.rdata) ≡ length (number_octets 2 (length r.rdata)) + length r.rdata = length-append (number_octets 2 (length r.rdata)) r.rdata in
@@ -182,16 +182,11 @@ pub none_left : (seconds : ℕ) (octets : List ℕ) (places : List Place) (i at 
 none_left seconds octets places i at out whole le h =
     sym (ap (λ (l : List ℕ). out ++ l) (at_drop_all (rest_aged seconds (drop at octets)) places i le ∙ no_rest seconds (drop at octets)) ∙ append-nil out) ∙ h
 
-all_written : (seconds : ℕ) (written : PlainWritten) (out before : List ℕ) → out ≡ before ++ all_aged seconds written.octets written.places
-    → (records : List PlainRecord) → IsWritten written records → out ≡ before ++ records_octets (map (aged seconds) records)
-all_written seconds written out before h records is =
+pub written_if_ok : {X Y : Type 0} (result : Result X Y) (seconds : ℕ) (octets : List ℕ) (places : List Place) (records : List PlainRecord) (out before : List ℕ) → AreWritten octets places records
+    → OnOk result (out ≡ before ++ all_aged seconds octets places) → OnOk result (out ≡ before ++ records_octets (map (aged seconds) records))
+written_if_ok (Ok x) seconds octets places records out before is h =
     h
-    ∙ ap (λ (l : List ℕ). before ++ all_aged seconds l written.places) is.octets
-    ∙ ap (λ (l : List Place). before ++ all_aged seconds (flat_map lasting_octets records) l) is.places
+    ∙ ap (λ (l : List ℕ). before ++ all_aged seconds l places) is.octets_are
+    ∙ ap (λ (l : List Place). before ++ all_aged seconds (flat_map lasting_octets records) l) is.places_are
     ∙ ap (λ (l : List ℕ). before ++ l) (all_are seconds records)
-
-pub written_if_ok : {X Y : Type 0} (result : Result X Y) (seconds : ℕ) (written : PlainWritten) (octets : List ℕ) (places : List Place) (out before : List ℕ)
-    → octets ≡ written.octets → places ≡ written.places → OnOk result (out ≡ before ++ all_aged seconds octets places)
-    → (records : List PlainRecord) → IsWritten written records → OnOk result (out ≡ before ++ records_octets (map (aged seconds) records))
-written_if_ok (Ok x) seconds written octets places out before eo ep h = all_written seconds written out before (rw (← eo, ← ep) h)
-written_if_ok (Err y) seconds written octets places out before eo ep h = λ records is. h
+written_if_ok (Err y) seconds octets places records out before is h = h

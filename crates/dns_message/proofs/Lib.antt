@@ -13,3 +13,4 @@ pub mod Limits
 pub mod MessageFaults
 pub mod Lasting
 pub mod Begins
+pub mod InPlace

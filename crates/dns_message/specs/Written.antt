@@ -1,10 +1,11 @@
 -- Records as they are written, their names in full and their TTLs apart.
-use Rattle.std.specs.Prelude.{◌≡◌, ℕ, ◌+◌, ◌-◌, List, [], ◌∷◌, ◌++◌, length, map, take, drop}
-use Rattle.std.specs.List.{flat_map}
+use Rattle.std.specs.Prelude.{◌≡◌, ℕ, ◌+◌, ◌-◌, ◌≤◌, List, [], ◌∷◌, ◌++◌, length, map, take, drop}
+use Rattle.std.specs.List.{AllByRecursion, flat_map}
 use Rattle.dns_name.specs.Labels.{name_octets}
-use Rattle.dns_record.specs.Number.{number_octets}
-use Rattle.dns_record.specs.Record.{PlainRecord}
-use Rattle.dns_message.specs.declared.written.Place.{Place}
+use Rattle.dns_name.specs.Wire.{IsWire, labels_in}
+use Rattle.dns_record.specs.Number.{number_at, number_octets}
+use Rattle.dns_record.specs.Record.{IsData, IsRecord, PlainRecord}
+use Rattle.dns_message.specs.declared.record_refs.Place.{Place}
 
 -- what stands before the TTL of a record: the owner, the type and the class
 unfoldable pub front_octets : PlainRecord → List ℕ
@@ -21,14 +22,38 @@ lasting_octets r = front_octets r ++ back_octets r
 abbrev pub place_of : PlainRecord → Place
 place_of r = record { front = length (front_octets r); ttl = r.ttl; back = length (back_octets r) }
 
-pub record PlainWritten : Type 0 where
-  pub octets : List ℕ
-  pub places : List Place
+-- the record that stands first in these octets
+abbrev pub first_in : List ℕ → Place → PlainRecord
+first_in octets place =
+    record {
+      owner = labels_in (take (place.front - 4) octets);
+      rtype = number_at 2 octets (place.front - 4);
+      class = number_at 2 octets (place.front - 2);
+      ttl = place.ttl;
+      rdata = take (place.back - 2) (drop (place.front + 2) octets);
+    }
 
--- These records are written there.
-pub record IsWritten (written : PlainWritten) (records : List PlainRecord) : Type 0 where
-  pub octets : written.octets ≡ flat_map lasting_octets records
-  pub places : written.places ≡ map place_of records
+-- These octets begin with the record of this place.
+pub record BeginsRecord (octets : List ℕ) (place : Place) : Type 0 where
+  pub front : 4 ≤ place.front
+  pub back : 2 ≤ place.back
+  pub room : place.front + place.back ≤ length octets
+  pub is_owner : IsWire (take (place.front - 4) octets)
+  pub is_data : IsData (number_at 2 octets (place.front - 4))
+      (number_at 2 octets (place.front - 2)) (take (place.back - 2) (drop (place.front + 2) octets))
+
+-- the records in these octets
+unfoldable pub records_in : List ℕ → List Place → List PlainRecord
+records_in octets [] = []
+records_in octets (place ∷ places) =
+    first_in octets place ∷ records_in (drop (place.front + place.back) octets) places
+
+-- These records stand there, and nothing else.
+pub record AreWritten (octets : List ℕ) (places : List Place)
+    (records : List PlainRecord) : Type 0 where
+  pub are_records : AllByRecursion IsRecord records
+  pub octets_are : octets ≡ flat_map lasting_octets records
+  pub places_are : places ≡ map place_of records
 
 -- so many octets have these places
 abbrev pub span : List Place → ℕ

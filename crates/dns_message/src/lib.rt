@@ -11,6 +11,7 @@ mod message;
 mod opt_reading;
 mod question;
 mod reading;
+mod record_refs;
 mod request;
 mod triage;
 mod writing;
@@ -23,6 +24,7 @@ pub use limit::{GREATEST_LIMIT, LEAST_LIMIT, reply_limit};
 pub use message::Message;
 pub use question::Question;
 pub use reading::read_message;
+pub use record_refs::RecordRefs;
 pub use request::{Incoming, Query};
 pub use triage::{classify, speaks};
 pub use writing::{

@@ -1,29 +1,18 @@
 //! Records as they are written, their TTLs apart.
 
-ghost use Rattle.std.specs.Prelude.{◌≡◌, List, [], ◌∷◌, ◌++◌, ◌+◌, ◌-◌, ◌≤◌, length, map, take, drop, IfOk, OnOk};
-ghost use Rattle.dns_record.specs.Number.{number_octets};
-ghost use Rattle.dns_record.specs.Record.{PlainRecord};
-ghost use Rattle.dns_message.specs.Aged.{aged};
-ghost use Rattle.dns_message.specs.Spelling.{records_octets};
-ghost use Rattle.dns_message.specs.Written.{IsWritten, all_aged, front_of, lasting_octets, place_of, rest_aged, span};
+ghost use Rattle.std.specs.Prelude.{◌≡◌, [], ◌∷◌, ◌++◌, ◌+◌, ◌<◌, ◌≤◌, ◌^◌, IfOk, OnOk};
+ghost use Rattle.dns_record.specs.Record.{IsRecord};
+ghost use Rattle.dns_message.specs.Written.{lasting_octets, place_of};
 
+use crate::record_refs::{Place, RecordRefs};
 use dns_name::Octets;
 use dns_record::Record;
-use dns_record::number::{push_u16, push_u32};
+use dns_record::number::push_u16;
 use std::alloc::{AllocError, Global};
 use std::marker::Model;
 
-// Where a record stands: how many octets stand before its TTL (the owner, the type and the class), the TTL, and how many stand
-// behind it (the length and the data).
-#[derive(Debug, Clone, Copy)]
-struct Place {
-    front: usize,
-    ttl: u32,
-    back: usize,
-}
-
 /// Records as they are written, their names in full, with their TTLs apart, so that they are written at any age in one pass
-/// over one run of octets. Contracts see which records they are.
+/// over one run of octets, and read where they lie. It has no more room than they take. Contracts see which records they are.
 #[derive(Debug, Drop)]
 pub struct WrittenRecords {
     // All records one after another, but for their TTLs.
@@ -32,22 +21,24 @@ pub struct WrittenRecords {
 }
 
 impl Model for WrittenRecords {
-    ghost use Rattle.std.specs.Prelude.{◌≤◌, length};
-    ghost use Rattle.dns_message.specs.Written.{PlainWritten, span};
+    ghost use Rattle.std.specs.Prelude.{List};
+    ghost use Rattle.dns_record.specs.Record.{PlainRecord};
+    ghost use Rattle.dns_message.specs.Written.{AreWritten, records_in};
 
-    ghost Value = { PlainWritten };
+    ghost Value = { List PlainRecord };
 
-    ghost view = { λ w. record { octets = w.octets; places = w.places.items } };
+    ghost view = { λ w. records_in w.octets w.places.items };
 
-    ghost invariant = { λ w. span w.places.items ≤ length w.octets };
+    ghost invariant = { λ w. AreWritten w.octets w.places.items
+        (records_in w.octets w.places.items) };
 }
 
 impl WrittenRecords {
-    /// The records as they are written.
+    /// These records.
     pub fn of(alloc: Global, records: &[Record]) -> Result<Self, AllocError>
-        ensures { IfOk result (λ written. IsWritten written records.now) }
+        ensures { IfOk result (λ written. written ≡ records.now) }
     {
-        let mut octets = Octets::new(alloc);
+        let mut octets = Octets::with_capacity(alloc, octet_room(records))?;
         let mut places = Vec::with_capacity(alloc, records.len())?;
         for rr in records {
             push_record(&mut octets, &mut places, rr)?;
@@ -55,22 +46,22 @@ impl WrittenRecords {
         Ok(WrittenRecords { octets, places })
     }
 
-    /// How many octets there are, but for the TTLs.
-    pub fn len(&self) -> usize
-        ensures { result ≡ length self.now.octets }
+    /// The records, where they lie.
+    pub fn records(&self) -> RecordRefs<'_>
+        ensures { result ≡ self.now }
     {
-        self.octets.len()
+        RecordRefs::new(self.octets.as_slice(), self.places.as_slice())
     }
+}
 
-    /// Writes the records at the end as they are when so many seconds have passed since they came: the seconds are taken from
-    /// each TTL, which is 0 at the least. An `Err` leaves what was written before, and maybe some of the records behind it.
-    pub fn write_aged(&self, out: &mut Octets, seconds: u32) -> Result<(), AllocError>
-        ensures ok { (records : List PlainRecord) → IsWritten self.now records →
-            OnOk result (out.new ≡ out.old ++ records_octets (map (aged seconds) records)) }
-        ensures begins { take (length out.old) out.new ≡ out.old }
-    {
-        write_all(out, self.octets.as_slice(), self.places.as_slice(), seconds)
+// How many octets the records take but for their TTLs, to make room for them.
+fn octet_room(records: &[Record]) -> usize {
+    let mut room: usize = 0;
+    for rr in records {
+        let octets = rr.owner().octets().len() + 6 + rr.rdata().len();
+        room = room.saturating_add(octets);
     }
+    room
 }
 
 // Writes a record at the end, its TTL apart.
@@ -78,6 +69,7 @@ impl WrittenRecords {
 fn push_record(octets: &mut Octets, places: &mut Vec<Place>, rr: &Record) -> Result<(), AllocError>
     ensures octets { OnOk result (octets.new ≡ octets.old ++ lasting_octets rr.now) }
     ensures places { OnOk result (places.new.items ≡ places.old.items ++ place_of rr.now ∷ []) }
+    ensures record { OnOk result (IsRecord rr.now) }
 {
     let owner = rr.owner();
     let rdata = rr.rdata();
@@ -86,80 +78,19 @@ fn push_record(octets: &mut Octets, places: &mut Vec<Place>, rr: &Record) -> Res
     push_u16(octets, rr.class())?;
     push_u16(octets, rdata.len() as u16)?;
     octets.append(rdata)?;
-    places.push(Place {
-        front: owner.octets().len() + 4,
-        ttl: rr.ttl(),
-        back: rdata.len() + 2,
-    })?;
+    places.push(place_at(owner.octets().len(), rr.ttl(), rdata.len()))?;
     Ok(())
 }
 
-// Writes the records that stand in these octets, when so many seconds have passed since they came.
-fn write_all(
-    out: &mut Octets,
-    octets: &[u8],
-    places: &[Place],
-    seconds: u32,
-) -> Result<(), AllocError>
-    requires { span places.now ≤ length octets.now }
-    ensures ok { OnOk result (out.new ≡ out.old ++ all_aged seconds octets.now places.now) }
-    ensures begins { take (length out.old) out.new ≡ out.old }
+// The place of a record with an owner and data of so many octets.
+fn place_at(owner: usize, ttl: u32, rdata: usize) -> Place
+    requires owner { owner ≤ 255 }
+    requires rdata { rdata < 2 ^ 16 }
+    ensures { result ≡ record { front = owner + 4; ttl = ttl; back = rdata + 2 } }
 {
-    let at = front_at(places, 0);
-    out.append(&octets[..at])?;
-    write_rest(out, octets, at, places, seconds)
-}
-
-// Writes the records from the TTL of the first one on, when so many seconds have passed since they came; behind it they go on
-// here.
-fn write_rest(
-    out: &mut Octets,
-    octets: &[u8],
-    start: usize,
-    places: &[Place],
-    seconds: u32,
-) -> Result<(), AllocError>
-    requires { start + span places.now ≤ length octets.now + front_of places.now }
-    ensures ok { OnOk result
-        (out.new ≡ out.old ++ rest_aged seconds (drop start octets.now) places.now) }
-    ensures begins { take (length out.old) out.new ≡ out.old }
-{
-    let mut at = start;
-    for number in 0..places.len() {
-        let next = front_at(places, number + 1);
-        write_from_ttl(out, octets, at, &places[number], next, seconds)?;
-        at += places[number].back + next;
+    Place {
+        front: owner as u16 + 4,
+        ttl,
+        back: rdata as u32 + 2,
     }
-    Ok(())
-}
-
-// How many octets stand before the TTL of the record of this number; 0 where there is no such record.
-fn front_at(places: &[Place], number: usize) -> usize
-    ensures { result ≡ front_of (drop number places.now) }
-{
-    match places.get(number) {
-        None => 0,
-        Some(place) => place.front,
-    }
-}
-
-// Writes a record from its TTL on, when so many seconds have passed since it came, and what stands before the TTL of the next
-// one, which lies behind it.
-fn write_from_ttl(
-    out: &mut Octets,
-    octets: &[u8],
-    at: usize,
-    place: &Place,
-    next: usize,
-    seconds: u32,
-) -> Result<(), AllocError>
-    requires { at + (place.now.back + next) ≤ length octets.now }
-    ensures ok { OnOk result (out.new
-        ≡ out.old
-        ++ (number_octets 4 (place.now.ttl - seconds)
-        ++ take (place.now.back + next) (drop at octets.now))) }
-    ensures begins { take (length out.old) out.new ≡ out.old }
-{
-    push_u32(out, place.ttl.saturating_sub(seconds))?;
-    out.append(&octets[at..at + (place.back + next)])
 }

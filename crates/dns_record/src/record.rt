@@ -141,7 +141,7 @@ pub fn write_record(
 }
 
 // What stands between the name and the data: the type, the class, the TTL and the length of the data.
-fn field_octets(rtype: u16, class: u16, ttl: u32, len: u16) -> [u8; 10]
+pub(crate) fn field_octets(rtype: u16, class: u16, ttl: u32, len: u16) -> [u8; 10]
     ensures { result
         ≡ number_octets 2 rtype ++ number_octets 2 class ++ number_octets 4 ttl
         ++ number_octets 2 len }

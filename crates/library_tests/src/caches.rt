@@ -19,7 +19,7 @@ fn is_found(alloc: Global, cache: &mut Cache, qtype: u16, now: u32) -> Result<bo
 // A cache with room for an entry, which has the one of the question about type 1.
 fn filled(alloc: Global) -> Result<Cache, Fail> {
     let mut cache = AnswerCache::open(alloc, 1, BuildHasherDefault::new())?;
-    cache.keep(alloc, learned(alloc)?)?;
+    cache.keep(alloc, &question(alloc)?, learned(alloc)?)?;
     Ok(cache)
 }
 

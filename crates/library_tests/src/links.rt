@@ -1,6 +1,6 @@
 //! What is learned over a link that fails, and what it says at its age.
 
-use dns_message::{Question, write_aged_records};
+use dns_message::Question;
 use dns_name::{Name, Octets};
 use edge_io::ListLink;
 use std::alloc::Global;
@@ -86,7 +86,7 @@ fn records(alloc: Global, learned: &Learned<ListLink>, now: u32) -> Result<Octet
     let mut out = Octets::new(alloc);
     if learned.is_live(now) {
         if let Fact::Answer(answer) = learned.fact(alloc, now)? {
-            write_aged_records(&mut out, answer.answers(), answer.age())?;
+            answer.write_answers(&mut out)?;
         }
     }
     Ok(out)

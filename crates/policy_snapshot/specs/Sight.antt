@@ -24,7 +24,7 @@ sight_seen s =
       position = s.position;
       client = s.client;
       name = s.name.now;
-      records = s.records.now;
+      records = s.records;
       servers = map (λ list. list.now) s.servers.now;
       addresses = s.addresses.now;
     }

@@ -65,7 +65,7 @@ fn rules_hit<'a>(
             soa,
         });
     }
-    if let Some((prefix, action)) = rules.response_ip(sight.name, sight.records) {
+    if let Some((prefix, action)) = rules.response_ip(sight.name, &sight.records) {
         let trigger = TriggerRef::ResponseIp(prefix);
         return Some(Hit {
             position: sight.position,

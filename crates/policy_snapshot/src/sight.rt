@@ -1,7 +1,7 @@
 //! What look-ups of rules take at a position of the chain of aliases.
 
+use dns_message::RecordRefs;
 use dns_name::Name;
-use dns_record::Record;
 use ip_prefix::Addr;
 use upstream_link::Names;
 
@@ -15,7 +15,7 @@ pub(crate) struct Sight<'a> {
     /// That name in lower case.
     pub(crate) lower: &'a Name,
     /// The records of the answer to the query.
-    pub(crate) records: &'a [Record],
+    pub(crate) records: RecordRefs<'a>,
     /// The servers of the name.
     pub(crate) servers: &'a [&'a Names],
     /// The addresses of the servers.

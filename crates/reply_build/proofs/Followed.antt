@@ -1,6 +1,6 @@
 -- The aliases that an answer shows of names, one name after another.
 use Rattle.std.proofs.Common.{◌≡◌, ℕ, suc, ◌+◌, cond, is_some, List, [], ◌∷◌, ◌++◌, length, map, filter, drop, get_or, Option, Some, None, refl, sym, ap, ◌∙◌, append_assoc}
-use Rattle.std.specs.Prelude.{◌<◌, ◌≤◌}
+use Rattle.std.specs.Prelude.{◌-◌, ◌<◌, ◌≤◌, OnOk, Result, Ok, Err}
 use Rattle.std.specs.Option.{option_to_list}
 use Rattle.std.proofs.lemmas.List.{append-nil, at_drop_more, drop_all, length-map, map-append}
 use Rattle.std.proofs.lemmas.List.Concat.{flat_map-append}
@@ -27,6 +27,16 @@ count_aged seconds records names = count_followed records names ∙ sym (length-
 pub no_alias : (seconds : ℕ) (alias : Option PlainRecord) (octets : List ℕ) → alias ≡ None → octets ≡ octets ++ records_octets (map (aged seconds) (option_to_list alias))
 unfolding records_octets
 no_alias seconds alias octets e = rw e (sym (append-nil octets))
+
+pub some_alias : {X Y : Type 0} (result : Result X Y) (seconds ttl : ℕ) (alias : Option PlainRecord) (r : PlainRecord) (before after : List ℕ) → alias ≡ Some r → ttl ≡ r.ttl - seconds
+    → OnOk result (after ≡ before ++ record_octets (record r { ttl = ttl })) → OnOk result (after ≡ before ++ records_octets (map (aged seconds) (option_to_list alias)))
+unfolding records_octets
+some_alias (Ok x) seconds ttl alias r before after ea et h =
+    h
+    ∙ ap (λ (n : ℕ). before ++ record_octets (record r { ttl = n })) et
+    ∙ ap (λ (l : List ℕ). before ++ l) (sym (append-nil (record_octets (aged seconds r))))
+    ∙ ap (λ (o : Option PlainRecord). before ++ records_octets (map (aged seconds) (option_to_list o))) (sym ea)
+some_alias (Err y) seconds ttl alias r before after ea et h = h
 
 abbrev pub kept_octets : ℕ → List PlainRecord → List (List (List ℕ)) → List ℕ
 kept_octets seconds records names = records_octets (map (aged seconds) (chain_aliases records names))

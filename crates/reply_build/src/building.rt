@@ -19,7 +19,7 @@ use crate::said::Said;
 use crate::turn::Turn;
 use crate::verdict::Verdict;
 use action_codec::Action;
-use dns_message::{GREATEST_LIMIT, LEAST_LIMIT, Query};
+use dns_message::{GREATEST_LIMIT, LEAST_LIMIT, Query, RecordRefs};
 use dns_name::Name;
 use dns_record::Record;
 use ip_prefix::Transport;
@@ -70,8 +70,9 @@ fn by_verdict(
             before,
             name,
         } => {
+            let records = records_behind(query, facts, before);
             let place = PlaceRef {
-                records: records_behind(query, facts, before),
+                records: &records,
                 age: facts.age(&query.question.name, query.question.qtype),
                 before,
                 name,
@@ -84,12 +85,12 @@ fn by_verdict(
 
 // The records in which the aliases of these names stand: those of the answer to the query. Where there are no names, it
 // isn't looked for.
-fn records_behind<'f>(query: &Query, facts: &'f Facts, before: &[Name]) -> &'f [Record]
-    ensures { chain_aliases result.now before.now
+fn records_behind<'f>(query: &Query, facts: &'f Facts, before: &[Name]) -> RecordRefs<'f>
+    ensures { chain_aliases result before.now
         ≡ chain_aliases (main_records query.now facts.now) before.now }
 {
     if before.is_empty() {
-        return &[];
+        return RecordRefs::none();
     }
     facts.records(&query.question.name, query.question.qtype)
 }

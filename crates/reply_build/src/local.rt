@@ -17,7 +17,7 @@ use crate::place::PlaceRef;
 use crate::reply::{begin, reply_header, server_failure, soa_slice};
 use crate::target::{alias_in, target_of};
 use action_codec::LocalRow;
-use dns_message::{Query, Question, write_aged_records, write_records};
+use dns_message::{Query, Question, RecordRefs, write_aged_records, write_records};
 use dns_name::{Name, Octets};
 use dns_record::{Record, class, rtype, write_record};
 use std::alloc::{AllocError, Global};
@@ -120,20 +120,20 @@ fn alias_draft(
     query: &Query,
     ttl: u32,
     target: &Name,
-    answers: &[Record],
+    answers: RecordRefs<'_>,
     authority: &[Record],
     age: u32,
     place: &PlaceRef<'_>,
 ) -> Result<Draft, AllocError>
     ensures { IfOk result (λ draft. draft ≡ draft_of query.now
-        (alias_reply rcode (place_seen place.now) ttl target.now (map (aged age) answers.now)
+        (alias_reply rcode (place_seen place.now) ttl target.now (map (aged age) answers.entry)
         (map (aged age) authority.now))) }
 {
     let header = reply_header(false, rcode, query);
     let count = answers.len() + 1;
     let mut out = begin(alloc, &header, query, place, count, authority.len())?;
     write_alias(&mut out, place.name, ttl, target)?;
-    write_aged_records(&mut out, answers, age)?;
+    answers.write_aged(&mut out, age)?;
     write_aged_records(&mut out, authority, age)?;
     write_records(&mut out, slice::from_ref(place.soa))?;
     Ok(Draft {
@@ -219,7 +219,8 @@ fn target_outcome(
         return Ok(DraftOutcome::Gives(server_failure(alloc, query)?));
     };
     if asks_alias(query.question.qtype) {
-        let draft = alias_draft(alloc, 0, query, ttl, &target, &[], &[], 0, place)?;
+        let none = RecordRefs::none();
+        let draft = alias_draft(alloc, 0, query, ttl, &target, none, &[], 0, place)?;
         return Ok(DraftOutcome::Gives(draft));
     }
     let fact = facts.get(&target, query.question.qtype);

@@ -8,18 +8,17 @@ ghost use Rattle.upstream_link.specs.Chain as chains;
 ghost use Rattle.upstream_link.specs.Chain.{chain_aliases};
 ghost use Rattle.reply_build.specs.Start as start;
 
-use dns_message::write_aged_records;
+use dns_message::RecordRefs;
 use dns_name::{Name, Octets};
 use dns_record::Record;
 use std::alloc::AllocError;
-use std::slice;
 use upstream_link::alias_of;
 
 /// Where a rule decides.
 #[derive(Clone, Copy)]
 pub struct PlaceRef<'a> {
     /// The records that aliases are looked up in: those of the answer to the query.
-    pub records: &'a [Record],
+    pub records: &'a RecordRefs<'a>,
     /// How many seconds have passed since these came.
     pub age: u32,
     /// The names of the chain before the rule's; a reply begins with their aliases.
@@ -31,14 +30,14 @@ pub struct PlaceRef<'a> {
 }
 
 // Whether the records have an alias of this name.
-fn has_alias(records: &[Record], name: &Name) -> bool
+fn has_alias(records: &RecordRefs<'_>, name: &Name) -> bool
     ensures { result ≡ start.has_alias records.now name.now }
 {
     alias_of(records, name).is_some()
 }
 
 /// How many of these names have an alias among the records.
-pub fn count_kept(records: &[Record], before: &[Name]) -> usize
+pub fn count_kept(records: &RecordRefs<'_>, before: &[Name]) -> usize
     ensures count { result ≡ length (filter (start.has_alias records.now) before.now) }
     ensures few { result < 2 ^ 62 }
 {
@@ -51,25 +50,24 @@ pub fn count_kept(records: &[Record], before: &[Name]) -> usize
 // Writes the alias of the name at the end, if the records have one, which came so many seconds ago.
 fn write_alias_of(
     out: &mut Octets,
-    records: &[Record],
+    records: &RecordRefs<'_>,
     age: u32,
     name: &Name,
 ) -> Result<(), AllocError>
     ensures { OnOk result (out.new
         ≡ out.old
-        ++ records_octets
-        (map (aged age) (option_to_list (chains.alias_of records.now name.now)))) }
+        ++ records_octets (map (aged age) (option_to_list (chains.alias_of records.now name.now)))) }
 {
     match alias_of(records, name) {
         None => Ok(()),
-        Some(alias) => write_aged_records(out, slice::from_ref(alias), age),
+        Some(alias) => alias.write_with_ttl(out, alias.ttl().saturating_sub(age)),
     }
 }
 
 /// Writes the aliases of these names at the end that the records have, which came so many seconds ago.
 pub fn write_kept(
     out: &mut Octets,
-    records: &[Record],
+    records: &RecordRefs<'_>,
     age: u32,
     before: &[Name],
 ) -> Result<(), AllocError>

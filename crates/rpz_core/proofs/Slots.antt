@@ -1,7 +1,9 @@
 -- The places of workers.
 use Rattle.std.proofs.Common.{◌≡◌, ℕ, zero, suc, ◌-◌, Bool, true, false, Option, Some, None, Result, Ok, Err, List, [], ◌∷◌, refl, sym, ap, ◌∙◌}
 use Rattle.std.specs.Prelude.{slice_get, slice_set, slice_index_or, if◌then◌else◌, ◌==◌}
+use Rattle.std.specs.Prelude.{OnOk}
 use Rattle.std.specs.declared.alloc.AllocError.{AllocError}
+use Rattle.answer_cache.specs.Recent.{Recent, after_keep, recent}
 use Rattle.dns_message.specs.declared.request.Incoming.{Incoming}
 use Rattle.upstream_link.specs.declared.fact.Fact.{Fact}
 use Rattle.upstream_link.specs.Facts.{PlainFacts}
@@ -10,6 +12,7 @@ use Rattle.policy_snapshot.specs.Policy.{PlainPolicy, zone_at}
 use Rattle.zone_rows.specs.declared.zone.PlainZone.{PlainZone}
 use Rattle.reply_build.specs.declared.turn.Turn.{Turn}
 use Rattle.reply_build.specs.declared.turn.Turn.TheVariants.{Ask, Said}
+use Rattle.rpz_core.specs.declared.sessions.TheConstants.{CACHE_LIMIT}
 use Rattle.rpz_core.specs.declared.event.Output.{Output}
 use Rattle.rpz_core.specs.Resolving.{resolve}
 use Rattle.rpz_core.specs.Sessions.{PendingQuery, SessionsState, with_learned, facts_with, resumed_step, turn_step, uncached, with_cached}
@@ -65,6 +68,17 @@ resumed now s new worker pending taken fact (Err e) at is turns =
     turns ∙ ap (λ (ws : List (Option PendingQuery)). let p : SessionsState = record { workers = ws; last_id = s.last_id; cached = [] } in p) (set_set s.workers worker None (Some taken) ∙ ap (slice_set s.workers worker) same ∙ set_same s.workers worker (Some pending) at)
 
 -- a query that got what was learned for it, which was cached
+-- what was learned is cached
+pub learned_within : {X Y : Type 0} (result : Result X Y) (inside s : SessionsState) (before after : Recent) (entry : PlainLearned) → inside ≡ s → inside.cached ≡ before.entries → before.limit ≡ CACHE_LIMIT
+    → OnOk result (after ≡ recent (after_keep before.limit entry before.entries) before.limit)
+    → OnOk result (with_cached inside after.entries ≡ with_learned s entry)
+learned_within (Ok x) inside s before after entry same cached limit kept =
+    ap (λ (r : Recent). with_cached inside r.entries) kept
+    ∙ ap (λ (n : ℕ). with_cached inside (after_keep n entry before.entries)) limit
+    ∙ ap (λ (l : List PlainLearned). with_cached inside (after_keep CACHE_LIMIT entry l)) (sym cached)
+    ∙ ap (λ (t : SessionsState). with_learned t entry) same
+learned_within (Err y) inside s before after entry same cached limit kept = kept
+
 pub resumed_learned : (now : ℕ) (s mid new : SessionsState) (worker : ℕ) (pending : PendingQuery) (entry : PlainLearned) (fact : Fact) (result : Result Output AllocError) → mid ≡ with_learned s entry → fact ≡ fact_at now entry
     → TurnsBare uncached (resumed_step now mid worker pending fact) result mid new
     → TurnsBare uncached (resumed_step now (with_learned s entry) worker pending (fact_at now entry)) result s new

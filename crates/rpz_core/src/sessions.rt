@@ -1,6 +1,6 @@
 //! The workers with their pending queries.
 
-ghost use Rattle.std.specs.Prelude.{◌≡◌, map, true, Some, None, IfOk, is_some, slice_get, slice_index_or, slice_set};
+ghost use Rattle.std.specs.Prelude.{◌≡◌, map, true, Some, None, IfOk, OnOk, OnErr, is_some, slice_get, slice_index_or, slice_set};
 ghost use Rattle.rpz_core.specs.declared.event.Output.TheVariants as out;
 ghost use Rattle.rpz_core.specs.Sessions.{PendingQuery, answered_step, with_learned, learned_by, next_turn, no_sessions, resumed_step, said_output, take_answer, take_failure, take_query, uncached, with_worker};
 ghost use Rattle.rpz_core.specs.State.{StepsBare, TurnsBare, TurnsOrPutsBack};
@@ -228,7 +228,8 @@ impl Sessions {
     ) -> Result<Output, AllocError>
         requires moment { learned.moment ≡ now }
         requires pending { (pending : PendingQuery)
-            × (slice_get self.old.workers worker ≡ Some (Some pending)) }
+            × (slice_get self.old.workers worker ≡ Some (Some pending))
+            × (learned.question ≡ pending.question) }
         ensures { (pending : PendingQuery) →
             slice_get self.old.workers worker ≡ Some (Some pending) →
             TurnsBare uncached
@@ -236,8 +237,27 @@ impl Sessions {
             result self.old self.new }
     {
         let fact = learned.fact(alloc, now)?;
-        self.cache.keep(alloc, learned)?;
+        self.keep(alloc, worker, learned)?;
         self.resume(alloc, now, worker, fact)
+    }
+
+    // Caches what was learned for a worker's pending query.
+    fn keep(
+        &mut self,
+        alloc: Global,
+        worker: u32,
+        learned: Learned<ListLink>,
+    ) -> Result<(), AllocError>
+        requires pending { (pending : PendingQuery)
+            × (slice_get self.old.workers worker ≡ Some (Some pending))
+            × (learned.question ≡ pending.question) }
+        ensures ok { OnOk result (self.new ≡ with_learned self.old learned) }
+        ensures err { OnErr result (self.new ≡ self.old) }
+    {
+        match self.workers.get(worker as usize) {
+            Some(Some(pending)) => self.cache.keep(alloc, &pending.question, learned),
+            _ => unreachable!(),
+        }
     }
 
     /// Nothing comes for the question that a worker asked.

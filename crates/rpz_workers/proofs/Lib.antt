@@ -1,4 +1,3 @@
-pub mod Limits
 pub mod Stages
 pub mod Answered
 pub mod LiveEntries

@@ -16,22 +16,6 @@ use Rattle.rpz_workers.specs.declared.obtained.Obtained.TheVariants.{Learned, Fa
 use Rattle.rpz_workers.specs.Obtaining.{Inquiry, MayKeep, Obtains, ObtainsFor, with_fact}
 use Rattle.rpz_workers.specs.Turns.{Asks, Leads, Says, TakesTurn, inquiry}
 
--- a keep that may fail
-pub may_keep : {E : Type 0} (entry : PlainLearned) (before after : Option Recent) (r : Result (Unit {0}) E)
-    → OnOk r (after ≡ kept entry before) → OnErr r (after ≡ before) → MayKeep entry before after
-may_keep entry before after (Ok done) ok err = inl ok
-may_keep entry before after (Err e) ok err = inr err
-
--- what the link gave, where the cache was looked at before
-pub asked_behind : {L : Type 0} (gave : List ℕ → List ℕ → ℕ → Type 0) (now : ℕ) (question : Question) (before : Inquiry) (one : Obtained L) (after : Inquiry)
-    → IsFound question now None before.cached
-    → Asks gave now question (inquiry before.facts (looked_up question before.cached) before.ids before.link_faults) one after
-    → ObtainsFor gave now question before one after
-asked_behind gave now question before (Learned entry) after none gets =
-    inr (record { not_found = none; id = gets.id; next = gets.next; asks = gets.asks; vouched = gets.vouched; facts = gets.facts; cached = gets.cached; link_faults = gets.link_faults })
-asked_behind gave now question before (Failed asked) after none fails =
-    (fails.0, record { not_found = none; id = fails.1.id; next = fails.1.next; facts = fails.1.facts; cached = fails.1.cached; link_faults = fails.1.link_faults })
-
 one_longer : (facts after : PlainFacts) (question : Question) (fact : Fact) → after ≡ with_fact facts question fact → length after ≡ length facts + 1
 one_longer facts after question fact e = ap length e ∙ length-append facts ((question, fact) ∷ [])
 

@@ -109,7 +109,7 @@ impl<L: Link + Drop, A: Keeps<L> + Drop, I: Ids + Drop, G: Gate + Drop> Sources<
         match asked {
             AskOutcome::Learned(learned) => {
                 // an answer that can't be cached, since an allocation failed, is used all the same
-                let _kept = self.cache.keep(alloc, &learned);
+                let _kept = self.cache.keep(alloc, question, &learned);
                 give(alloc, session, learned, now)
             }
             AskOutcome::Failed => give_failed(session, question),

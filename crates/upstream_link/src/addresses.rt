@@ -10,9 +10,9 @@ ghost use Rattle.upstream_link.specs.Servers.{address_of, addresses_in};
 use crate::fact::Fact;
 use crate::known::Known;
 use crate::names::Names;
-use dns_message::Question;
+use dns_message::{Question, RecordRefs};
 use dns_name::Name;
-use dns_record::{Record, class, rtype};
+use dns_record::{RecordRef, class, rtype};
 use ip_prefix::Addr;
 use std::alloc::AllocError;
 
@@ -67,8 +67,12 @@ pub(crate) fn push_known(
 }
 
 // Puts the addresses in the records of this owner behind the others.
-fn push_addresses(owner: &Name, records: &[Record], all: &mut Vec<Addr>) -> Result<(), AllocError>
-    ensures { OnOk result (all.new.items ≡ all.old.items ++ addresses_in owner.now records.now) }
+fn push_addresses(
+    owner: &Name,
+    records: RecordRefs<'_>,
+    all: &mut Vec<Addr>,
+) -> Result<(), AllocError>
+    ensures { OnOk result (all.new.items ≡ all.old.items ++ addresses_in owner.now records.entry) }
 {
     for rr in records {
         push_address(owner, rr, all)?;
@@ -77,9 +81,9 @@ fn push_addresses(owner: &Name, records: &[Record], all: &mut Vec<Addr>) -> Resu
 }
 
 // Puts the address that the record holds, if it is of this owner, behind the others.
-fn push_address(owner: &Name, rr: &Record, all: &mut Vec<Addr>) -> Result<(), AllocError>
+fn push_address(owner: &Name, rr: RecordRef<'_>, all: &mut Vec<Addr>) -> Result<(), AllocError>
     ensures { OnOk result (all.new.items
-        ≡ all.old.items ++ option_to_list (address_of owner.now rr.now)) }
+        ≡ all.old.items ++ option_to_list (address_of owner.now rr.entry)) }
 {
     if !rr.owner().is_same(owner) {
         return Ok(());

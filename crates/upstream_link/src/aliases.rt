@@ -1,6 +1,6 @@
 //! The chain of aliases that an answer shows.
 
-ghost use Rattle.std.specs.Prelude.{◌≡◌, ◌≤◌, ◌∷◌, [], length, option_copied, IfOk, IfSome};
+ghost use Rattle.std.specs.Prelude.{◌≡◌, ◌≤◌, ◌∷◌, [], length, IfOk, IfSome};
 ghost use Rattle.std.specs.List.{list_any};
 ghost use Rattle.upstream_link.specs.Chain as form;
 ghost use Rattle.upstream_link.specs.Chain.{chain_from};
@@ -9,9 +9,9 @@ ghost use Rattle.upstream_link.specs.declared.fact.Fact.TheVariants as answers;
 use crate::answer::Answer;
 use crate::fact::Fact;
 use crate::names::Names;
-use dns_message::Question;
+use dns_message::{Question, RecordRefs};
 use dns_name::{Name, NameError};
-use dns_record::{Record, rtype};
+use dns_record::{Record, RecordRef, rtype};
 use std::alloc::{AllocError, Global};
 
 /// How many names a chain of aliases has at most, the name of the question among them.
@@ -40,22 +40,27 @@ pub(crate) fn has_alias(records: &[Record]) -> bool
 
 /// The alias of a name among these records: the first CNAME record of this owner, whatever its case. Its time is linear
 /// in the number of records.
-pub fn alias_of<'r>(records: &'r [Record], name: &Name) -> Option<&'r Record>
-    ensures { option_copied result ≡ form.alias_of records.now name.now }
+pub fn alias_of<'r>(records: &RecordRefs<'r>, name: &Name) -> Option<RecordRef<'r>>
+    ensures { result ≡ form.alias_of records.now name.now }
 {
-    records.iter().find(|rr| is_alias_of(name, rr))
+    for rr in records.iter() {
+        if is_alias_of(name, &rr) {
+            return Some(rr);
+        }
+    }
+    None
 }
 
 // Whether the record is an alias of this owner.
-fn is_alias_of(owner: &Name, rr: &Record) -> bool
+fn is_alias_of(owner: &Name, rr: &RecordRef<'_>) -> bool
     ensures { result ≡ form.is_alias_of owner.now rr.now }
 {
     rr.rtype() == rtype::CNAME && rr.owner().is_same(owner)
 }
 
 /// The name that the data of a record begins with; `None` where it begins with none.
-pub(crate) fn name_in(alloc: Global, rr: &Record) -> Result<Option<Name>, AllocError>
-    ensures { IfOk result (λ name. name ≡ form.name_in rr.now) }
+pub(crate) fn name_in(alloc: Global, rr: RecordRef<'_>) -> Result<Option<Name>, AllocError>
+    ensures { IfOk result (λ name. name ≡ form.name_in rr.entry) }
 {
     match Name::read(alloc, rr.rdata(), 0) {
         Ok((name, _)) => Ok(Some(name)),
@@ -74,7 +79,7 @@ fn has_name(names: &[Name], name: &Name) -> bool
 // The name behind `last`, the last one of a chain of these names.
 fn next_name(
     alloc: Global,
-    records: &[Record],
+    records: &RecordRefs<'_>,
     names: &[Name],
     last: &Name,
 ) -> Result<Option<Name>, AllocError>
@@ -116,7 +121,7 @@ fn chain_in(
     if asks_alias(question.qtype) {
         return Ok(Some(names));
     }
-    follow(alloc, answer.answers(), names, &question.name)
+    follow(alloc, &answer.answers(), names, &question.name)
 }
 
 // The name alone.
@@ -138,7 +143,7 @@ fn copy_of(name: &Name) -> Result<Name, AllocError>
 // The chain behind its first name.
 fn follow(
     alloc: Global,
-    records: &[Record],
+    records: &RecordRefs<'_>,
     first: Names,
     name: &Name,
 ) -> Result<Option<Names>, AllocError>

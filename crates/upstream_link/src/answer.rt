@@ -2,6 +2,7 @@
 
 ghost use Rattle.std.specs.Prelude.{◌≡◌, ◌++◌, length, take, option_copied, true, IfOk, OnOk};
 ghost use Rattle.std.specs.List.{find, flat_map, list_any};
+ghost use Rattle.std.specs.Option.{option_map};
 ghost use Rattle.dns_message.specs.Spelling.{records_octets};
 ghost use Rattle.dns_message.specs.Written.{lasting_octets};
 ghost use Rattle.upstream_link.specs.Chain.{is_alias};
@@ -11,7 +12,7 @@ ghost use Rattle.upstream_link.specs.Kept.{IsAnswer, aged_answers, at_age, plain
 
 use crate::aliases::has_alias;
 use crate::life::life_by;
-use dns_message::{Message, WrittenRecords};
+use dns_message::{Message, RecordRefs, WrittenRecords};
 use dns_name::Octets;
 use dns_record::{Record, Records, class, rtype};
 use std::alloc::{AllocError, Global};
@@ -22,14 +23,12 @@ use std::sync::Arc;
 #[derive(Debug, Drop)]
 struct Kept {
     rcode: u8,
-    answers: Records,
-    soa: Option<Record>,
-    // For how many seconds they may be kept.
-    life: u32,
-    // The answers as they are written.
-    written: WrittenRecords,
     // Whether some answer is a CNAME record.
     alias: bool,
+    // For how many seconds they may be kept.
+    life: u32,
+    answers: WrittenRecords,
+    soa: Option<Box<Record>>,
 }
 
 /// An answer of the upstream, and how many seconds have passed since it came: the rcode is 0 or 3, the records are of class IN,
@@ -41,18 +40,20 @@ pub struct Answer {
 }
 
 impl Model for Answer {
+    ghost use Rattle.std.specs.Option.{option_map};
     ghost use Rattle.upstream_link.specs.Kept.{PlainAnswer, plain_answer};
 
     ghost Value = { PlainAnswer };
 
     ghost use Rattle.upstream_link.specs.Prepared.{IsPrepared};
 
-    ghost view = { λ a. plain_answer a.kept.value.rcode a.kept.value.answers a.kept.value.soa
-        a.age };
+    ghost view = { λ a. plain_answer a.kept.value.rcode a.kept.value.answers
+        (option_map (λ b. b.value) a.kept.value.soa) a.age };
 
     ghost invariant = { λ a.
-        IsPrepared (plain_answer a.kept.value.rcode a.kept.value.answers a.kept.value.soa a.age)
-        a.kept.value.life a.kept.value.written a.kept.value.alias };
+        IsPrepared (plain_answer a.kept.value.rcode a.kept.value.answers
+        (option_map (λ b. b.value) a.kept.value.soa) a.age)
+        a.kept.value.life a.kept.value.alias };
 }
 
 impl Answer {
@@ -78,16 +79,12 @@ impl Answer {
         requires { IsAnswer (plain_answer rcode answers soa 0) }
         ensures { IfOk result (λ answer. answer ≡ plain_answer rcode answers soa 0) }
     {
-        let life = life_by(alloc, rcode, answers.as_slice(), soa.as_ref())?;
-        let written = WrittenRecords::of(alloc, answers.as_slice())?;
-        let alias = has_alias(answers.as_slice());
         let kept = Kept {
             rcode,
-            answers,
-            soa,
-            life,
-            written,
-            alias,
+            alias: has_alias(answers.as_slice()),
+            life: life_by(alloc, rcode, answers.as_slice(), soa.as_ref())?,
+            answers: WrittenRecords::of(alloc, answers.as_slice())?,
+            soa: boxed(alloc, soa)?,
         };
         Ok(Answer {
             kept: Arc::new(alloc, kept)?,
@@ -128,10 +125,10 @@ impl Answer {
     }
 
     /// The answers as they came, all of class IN.
-    pub fn answers(&self) -> &[Record]
-        ensures { result.now ≡ self.now.answers }
+    pub fn answers(&self) -> RecordRefs<'_>
+        ensures { result ≡ self.now.answers }
     {
-        self.kept.answers.as_slice()
+        self.kept.answers.records()
     }
 
     /// Writes the answers at the end, with what is left of their TTLs. An `Err` leaves what was written before, and maybe some
@@ -140,14 +137,14 @@ impl Answer {
         ensures ok { OnOk result (out.new ≡ out.old ++ records_octets (aged_answers self.now)) }
         ensures begins { take (length out.old) out.new ≡ out.old }
     {
-        self.kept.written.write_aged(out, self.age)
+        self.answers().write_aged(out, self.age)
     }
 
     /// How many octets the answers take but for their TTLs, to make room for them.
     pub fn answers_len(&self) -> usize
         ensures { result ≡ length (flat_map lasting_octets self.now.answers) }
     {
-        self.kept.written.len()
+        self.answers().octet_count()
     }
 
     /// Whether some answer is a CNAME record.
@@ -161,7 +158,17 @@ impl Answer {
     pub fn soa(&self) -> Option<&Record>
         ensures { option_copied result ≡ self.now.soa }
     {
-        self.kept.soa.as_ref()
+        self.kept.soa.as_deref()
+    }
+}
+
+// The record in a box of its own, where there is one: most answers have none.
+fn boxed(alloc: Global, rr: Option<Record>) -> Result<Option<Box<Record>>, AllocError>
+    ensures { IfOk result (λ boxed. option_map (λ b. b.value) boxed ≡ rr) }
+{
+    match rr {
+        None => Ok(None),
+        Some(rr) => Ok(Some(Box::new(alloc, rr)?)),
     }
 }
 

@@ -13,9 +13,9 @@ ghost use Rattle.upstream_link.specs.Servers.{servers, servers_at};
 use crate::fact::Fact;
 use crate::known::Known;
 use crate::names::Names;
-use dns_message::Question;
+use dns_message::{Question, RecordRefs};
 use dns_name::Name;
-use dns_record::{Record, class, rtype};
+use dns_record::{class, rtype};
 use std::alloc::{AllocFailed, Global};
 use std::marker::Model;
 
@@ -119,12 +119,12 @@ impl Facts {
     }
 
     /// The records of the answer to the question of this name and type in class IN, as far as it is known.
-    pub fn records(&self, name: &Name, qtype: u16) -> &[Record]
-        ensures { result.now ≡ records_about self.now name.now qtype }
+    pub fn records(&self, name: &Name, qtype: u16) -> RecordRefs<'_>
+        ensures { result ≡ records_about self.now name.now qtype }
     {
         match self.get(name, qtype) {
             Some(Fact::Answer(answer)) => answer.answers(),
-            Some(Fact::Broken(_)) | None => &[],
+            Some(Fact::Broken(_)) | None => RecordRefs::none(),
         }
     }
 

@@ -9,23 +9,25 @@ use crate::fact::{Fact, fact_of};
 use dns_message::Question;
 use dns_name::Octets;
 use edge_io::Link;
+use proof_only::ProofOnly;
 use std::alloc::{AllocError, Global};
 use std::marker::{Model, PhantomData};
 use std::sync::Arc;
 
-// What was asked in a message of this ID, what came at this second, and what that says.
+// What came at this second, and what that says. The question, the ID of the message that asked it, and the bytes that came stand
+// in proofs alone.
 #[derive(Drop)]
 struct Exchange {
-    question: Question,
-    id: u16,
-    bytes: Octets,
+    question: ProofOnly<Question>,
+    id: ProofOnly<u16>,
+    bytes: ProofOnly<Octets>,
     moment: u32,
     fact: Fact,
 }
 
 /// What a link of the kind `L` gave for a question, at a second, and what that says, which is read once. That the link gave it
 /// is known from an exchange alone. Contracts see the question, the ID of the message that asked it, the bytes that came, and
-/// the second.
+/// the second; of these the second alone takes room, since what the bytes say is kept in their place.
 #[derive(Drop)]
 pub struct Learned<L: Link> {
     held: Arc<Exchange, Global>,
@@ -37,11 +39,12 @@ impl<L: Link> Model for Learned<L> {
 
     ghost Value = { PlainLearned };
 
-    ghost view = { λ l. plain_learned l.held.value.question l.held.value.id l.held.value.bytes
-        l.held.value.moment };
+    ghost view = { λ l. plain_learned l.held.value.question.value l.held.value.id.value
+        l.held.value.bytes.value l.held.value.moment };
 
     ghost invariant = { λ l. IsGiven L.gave
-        (plain_learned l.held.value.question l.held.value.id l.held.value.bytes l.held.value.moment)
+        (plain_learned l.held.value.question.value l.held.value.id.value l.held.value.bytes.value
+        l.held.value.moment)
         l.held.value.fact };
 }
 
@@ -58,9 +61,9 @@ impl<L: Link> Learned<L> {
         ensures { IfOk result (λ learned. learned ≡ plain_learned question.now id bytes.now now) }
     {
         let exchange = Exchange {
-            question: question.clone()?,
-            id,
-            bytes: Octets::from_slice(alloc, bytes.as_slice())?,
+            question: ProofOnly::of(question),
+            id: ProofOnly::of(&id),
+            bytes: ProofOnly::of(bytes),
             moment: now,
             fact: fact_of(alloc, bytes.as_slice(), id, question)?,
         };
@@ -68,13 +71,6 @@ impl<L: Link> Learned<L> {
             held: Arc::new(alloc, exchange)?,
             link: PhantomData,
         })
-    }
-
-    /// The question.
-    pub fn question(&self) -> &Question
-        ensures { result.now ≡ self.now.question }
-    {
-        &self.held.question
     }
 
     /// For how many seconds it may be kept, at most [`LIFE_LIMIT`](crate::LIFE_LIMIT) (RFC 2308, section 5).

@@ -8,8 +8,9 @@ ghost use Rattle.upstream_link.specs.Servers as form;
 use crate::aliases::name_in;
 use crate::facts::Facts;
 use crate::names::Names;
+use dns_message::RecordRefs;
 use dns_name::Name;
-use dns_record::{Record, rtype};
+use dns_record::{RecordRef, rtype};
 use std::alloc::{AllocError, Global};
 
 /// The name and the names above it that have at least two labels, from two labels upward: at most 127 names. Their NS
@@ -42,10 +43,10 @@ fn longest_first(alloc: Global, name: &Name) -> Result<Names, AllocError>
 pub(crate) fn push_servers(
     alloc: Global,
     owner: &Name,
-    records: &[Record],
+    records: RecordRefs<'_>,
     names: &mut Names,
 ) -> Result<(), AllocError>
-    ensures { OnOk result (names.new ≡ names.old ++ form.servers_in owner.now records.now) }
+    ensures { OnOk result (names.new ≡ names.old ++ form.servers_in owner.now records.entry) }
 {
     for rr in records {
         push_server(alloc, owner, rr, names)?;
@@ -57,11 +58,11 @@ pub(crate) fn push_servers(
 fn push_server(
     alloc: Global,
     owner: &Name,
-    rr: &Record,
+    rr: RecordRef<'_>,
     names: &mut Names,
 ) -> Result<(), AllocError>
     ensures { OnOk result
-        (names.new ≡ names.old ++ option_to_list (form.server_in owner.now rr.now)) }
+        (names.new ≡ names.old ++ option_to_list (form.server_in owner.now rr.entry)) }
 {
     if let Some(name) = server_in(alloc, owner, rr)? {
         names.push(name)?;
@@ -70,8 +71,8 @@ fn push_server(
 }
 
 // The name of a server, in lower case, if the record is an NS record of this owner.
-fn server_in(alloc: Global, owner: &Name, rr: &Record) -> Result<Option<Name>, AllocError>
-    ensures { IfOk result (λ name. name ≡ form.server_in owner.now rr.now) }
+fn server_in(alloc: Global, owner: &Name, rr: RecordRef<'_>) -> Result<Option<Name>, AllocError>
+    ensures { IfOk result (λ name. name ≡ form.server_in owner.now rr.entry) }
 {
     if rr.rtype() != rtype::NS || !rr.owner().is_same(owner) {
         return Ok(None);

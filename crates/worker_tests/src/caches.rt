@@ -98,7 +98,7 @@ struct Case {
 }
 
 // RFC 2308, section 5: each may be told for 60 seconds from the second on at which it came.
-static CASES: [Case; 3] = [
+static CASES: [Case; 4] = [
     Case {
         name: "an entry and its life",
         steps: &[
@@ -126,6 +126,26 @@ static CASES: [Case; 3] = [
         ],
     },
     Case {
+        name: "an entry that is asked for often",
+        steps: &[
+            Step::Keep(ABC, 100),
+            Step::Keep(ACB, 100),
+            Step::Keep(BAC, 100),
+            Step::Keep(BCA, 100),
+            Step::Found(ABC, rtype::A, 100),
+            Step::Found(ABC, rtype::A, 101),
+            Step::Found(ABC, rtype::A, 102),
+            Step::Found(ABC, rtype::A, 103),
+            Step::Found(ABC, rtype::A, 104),
+            Step::Found(ABC, rtype::A, 105),
+            Step::Found(ABC, rtype::A, 106),
+            Step::Found(ABC, rtype::A, 107),
+            Step::Keep(CAB, 107),
+            Step::Missing(ACB, rtype::A, 107),
+            Step::Found(ABC, rtype::A, 107),
+        ],
+    },
+    Case {
         name: "more entries than there may be",
         steps: &[
             Step::Keep(ABC, 100),
@@ -149,7 +169,8 @@ fn is_done<C: Keeps<ListLink>>(alloc: Global, cache: &mut C, step: &Step) -> Res
     match step {
         Step::Keep(name, moment) => {
             let entry = learned(alloc, name, 1, *moment)?;
-            Ok(cache.keep(alloc, &entry).is_ok())
+            let asked = question(alloc, name, rtype::A)?;
+            Ok(cache.keep(alloc, &asked, &entry).is_ok())
         }
         Step::Found(name, qtype, now) => is_found(alloc, cache, name, *qtype, *now),
         Step::Missing(name, qtype, now) => Ok(!is_found(alloc, cache, name, *qtype, *now)?),
@@ -205,7 +226,8 @@ fn keeps_there<R: Threads + Wait + Copy + Drop + Send + Sync + 'static>(
     mut hold: Hold<R>,
 ) -> Result<bool, Fail> {
     let entry = learned(alloc, ABC, 1, 100)?;
-    let thread = thread::spawn(&rt, move || hold.keep(alloc, &entry).is_ok())?;
+    let asked = question(alloc, ABC, rtype::A)?;
+    let thread = thread::spawn(&rt, move || hold.keep(alloc, &asked, &entry).is_ok())?;
     Ok(thread.join(&rt))
 }
 
@@ -226,10 +248,46 @@ fn a_worker_reads_what_another_one_kept(rt: HostRuntime) -> Result<(), Fail> {
     read_back(rt, rt.alloc())
 }
 
+// Whether this hold keeps an address while another one keeps it in a thread; it was learned at the second 100.
+fn keep_at_once<R: Threads + Wait + Copy + Drop + Send + Sync + 'static>(
+    rt: R,
+    alloc: Global,
+    own: &mut Hold<R>,
+    mut other: Hold<R>,
+) -> Result<bool, Fail> {
+    let entry = learned(alloc, ABC, 1, 100)?;
+    let same = entry.copied()?;
+    let asked = question(alloc, ABC, rtype::A)?;
+    let asked_too = question(alloc, ABC, rtype::A)?;
+    let thread = thread::spawn(&rt, move || other.keep(alloc, &asked_too, &same).is_ok())?;
+    let kept = own.keep(alloc, &asked, &entry).is_ok();
+    Ok(thread.join(&rt) && kept)
+}
+
+fn kept_at_once<R: Threads + Wait + RandomSource + Abort + Copy + Drop + Send + Sync + 'static>(
+    rt: R,
+    alloc: Global,
+) -> Result<(), Fail> {
+    let cache = common_cache(&rt, alloc)?;
+    let mut own = Shared::new(rt, Arc::try_clone(&cache)?);
+    assert!(rt; keep_at_once(rt, alloc, &mut own, Shared::new(rt, cache))?);
+    assert!(rt; is_found(alloc, &mut own, ABC, rtype::A, 159)?);
+    Ok(())
+}
+
+#[test]
+fn two_workers_keep_one_question_at_once(rt: HostRuntime) -> Result<(), Fail> {
+    for _turn in 0..20 {
+        kept_at_once(rt, rt.alloc())?;
+    }
+    Ok(())
+}
+
 // Whether an answer of so many addresses is there once it was to be kept.
 fn is_kept<R: Wait + RandomSource + Drop>(rt: R, alloc: Global, count: u8) -> Result<bool, Fail> {
     let mut hold = lone_hold(rt, alloc)?;
-    hold.keep(alloc, &learned(alloc, ABC, count, 100)?)?;
+    let asked = question(alloc, ABC, rtype::A)?;
+    hold.keep(alloc, &asked, &learned(alloc, ABC, count, 100)?)?;
     is_found(alloc, &mut hold, ABC, rtype::A, 100)
 }
 

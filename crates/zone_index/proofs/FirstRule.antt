@@ -1,5 +1,5 @@
 -- The rule that comes first of those about several addresses.
-use Rattle.std.proofs.Common.{◌≡◌, ℕ, ◌+◌, ◌<◌, ◌≤◌, Bool, true, false, cond, ◌&&◌, ◌||◌, List, [], ◌∷◌, length, take, get_or, Option, Some, None, option_map, refl, sym, ap, subst, ◌∙◌, arith}
+use Rattle.std.proofs.Common.{◌≡◌, ℕ, ◌+◌, ◌<◌, ◌≤◌, Bool, true, false, cond, ◌&&◌, ◌||◌, List, [], ◌∷◌, ◌++◌, length, Option, Some, None, option_map, refl, sym, ap, subst, ◌∙◌, append_assoc, arith}
 use Rattle.std.specs.List.{find, list_any, AllByRecursion}
 use Rattle.std.specs.List.Sorted.{IsStrictlySortedBy}
 use Rattle.std.specs.BTreeMap.{is_at}
@@ -10,7 +10,7 @@ use Rattle.std.specs.Cmp.{IsTotalOrder}
 use Rattle.std.specs.declared.cmp.Ordering.{Ordering}
 use Rattle.std.specs.declared.cmp.Ordering.TheVariants.{Less}
 use Rattle.std.proofs.Math.Bool.{or-false}
-use Rattle.std.proofs.lemmas.List.{take_more, take_all}
+use Rattle.std.proofs.lemmas.List.{append-nil}
 use Rattle.std.proofs.lemmas.List.Folds.{list_any-append}
 use Rattle.dns_name.specs.Alike.{same_name}
 use Rattle.dns_record.specs.Address.{address_in}
@@ -86,16 +86,15 @@ module _ {K V : Type 0} (order : K → K → Ordering) (total : IsTotalOrder ord
   merged p q [] sorted = refl
   merged p q (e ∷ es) sorted = merged_by e (find p es) (find q es) (find (λ x. p x || q x) es) (p e) (q e) (found_behind e.0 p es sorted.0) (found_behind e.0 q es sorted.0) (merged p q es sorted.1)
 
-pub none_at_first : {V : Type 0} (owner : List (List ℕ)) (records : List PlainRecord) (entries : List (PlainPrefix × V)) → None ≡ key_in (first_about owner (take 0 records) entries)
-none_at_first owner records entries = ap key_in (sym (find_never entries))
+pub none_at_first : {V : Type 0} (owner : List (List ℕ)) (entries : List (PlainPrefix × V)) → None ≡ key_in (first_about owner [] entries)
+none_at_first owner entries = ap key_in (sym (find_never entries))
 
-any_more : (owner : List (List ℕ)) (records : List PlainRecord) (i : ℕ) (r : PlainRecord) (prefix : PlainPrefix) → i < length records
-    → list_any (holds_within prefix owner) (take (i + 1) records) ≡ (list_any (holds_within prefix owner) (take i records) || holds_within prefix owner (get_or records i r))
-any_more owner records i r prefix lt =
+any_more : (owner : List (List ℕ)) (done : List PlainRecord) (r : PlainRecord) (prefix : PlainPrefix)
+    → list_any (holds_within prefix owner) (done ++ r ∷ []) ≡ (list_any (holds_within prefix owner) done || holds_within prefix owner r)
+any_more owner done r prefix =
     let test = holds_within prefix owner in
-    ap (list_any test) (take_more records i r lt)
-    ∙ list_any-append test (take i records) (get_or records i r ∷ [])
-    ∙ ap (λ (b : Bool). list_any test (take i records) || b) (or-false (test (get_or records i r)))
+    list_any-append test done (r ∷ [])
+    ∙ ap (λ (b : Bool). list_any test done || b) (or-false (test r))
 
 chosen : {V : Type 0} (first other : PlainPrefix × V) (b : Bool) → cond b (Some first.0) (Some other.0) ≡ key_in (cond b (Some first) (Some other))
 chosen first other true = refl
@@ -107,19 +106,23 @@ earlier_keys order (Some first) None = refl
 earlier_keys order (Some first) (Some other) = chosen first other (is_lt (order first.0 other.0))
 
 -- one record more
-pub one_more : {V : Type 0} (owner : List (List ℕ)) (records : List PlainRecord) (i : ℕ) (r : PlainRecord) (entries : List (PlainPrefix × V)) (first other next : Option PlainPrefix)
-    → i < length records → IsStrictlySortedBy prefix_order (keys_of entries)
-    → first ≡ key_in (first_about owner (take i records) entries) → other ≡ key_in (find (λ e. holds_within e.0 owner (get_or records i r)) entries) → next ≡ earlier_key prefix_order first other
-    → next ≡ key_in (first_about owner (take (i + 1) records) entries)
-one_more owner records i r entries first other next lt sorted ef eo en =
-    let before = first_about owner (take i records) entries in
-    let one = find (λ e. holds_within e.0 owner (get_or records i r)) entries in
+pub one_more : {V : Type 0} (owner : List (List ℕ)) (done : List PlainRecord) (r : PlainRecord) (entries : List (PlainPrefix × V)) (first other next : Option PlainPrefix)
+    → IsStrictlySortedBy prefix_order (keys_of entries)
+    → first ≡ key_in (first_about owner done entries) → other ≡ key_in (find (λ e. holds_within e.0 owner r) entries) → next ≡ earlier_key prefix_order first other
+    → next ≡ key_in (first_about owner (done ++ r ∷ []) entries)
+one_more owner done r entries first other next sorted ef eo en =
+    let before = first_about owner done entries in
+    let one = find (λ e. holds_within e.0 owner r) entries in
     en
     ∙ ap (λ (x : Option PlainPrefix). earlier_key prefix_order x other) ef
     ∙ ap (earlier_key prefix_order (key_in before)) eo
     ∙ earlier_keys prefix_order before one
-    ∙ ap key_in (sym (merged prefix_order prefix_order_total (λ e. list_any (holds_within e.0 owner) (take i records)) (λ e. holds_within e.0 owner (get_or records i r)) entries sorted))
-    ∙ ap key_in (sym (find_same _ _ entries (λ e. any_more owner records i r e.0 lt)))
+    ∙ ap key_in (sym (merged prefix_order prefix_order_total (λ e. list_any (holds_within e.0 owner) done) (λ e. holds_within e.0 owner r) entries sorted))
+    ∙ ap key_in (sym (find_same _ _ entries (λ e. any_more owner done r e.0)))
+
+-- one record more is done, and one less is left
+pub goes_on : (done left all : List PlainRecord) (r : PlainRecord) (rest : List PlainRecord) → done ++ left ≡ all → left ≡ r ∷ rest → (done ++ r ∷ []) ++ rest ≡ all
+goes_on done left all r rest e h = append_assoc done (r ∷ []) rest ∙ ap (λ (l : List PlainRecord). done ++ l) (sym h) ∙ e
 
 -- without entries nothing is found
 pub none_in_empty : {V : Type 0} (owner : List (List ℕ)) (records : List PlainRecord) (entries : List (PlainPrefix × V)) → length entries ≡ 0 → None ≡ first_about owner records entries
@@ -127,9 +130,11 @@ none_in_empty owner records [] empty = refl
 none_in_empty owner records (e ∷ es) empty = absurd (omega arith)
 
 -- all of them
-pub all_taken : {V : Type 0} (owner : List (List ℕ)) (records : List PlainRecord) (i : ℕ) (entries : List (PlainPrefix × V)) (first : Option PlainPrefix) → length records ≤ i
-    → first ≡ key_in (first_about owner (take i records) entries) → first ≡ key_in (first_about owner records entries)
-all_taken owner records i entries first le e = e ∙ ap (λ (rs : List PlainRecord). key_in (first_about owner rs entries)) (take_all i records le)
+pub all_done : {V : Type 0} (owner : List (List ℕ)) (done left records : List PlainRecord) (entries : List (PlainPrefix × V)) (first : Option PlainPrefix) → done ++ left ≡ records → left ≡ []
+    → first ≡ key_in (first_about owner done entries) → first ≡ key_in (first_about owner records entries)
+all_done owner done left records entries first e none is =
+    let whole : done ≡ records = sym (append-nil done) ∙ ap (λ (l : List PlainRecord). done ++ l) (sym none) ∙ e in
+    is ∙ ap (λ (rs : List PlainRecord). key_in (first_about owner rs entries)) whole
 
 some_same : {X : Type 0} (x e : X) → Some x ≡ Some e → x ≡ e
 some_same x e h = cc h

@@ -11,8 +11,9 @@ ghost use Rattle.zone_index.specs.Addresses.{first_about as first_of, holds_with
 ghost use Rattle.zone_index.specs.Earlier.{earlier_key};
 
 use action_codec::Action;
+use dns_message::RecordRefs;
 use dns_name::Name;
-use dns_record::Record;
+use dns_record::RecordRef;
 use ip_prefix::{Addr, Prefix};
 use prefix_index::PrefixMap;
 use std::cmp::Ordering;
@@ -22,7 +23,7 @@ use std::cmp::Ordering;
 pub(crate) fn first_prefix(
     rules: &PrefixMap<Action>,
     owner: &Name,
-    records: &[Record],
+    records: &RecordRefs<'_>,
 ) -> Option<Prefix>
     ensures prefix { result ≡ option_map (λ e. e.0) (first_of owner.now records.now rules.now) }
     ensures sorted { IsStrictlySortedBy prefix_order (keys_of rules.now) }
@@ -30,7 +31,7 @@ pub(crate) fn first_prefix(
     // called for its clause: the rules stand in order
     let _count = rules.len();
     let mut first = None;
-    for rr in records {
+    for rr in records.iter() {
         first = earlier(first, about_record(rules, owner, rr));
     }
     first
@@ -39,9 +40,9 @@ pub(crate) fn first_prefix(
 // The prefix of the rule that comes first of those whose prefix contains the address that the record holds for the
 // name.
 #[tactic(auto, using(crate::proofs::FirstRule::by_address))]
-fn about_record(rules: &PrefixMap<Action>, owner: &Name, rr: &Record) -> Option<Prefix>
+fn about_record(rules: &PrefixMap<Action>, owner: &Name, rr: RecordRef<'_>) -> Option<Prefix>
     ensures { result
-        ≡ option_map (λ e. e.0) (find (λ e. holds_within e.0 owner.now rr.now) rules.now) }
+        ≡ option_map (λ e. e.0) (find (λ e. holds_within e.0 owner.now rr.entry) rules.now) }
 {
     if !rr.owner().is_same(owner) {
         return None;
@@ -83,7 +84,7 @@ fn earlier(first: Option<Prefix>, other: Option<Prefix>) -> Option<Prefix>
 pub(crate) fn first_about<'a>(
     rules: &'a PrefixMap<Action>,
     owner: &Name,
-    records: &[Record],
+    records: &RecordRefs<'_>,
 ) -> Option<(Prefix, &'a Action)>
     ensures { option_map (λ e. (e.0, e.1.now)) result ≡ first_of owner.now records.now rules.now }
 {

@@ -16,8 +16,9 @@ use crate::by_kind::ByKind;
 use crate::groups::Groups;
 use crate::kinds::{name_rules, prefix_rules};
 use action_codec::Action;
+use dns_message::RecordRefs;
 use dns_name::{Name, Pattern};
-use dns_record::{Record, Row};
+use dns_record::Row;
 use ip_prefix::{Addr, Prefix};
 use prefix_index::PrefixMap;
 use qname_index::NameMap;
@@ -110,7 +111,7 @@ impl Rules {
 
     /// The rule that comes first of those about an answer: its prefix contains some address that the records hold
     /// for the name. Its time is linear in the number of records.
-    pub fn response_ip(&self, owner: &Name, records: &[Record]) -> Option<(Prefix, &Action)>
+    pub fn response_ip(&self, owner: &Name, records: &RecordRefs<'_>) -> Option<(Prefix, &Action)>
         ensures { option_map (λ e. (e.0, e.1.now)) result
             ≡ first_of owner.now records.now self.now.response_ip }
     {

@@ -1,6 +1,12 @@
-use Rattle.std.proofs.Common.{take}
-use Rattle.dns_message.proofs.Lasting.{fits}
+use Rattle.std.proofs.Common.{take, ◌∙◌}
+use Rattle.std.proofs.lemmas.List.{take_all}
+use Rattle.dns_message.proofs.InPlace.{written_are, written_so}
 use Rattle.dns_message.proofs.written.WrittenRecords.of.Goals as goal
 
 pub invariant_of-result : goal.invariant_of-result
-invariant_of-result c = fits (take c.loop-rr.rr-index c.args.records.now) _ _ c.loop-rr.invariant.0 c.loop-rr.invariant.1
+invariant_of-result c = written_so _ _ (take c.loop-rr.rr-index c.args.records.now) c.loop-rr.invariant.2 c.loop-rr.invariant.0 c.loop-rr.invariant.1
+
+pub returns : goal.returns
+returns c =
+    written_are c.loop-rr.octets c.loop-rr.places.items (take c.loop-rr.rr-index c.args.records.now) (record { are_records = c.loop-rr.invariant.2; octets_are = c.loop-rr.invariant.0; places_are = c.loop-rr.invariant.1 })
+    ∙ take_all c.loop-rr.rr-index c.args.records.now c.loop-rr-test.false

@@ -1,6 +1,6 @@
 use Rattle.dns_message.proofs.Begins.{begins_on}
 use Rattle.dns_message.proofs.Lasting.{aged_step, has_room, none_left}
-use Rattle.dns_message.proofs.written.write_rest.Goals as goal
+use Rattle.dns_message.proofs.record_refs.write_rest.Goals as goal
 
 pub loop-number-preserved : goal.loop-number-preserved
 loop-number-preserved c =

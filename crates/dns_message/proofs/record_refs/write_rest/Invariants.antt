@@ -1,6 +1,6 @@
 use Rattle.std.proofs.Common.{◌≡◌, ◌+◌, ◌≤◌, ◌++◌, length, take, drop}
 use Rattle.dns_message.specs.Written.{front_of, rest_aged, span}
-use Rattle.dns_message.proofs.written.write_rest.Given as goal
+use Rattle.dns_message.proofs.record_refs.write_rest.Given as goal
 
 abbrev pub invariant-loop-number : goal.invariant-loop-number
 invariant-loop-number l =
