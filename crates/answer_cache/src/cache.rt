@@ -76,7 +76,23 @@ impl<L: Link, S: BuildHasher + Drop> AnswerCache<L, S> {
         self.look_up(key.as_slice(), question, now)
     }
 
-    // The same by the key of the question, which is made before a lock is taken. It takes no memory.
+    // The same by the key of the question, which is made before a lock is taken, and no entry moves. It takes no memory.
+    pub(crate) fn look_at(
+        &self,
+        key: &[u8],
+        question: &Question,
+        now: u32,
+    ) -> Result<Option<Learned<L>>, AllocError>
+        requires { key.now ≡ key_of question.now }
+        ensures found { IfOk result
+            (λ entry. entry ≡ live_entry question.now now self.now.entries) }
+        ensures serves { IfOk result (λ entry. IfSome entry (Serves question.now now)) }
+    {
+        let _ = question;
+        copied_if_live(self.entries.peek(key), now)
+    }
+
+    // The same, and an entry about the question goes first, live or not.
     pub(crate) fn look_up(
         &mut self,
         key: &[u8],
@@ -91,8 +107,7 @@ impl<L: Link, S: BuildHasher + Drop> AnswerCache<L, S> {
             (self.new ≡ recent (after_look_up question.now self.old.entries) self.old.limit) }
         ensures err { OnErr result (self.new ≡ self.old) }
     {
-        let _ = question;
-        let entry = copied_if_live(self.entries.peek(key), now)?;
+        let entry = self.look_at(key, question, now)?;
         self.entries.promote(key);
         Ok(entry)
     }

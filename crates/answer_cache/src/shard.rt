@@ -49,10 +49,16 @@ fn octet_sum(octets: &[u8]) -> u32
     total
 }
 
+// An entry that is looked up goes first at every eighth look-up of its shard alone. To move an entry writes to three others, which
+// other threads then have to fetch anew; one that is asked for often goes first all the same.
+const MOVES_EVERY: u8 = 8;
+
 /// The shard of the number `N`: what was learned of questions that belong there. Contracts see a cache.
 #[derive(Drop)]
 pub(crate) struct Shard<L: Link, const N: u8> {
     cache: AnswerCache<L, RandomState>,
+    // How many look-ups there were; it wraps.
+    look_ups: u8,
 }
 
 impl<L: Link, const N: u8> Model for Shard<L, N> {
@@ -79,6 +85,7 @@ impl<L: Link, const N: u8> Shard<L, N> {
     {
         Ok(Shard {
             cache: AnswerCache::open(alloc, entries, hashers)?,
+            look_ups: 0,
         })
     }
 
@@ -92,7 +99,12 @@ impl<L: Link, const N: u8> Shard<L, N> {
         requires { key.now ≡ key_of question.now }
         ensures serves { IfOk result (λ entry. IfSome entry (Serves question.now now)) }
     {
-        self.cache.look_up(key, question, now)
+        self.look_ups = self.look_ups.wrapping_add(1);
+        if self.look_ups % MOVES_EVERY == 0 {
+            self.cache.look_up(key, question, now)
+        } else {
+            self.cache.look_at(key, question, now)
+        }
     }
 
     /// Puts what was learned first, under its key. That it belongs here is a condition.
