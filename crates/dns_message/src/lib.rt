@@ -23,10 +23,13 @@ pub use header::Header;
 pub use limit::{GREATEST_LIMIT, LEAST_LIMIT, reply_limit};
 pub use message::Message;
 pub use question::Question;
-pub use reading::read_message;
+pub use reading::{read_header, read_message};
 pub use record_refs::RecordRefs;
 pub use request::{Incoming, Query};
-pub use triage::{classify, speaks};
+pub use triage::{
+    FORMAT_ERROR, NO_ERROR, NOT_IMPLEMENTED, REFUSED, classify, has_later_version,
+    read_query_parts, refusal, speaks,
+};
 pub use writing::{
     finish_message, write_aged_records, write_message, write_parts, write_records, write_start,
 };

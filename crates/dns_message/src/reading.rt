@@ -51,9 +51,9 @@ fn read_sections(alloc: Global, bytes: &[u8]) -> Result<Message, MessageError>
     })
 }
 
-// What the header says, but for its counts.
+/// What the header of a message of at least 12 bytes says, but for its counts (RFC 1035, section 4.1.1).
 #[tactic(auto, unfolding(crate::specs::Reading::header_in))]
-pub(crate) fn read_header(bytes: &[u8]) -> Header
+pub fn read_header(bytes: &[u8]) -> Header
     requires { 12 ≤ length bytes.now }
     ensures { result ≡ header_in bytes.now }
 {

@@ -16,16 +16,16 @@ use ip_prefix::{Addr, Transport};
 use std::alloc::{AllocError, Global};
 
 /// The lower 4 bits of a response code that the header alone doesn't tell (RFC 6891, section 6.1.3).
-const NO_ERROR: u8 = 0;
+pub const NO_ERROR: u8 = 0;
 
 /// The response code of a request that is not well formed (RFC 1035, section 4.1.1; RFC 6895, section 2.3).
-const FORMAT_ERROR: u8 = 1;
+pub const FORMAT_ERROR: u8 = 1;
 
 /// The response code of a request whose opcode is not implemented.
-const NOT_IMPLEMENTED: u8 = 4;
+pub const NOT_IMPLEMENTED: u8 = 4;
 
 /// The response code of a request that is refused.
-const REFUSED: u8 = 5;
+pub const REFUSED: u8 = 5;
 
 /// Whether the bytes are answered at all: there are at least 12, and QR is 0 (RFC 1035, section 4.1.1).
 #[tactic(auto, unfolding(crate::specs::Reading::header_in))]
@@ -66,7 +66,7 @@ pub fn classify(
     if header.opcode != 0 {
         return Ok(Incoming::Refuse(refusal(alloc, NOT_IMPLEMENTED, &header, None, None)));
     }
-    match read_asked(alloc, bytes)? {
+    match read_query_parts(alloc, bytes)? {
         None => Ok(Incoming::Refuse(refusal(alloc, FORMAT_ERROR, &header, None, None))),
         Some((question, edns)) => Ok(query_or_refusal(
             alloc, &header, question, edns, client, transport,
@@ -74,8 +74,12 @@ pub fn classify(
     }
 }
 
-// What a well formed request asks and what its OPT record says, or none if it is not well formed.
-fn read_asked(alloc: Global, bytes: &[u8]) -> Result<Option<(Question, Option<Edns>)>, AllocError>
+/// What a well formed request asks and what its OPT record says, or none where the bytes are no message, or one without a
+/// question.
+pub fn read_query_parts(
+    alloc: Global,
+    bytes: &[u8],
+) -> Result<Option<(Question, Option<Edns>)>, AllocError>
     ensures { IfOk result (λ asked. asked ≡ query_parts_in (message_of bytes.now)) }
 {
     match read_message(alloc, bytes) {
@@ -132,8 +136,8 @@ fn query_or_refusal(
     })
 }
 
-// Whether the request has an OPT record of a version that isn't served.
-fn has_later_version(edns: Option<Edns>) -> bool
+/// Whether the request has an OPT record of a version that isn't served (RFC 6891, section 6.1.3).
+pub fn has_later_version(edns: Option<Edns>) -> bool
     ensures { result ≡ later_version edns }
 {
     match edns {
@@ -151,8 +155,9 @@ fn is_served(header: &Header, question: &Question) -> bool
         && header.rd
 }
 
-// The refusal of a request of this header, with a question or none. It takes no memory.
-fn refusal(
+/// A reply without records to a request of this header, with a question or none: it has the ID, the opcode and RD of the request;
+/// QR and RA are 1, AA and TC 0. It takes no memory.
+pub fn refusal(
     alloc: Global,
     rcode: u8,
     header: &Header,

@@ -21,6 +21,10 @@ fn laws_do_nothing() {
     query_session::laws::a_reply_stands();
     query_session::laws::at_most_128_facts_bring_a_reply();
     query_session::laws::a_failure_has_a_cause();
+    notify_poll::laws::only_its_primary_brings_a_zone_forward();
+    notify_poll::laws::a_zone_has_its_own_timer();
+    notify_poll::laws::the_last_event_says_when_a_zone_is_due();
+    notify_poll::laws::a_notify_waits_for_the_end_of_a_poll();
     script_codec::laws::a_line_is_within_its_state();
     rpz_core::laws::an_event_is_refused_by_its_state();
     rpz_core::laws::an_event_has_one_output();

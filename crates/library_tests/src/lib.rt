@@ -22,6 +22,8 @@ mod load_runs;
 #[cfg(test)]
 mod names;
 #[cfg(test)]
+mod polls;
+#[cfg(test)]
 mod prefixes;
 #[cfg(test)]
 mod records;
