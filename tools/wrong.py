@@ -4,8 +4,8 @@
     python3 tools/wrong.py [NAME ..] [--keep FOLDER]
 
 NAME is a crate; without names, all that have a folder crates/NAME/wrong/. The edits there have the form of those in must-fail/. They
-are tried by `rt ci` in a clone of the last commit, in a folder that is removed behind it, unless --keep names a clone, which is brought
-up to that commit and stays. What earlier runs on this machine have proved and tried, over the same files, isn't done again. Ends with
+are tried by `rt must-fail` in a clone of the last commit, in a folder that is removed behind it, unless --keep names a clone, which is
+brought up to that commit and stays, with the libraries that were built there. The libraries below are proved and built first. Ends with
 status 1 where an edit is proved, can't be applied, or wasn't tried, and prints what became of each.
 
 Run it for a crate whose contracts or bodies change, and write the day into docs/PROOFS.md.
@@ -48,7 +48,7 @@ def put_edits(folder, names):
 def try_all(folder, names):
     """Tries the edits of the crates, and prints what became of each."""
     edits = put_edits(folder, names)
-    process = subprocess.Popen(["rt", "ci", *names], cwd=folder, stdout=subprocess.PIPE, stderr=subprocess.STDOUT, text=True)
+    process = subprocess.Popen(["rt", "must-fail", *names], cwd=folder, stdout=subprocess.PIPE, stderr=subprocess.STDOUT, text=True)
     refused = set()
     for line in process.stdout:
         tried = re.search(r"must-fail (\S+\.edit): (.*)", line)
