@@ -1,11 +1,13 @@
 //! A cache of what was learned, and what a look-up finds at a given second.
 
-use crate::links::{learned, question};
+use crate::links::{RESPONSE, question};
 use answer_cache::AnswerCache;
+use dns_name::Octets;
 use edge_io::ListLink;
 use std::alloc::Global;
 use std::hash::{BuildHasherDefault, FoldHasher};
 use std::test::Fail;
+use upstream_link::Learned;
 
 type Cache = AnswerCache<ListLink, BuildHasherDefault<FoldHasher>>;
 
@@ -19,7 +21,10 @@ fn is_found(alloc: Global, cache: &mut Cache, qtype: u16, now: u32) -> Result<bo
 // A cache with room for an entry, which has the one of the question about type 1.
 fn filled(alloc: Global) -> Result<Cache, Fail> {
     let mut cache = AnswerCache::open(alloc, 1, BuildHasherDefault::new())?;
-    cache.keep(alloc, &question(alloc)?, learned(alloc)?)?;
+    let asked = question(alloc)?;
+    let bytes = Octets::from_slice(alloc, RESPONSE)?;
+    let entry = Learned::given(alloc, 7, &asked, &bytes, 100)?;
+    cache.keep(alloc, &asked, entry)?;
     Ok(cache)
 }
 

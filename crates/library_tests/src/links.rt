@@ -7,8 +7,8 @@ use std::alloc::Global;
 use std::test::Fail;
 use upstream_link::{AskOutcome, Fact, Learned, ask};
 
-// The response to the question (x.example, A, IN) in a message of the ID 7: x.example 60 A 192.0.2.9 (RFC 1035, section 4.1).
-const RESPONSE: &[u8] =
+/// The response to the question (x.example, A, IN) in a message of the ID 7: x.example 60 A 192.0.2.9 (RFC 1035, section 4.1).
+pub const RESPONSE: &[u8] =
     b"\0\x07\x81\x80\0\x01\0\x01\0\0\0\0\x01x\x07example\0\0\x01\0\x01\x01x\x07example\0\0\x01\0\x01\0\0\0\x3c\0\x04\xc0\0\x02\x09";
 
 /// A question for the address of `x.example`.
@@ -37,8 +37,8 @@ fn asked(alloc: Global, link: &mut ListLink) -> Result<Option<Learned<ListLink>>
     }
 }
 
-/// What is learned of the question at the second 100, for 60 seconds.
-pub fn learned(alloc: Global) -> Result<Learned<ListLink>, Fail> {
+// What is learned of the question at the second 100, for 60 seconds.
+fn learned(alloc: Global) -> Result<Learned<ListLink>, Fail> {
     match asked(alloc, &mut link(alloc, 1, 9)?)? {
         Some(learned) => Ok(learned),
         None => Err("something is learned".into()),

@@ -1,5 +1,7 @@
 //! What a worker's own cache and one that workers share give at a second, for names that all belong to one shard.
 
+ghost use Rattle.std.specs.Prelude.{◌≡◌, IfOk};
+
 use crate::workers::{Hold, common_cache, lone_hold, own_cache};
 use answer_cache::{Keeps, Shared, shard_number};
 use dns_message::Question;
@@ -61,11 +63,17 @@ fn response(alloc: Global, name: &Name, count: u8) -> Result<Octets, AllocError>
     Ok(out)
 }
 
-// What was learned at a second of so many addresses of a name.
-fn learned(alloc: Global, name: &[u8], count: u8, moment: u32) -> Result<Learned<ListLink>, Fail> {
-    let asked = question(alloc, name, rtype::A)?;
+// What was learned at a second of so many addresses of the name in a question.
+fn learned(
+    alloc: Global,
+    asked: &Question,
+    count: u8,
+    moment: u32,
+) -> Result<Learned<ListLink>, Fail>
+    ensures { IfOk result (λ learned. learned.question ≡ asked.now) }
+{
     let bytes = response(alloc, &asked.name, count)?;
-    Ok(Learned::given(alloc, 7, &asked, &bytes, moment)?)
+    Ok(Learned::given(alloc, 7, asked, &bytes, moment)?)
 }
 
 // Whether a look-up at a second finds something.
@@ -168,8 +176,8 @@ static CASES: [Case; 4] = [
 fn is_done<C: Keeps<ListLink>>(alloc: Global, cache: &mut C, step: &Step) -> Result<bool, Fail> {
     match step {
         Step::Keep(name, moment) => {
-            let entry = learned(alloc, name, 1, *moment)?;
             let asked = question(alloc, name, rtype::A)?;
+            let entry = learned(alloc, &asked, 1, *moment)?;
             Ok(cache.keep(alloc, &asked, &entry).is_ok())
         }
         Step::Found(name, qtype, now) => is_found(alloc, cache, name, *qtype, *now),
@@ -219,15 +227,28 @@ fn questions_belong_to_shards(rt: HostRuntime) -> Result<(), Fail> {
     Ok(())
 }
 
-// Whether a thread of its own could keep an address that was learned at the second 100.
+// Whether a hold could keep what these bytes say of the question, which came at the second 100.
+fn keeps<R: Wait + Drop>(
+    alloc: Global,
+    hold: &mut Hold<R>,
+    asked: &Question,
+    bytes: &Octets,
+) -> bool {
+    match Learned::given(alloc, 7, asked, bytes, 100) {
+        Ok(entry) => hold.keep(alloc, asked, &entry).is_ok(),
+        Err(_) => false,
+    }
+}
+
+// Whether a thread of its own could keep an address.
 fn keeps_there<R: Threads + Wait + Copy + Drop + Send + Sync + 'static>(
     rt: R,
     alloc: Global,
     mut hold: Hold<R>,
 ) -> Result<bool, Fail> {
-    let entry = learned(alloc, ABC, 1, 100)?;
     let asked = question(alloc, ABC, rtype::A)?;
-    let thread = thread::spawn(&rt, move || hold.keep(alloc, &asked, &entry).is_ok())?;
+    let bytes = response(alloc, &asked.name, 1)?;
+    let thread = thread::spawn(&rt, move || keeps(alloc, &mut hold, &asked, &bytes))?;
     Ok(thread.join(&rt))
 }
 
@@ -248,19 +269,19 @@ fn a_worker_reads_what_another_one_kept(rt: HostRuntime) -> Result<(), Fail> {
     read_back(rt, rt.alloc())
 }
 
-// Whether this hold keeps an address while another one keeps it in a thread; it was learned at the second 100.
+// Whether this hold keeps an address while another one keeps it in a thread.
 fn keep_at_once<R: Threads + Wait + Copy + Drop + Send + Sync + 'static>(
     rt: R,
     alloc: Global,
     own: &mut Hold<R>,
     mut other: Hold<R>,
 ) -> Result<bool, Fail> {
-    let entry = learned(alloc, ABC, 1, 100)?;
-    let same = entry.copied()?;
     let asked = question(alloc, ABC, rtype::A)?;
-    let asked_too = question(alloc, ABC, rtype::A)?;
-    let thread = thread::spawn(&rt, move || other.keep(alloc, &asked_too, &same).is_ok())?;
-    let kept = own.keep(alloc, &asked, &entry).is_ok();
+    let bytes = response(alloc, &asked.name, 1)?;
+    let same = question(alloc, ABC, rtype::A)?;
+    let same_bytes = response(alloc, &same.name, 1)?;
+    let thread = thread::spawn(&rt, move || keeps(alloc, &mut other, &same, &same_bytes))?;
+    let kept = keeps(alloc, own, &asked, &bytes);
     Ok(thread.join(&rt) && kept)
 }
 
@@ -287,7 +308,8 @@ fn two_workers_keep_one_question_at_once(rt: HostRuntime) -> Result<(), Fail> {
 fn is_kept<R: Wait + RandomSource + Drop>(rt: R, alloc: Global, count: u8) -> Result<bool, Fail> {
     let mut hold = lone_hold(rt, alloc)?;
     let asked = question(alloc, ABC, rtype::A)?;
-    hold.keep(alloc, &asked, &learned(alloc, ABC, count, 100)?)?;
+    let entry = learned(alloc, &asked, count, 100)?;
+    hold.keep(alloc, &asked, &entry)?;
     is_found(alloc, &mut hold, ABC, rtype::A, 100)
 }
 
