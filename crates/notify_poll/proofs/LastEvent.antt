@@ -5,8 +5,8 @@ use Rattle.ip_prefix.specs.declared.Addr.{Addr}
 use Rattle.notify_poll.specs.History.{PollEvent, Notice, Begin, End, is_at_once, moment_after, retry_after, timer_after}
 use Rattle.notify_poll.specs.Timers.{first_timer, next_stage, noted_stage, pause}
 use Rattle.notify_poll.specs.declared.timer.Polling.TheVariants.{Done, Faulty}
-use Rattle.notify_poll.specs.declared.timer.Stage.{Stage}
-use Rattle.notify_poll.specs.declared.timer.Stage.TheVariants.{Waits}
+use Rattle.notify_poll.specs.declared.timer.TimerStage.{TimerStage}
+use Rattle.notify_poll.specs.declared.timer.TimerStage.TheVariants.{Waits}
 
 pub retry_is : (start : ℕ) (primary : Option Addr) (events : List PollEvent) → (timer_after (first_timer start primary) events).retry ≡ retry_after events
 retry_is start primary [] = refl
@@ -30,4 +30,4 @@ stage_is start primary (End place (Done refresh retry) second ∷ earlier) at_on
     ap (next_stage (second + pause refresh)) (stage_is start primary earlier at_once)
 stage_is start primary (End place Faulty second ∷ earlier) at_once =
     ap (next_stage (second + pause (timer_after (first_timer start primary) earlier).retry)) (stage_is start primary earlier at_once)
-    ∙ ap (λ retry. let s : Stage = Waits (second + pause retry) in s) (retry_is start primary earlier)
+    ∙ ap (λ retry. let s : TimerStage = Waits (second + pause retry) in s) (retry_is start primary earlier)

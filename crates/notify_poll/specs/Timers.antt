@@ -4,8 +4,8 @@ use Rattle.std.specs.Option.{option_map}
 use Rattle.ip_prefix.specs.declared.Addr.{Addr}
 use Rattle.notify_poll.specs.declared.timer.Polling.{Polling}
 use Rattle.notify_poll.specs.declared.timer.Polling.TheVariants.{Done, Faulty}
-use Rattle.notify_poll.specs.declared.timer.Stage.{Stage}
-use Rattle.notify_poll.specs.declared.timer.Stage.TheVariants.{Waits, UnderWay}
+use Rattle.notify_poll.specs.declared.timer.TimerStage.{TimerStage}
+use Rattle.notify_poll.specs.declared.timer.TimerStage.TheVariants.{Waits, UnderWay}
 use Rattle.notify_poll.specs.declared.timer.Timer.{Timer}
 use Rattle.notify_poll.specs.declared.timer.TheConstants.{FIRST_RETRY, LEAST_PAUSE}
 
@@ -18,7 +18,7 @@ abbrev pub first_timers : List (Option Addr) → ℕ → List Timer
 first_timers primaries second = map (first_timer second) primaries
 
 -- No poll of the zone is under way, and its moment has come.
-abbrev pub is_due_stage : ℕ → Stage → Bool
+abbrev pub is_due_stage : ℕ → TimerStage → Bool
 is_due_stage second (Waits from) = nat_le from second
 is_due_stage second (UnderWay again) = false
 
@@ -29,11 +29,11 @@ is_due second timer = is_due_stage second timer.stage
 abbrev pub due_zone : List Timer → ℕ → Option ℕ
 due_zone timers second = option_map (λ place. place + 1) (position (is_due second) timers)
 
-abbrev pub with_stage : Timer → Stage → Timer
+abbrev pub with_stage : Timer → TimerStage → Timer
 with_stage timer stage = record { primary = timer.primary; stage = stage; retry = timer.retry }
 
 -- A NOTIFY of the zone is accepted: the zone is due. While a poll is under way it waits for its end (RFC 1996, section 4.4).
-abbrev pub noted_stage : ℕ → Stage → Stage
+abbrev pub noted_stage : ℕ → TimerStage → TimerStage
 noted_stage second (Waits from) = Waits second
 noted_stage second (UnderWay again) = UnderWay (Some second)
 
@@ -46,7 +46,7 @@ begun timer = with_stage timer (UnderWay None)
 
 -- A poll of the zone ends, and the next one is at this second, or at that of a NOTIFY that was accepted while the poll was under
 -- way.
-abbrev pub next_stage : ℕ → Stage → Stage
+abbrev pub next_stage : ℕ → TimerStage → TimerStage
 next_stage from (UnderWay (Some noted)) = Waits noted
 next_stage from (UnderWay None) = Waits from
 next_stage from (Waits before) = Waits from

@@ -9,7 +9,7 @@ ghost use Rattle.notify_poll.specs.History.{IsNotifyOf, PollEvent, about, is_at_
 ghost use Rattle.notify_poll.specs.Notifying.{answer_to, brought_forward};
 ghost use Rattle.notify_poll.specs.Timers.{after_poll, begun, first_timer, is_due, noted};
 ghost use Rattle.notify_poll.specs.declared.timer.Polling.{Polling};
-ghost use Rattle.notify_poll.specs.declared.timer.Stage.TheVariants.{Waits};
+ghost use Rattle.notify_poll.specs.declared.timer.TimerStage.TheVariants.{Waits};
 ghost use Rattle.notify_poll.specs.declared.timer.Timer.{Timer};
 
 /// No message brings a zone forward but a NOTIFY for the SOA record of its origin, from its own primary; and it leaves the timers of

@@ -8,4 +8,4 @@ mod timer;
 
 pub use notifying::{NOTIFY, Notified};
 pub use poll_core::PollCore;
-pub use timer::{FIRST_RETRY, LEAST_PAUSE, Polling, Stage, Timer};
+pub use timer::{FIRST_RETRY, LEAST_PAUSE, Polling, Timer, TimerStage};

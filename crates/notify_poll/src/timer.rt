@@ -23,7 +23,7 @@ pub enum Polling {
 
 /// Where a zone stands between two polls.
 #[derive(Clone, Copy, Debug, PartialEq, Eq)]
-pub enum Stage {
+pub enum TimerStage {
     /// It is polled from this second on.
     Waits { from: u64 },
     /// A poll of it is under way. Where a NOTIFY was accepted since that began, it is polled again from that second on.
@@ -35,7 +35,7 @@ pub enum Stage {
 pub struct Timer {
     /// The zone's primary.
     pub primary: Option<Addr>,
-    pub stage: Stage,
+    pub stage: TimerStage,
     /// The pause behind a poll that failed, in seconds: that of the zone's last SOA record.
     pub retry: u32,
 }
@@ -47,7 +47,7 @@ impl Timer {
     {
         Timer {
             primary,
-            stage: Stage::Waits {
+            stage: TimerStage::Waits {
                 from: u64::from(now),
             },
             retry: FIRST_RETRY,
@@ -59,8 +59,8 @@ impl Timer {
         ensures { result ≡ due now self.now }
     {
         match self.stage {
-            Stage::Waits { from } => from <= u64::from(now),
-            Stage::UnderWay { again: _ } => false,
+            TimerStage::Waits { from } => from <= u64::from(now),
+            TimerStage::UnderWay { again: _ } => false,
         }
     }
 
@@ -69,10 +69,10 @@ impl Timer {
         ensures { result ≡ noted_at now self }
     {
         let stage = match self.stage {
-            Stage::Waits { from: _ } => Stage::Waits {
+            TimerStage::Waits { from: _ } => TimerStage::Waits {
                 from: u64::from(now),
             },
-            Stage::UnderWay { again: _ } => Stage::UnderWay {
+            TimerStage::UnderWay { again: _ } => TimerStage::UnderWay {
                 again: Some(u64::from(now)),
             },
         };
@@ -84,7 +84,7 @@ impl Timer {
         ensures { result ≡ is_begun self }
     {
         Timer {
-            stage: Stage::UnderWay { again: None },
+            stage: TimerStage::UnderWay { again: None },
             ..self
         }
     }
@@ -109,12 +109,14 @@ impl Timer {
 }
 
 // The stage behind a poll, where the next one is at this second, unless a NOTIFY came meanwhile.
-fn behind(stage: Stage, from: u64) -> Stage
+fn behind(stage: TimerStage, from: u64) -> TimerStage
     ensures { result ≡ stage_behind from stage }
 {
     match stage {
-        Stage::UnderWay { again: Some(noted) } => Stage::Waits { from: noted },
-        Stage::UnderWay { again: None } | Stage::Waits { from: _ } => Stage::Waits { from },
+        TimerStage::UnderWay { again: Some(noted) } => TimerStage::Waits { from: noted },
+        TimerStage::UnderWay { again: None } | TimerStage::Waits { from: _ } => TimerStage::Waits {
+            from,
+        },
     }
 }
 
