@@ -1,13 +1,13 @@
 """Steps of scenarios, as text, and the lines of scripts and transcripts that they stand for. It knows no rule of policy.
 
 scenarios/README says what a step may be. `Reader` turns steps into lines; `Shower` turns lines into steps. Both keep what
-later lines leave unsaid: the zones, and for each worker its query and what was asked upstream.
+later lines leave unsaid: the zones, for each worker its query and what was asked upstream, and the last NOTIFY.
 """
 import ipaddress
 import re
 from dataclasses import replace
 
-from dns_text import FLAGS, Message, Refused, decode, encode, name_of, rcode_of, text_of_name, text_of_rcode
+from dns_text import FLAGS, Message, Question, Refused, decode, encode, name_of, rcode_of, text_of_name, text_of_rcode
 from message_text import (
     digits_of, octets_of, read_sections, read_words, shown, take, take_number, take_question, text_of_question,
 )
@@ -15,7 +15,9 @@ from transfer_text import streams_of, text_of_stream
 
 RANGE = re.compile(r"\{(\d+)\.\.(\d+)\}")
 ZONE_OUTPUTS = ("taken", "current", "refused")
-OUTPUTS = (*ZONE_OUTPUTS, "ask", "reply", "silent")
+NOTIFY_OUTPUTS = ("notified", "hush")
+OUTPUTS = (*ZONE_OUTPUTS, *NOTIFY_OUTPUTS, "due", "ask", "reply", "silent")
+NOTIFY, SOA = 4, 6  # an opcode, a type of records
 
 
 # ---- what a worker waits with
@@ -56,6 +58,7 @@ class Reader:
     def __init__(self, captures):
         self.captures, self.zones, self.workers = captures, [], {}
         self.offered = 1  # the zone of the last transfer
+        self.notifier = Worker()  # what the last NOTIFY is answered like
 
     def worker(self, number):
         return self.workers.setdefault(number, Worker())
@@ -85,6 +88,12 @@ class Reader:
         if kind == "transfer":
             self.offered, name = self.zone(words.pop(0))
             return [f"xfer {self.offered} {digits_of(one)}\n".encode() for one in streams_of(words, name, block, self.captures)]
+        if kind == "primary":
+            return [f"primary {self.zone(words[0])[0]} {script_address(words[1])}\n".encode()]
+        if kind == "notify":
+            return [self.notify(words, block)]
+        if kind == "due":
+            return [b"due\n"]
         if kind == "query":
             return [self.query(worker, words, block)]
         if kind == "upstream":
@@ -102,6 +111,16 @@ class Reader:
             octets = encode(read_sections(message, block, opt), compressed)
         self.worker(worker).takes(octets)
         return f"query {worker} {transport} {client} {digits_of(octets)}\n".encode()
+
+    def notify(self, words, block):
+        if take(words, "bytes"):
+            octets, client = octets_of(words.pop(0)), take_source(words)
+        else:
+            question, client = Question(name_of(words.pop(0)), SOA, 1), take_source(words)
+            message, compressed, opt = read_words(words, usual_notify(question))
+            octets = encode(read_sections(message, block, opt), compressed)
+        self.notifier.takes(octets)
+        return f"notify {client} {digits_of(octets)}\n".encode()
 
     def answer(self, worker, words, block):
         if take(words, "fails"):
@@ -127,15 +146,26 @@ class Reader:
             return " ".join([words[0], str(self.offered), words[2], *rows]) + "\n"
         if words[0] == "refused":
             return " ".join(["refused", str(self.offered), *words[1:]]) + "\n"
+        if words == ["hush"]:
+            return "hush\n"
+        if take(words, "due"):
+            return f"due {0 if words == ['none'] else self.zone(words[0])[0]}\n"
         if words == ["silent"]:
             return f"silent {worker}\n"
         if take(words, "asks"):
             return self.asks(worker, words)
+        if take(words, "notified bytes"):
+            return f"notified {words[0]}\n"
+        if take(words, "notified"):
+            return f"notified {self.reply(self.notifier, words, block)}\n"
         if take(words, "reply bytes"):
             return f"reply {worker} {words[0]}\n"
+        return f"reply {worker} {self.reply(self.worker(worker), words, block)}\n"
+
+    def reply(self, worker, words, block):
         rcode = rcode_of(words.pop(0))
-        message, compressed, opt = read_words(words, replace(self.worker(worker).usual_reply(), rcode=rcode))
-        return f"reply {worker} {digits_of(encode(read_sections(message, block, opt), compressed))}\n"
+        message, compressed, opt = read_words(words, replace(worker.usual_reply(), rcode=rcode))
+        return digits_of(encode(read_sections(message, block, opt), compressed))
 
     def asks(self, worker, words):
         if take(words, "bytes"):
@@ -158,10 +188,28 @@ def line_of(text):
 
 def take_client(words):
     transport = words.pop(0)
-    if transport not in ("udp", "tcp") or not take(words, "from"):
+    if transport not in ("udp", "tcp"):
         raise Refused("udp or tcp, and `from ADDRESS`")
-    address = ipaddress.ip_address(words.pop(0))
-    return transport, str(address) if address.version == 4 else address.packed.hex()
+    return transport, take_source(words)
+
+
+def take_source(words):
+    if not take(words, "from"):
+        raise Refused("from ADDRESS")
+    return script_address(words.pop(0))
+
+
+def script_address(text):
+    address = ipaddress.ip_address(text)
+    return str(address) if address.version == 4 else address.packed.hex()
+
+
+def text_of_address(text):
+    return str(ipaddress.IPv6Address(bytes.fromhex(text)) if len(text) == 32 else ipaddress.IPv4Address(text))
+
+
+def usual_notify(question):
+    return Message(0, ("aa",), NOTIFY, 0, [question])
 
 
 def each_of(text):
@@ -192,11 +240,13 @@ class Shower:
         """A line, without its line feed, as lines of text. An output begins with `=>`, or, where it isn't that of the last
         step, with whose it is."""
         words = line.decode("latin-1").split(" ")
-        if words[0] in OUTPUTS:
-            whose = ("zone" if words[0] in ZONE_OUTPUTS else "worker", words[1:2])
-            return self.shown(self.output, words, line, "=> " if whose == self.waits else f"{whose[0]} {''.join(whose[1])}: ")
+        if is_output(words):
+            whose = whose_output(words)
+            return self.shown(self.output, words, line, "=> " if whose == self.waits else " ".join([whose[0], *whose[1]]) + ": ")
         if words[0] in ("xfer", "query", "give", "fail"):
             self.waits = ("zone" if words[0] == "xfer" else "worker", [words[1].lstrip("0") or "0"] if words[1:] else [])
+        if words[0] in ("notify", "due"):
+            self.waits = (words[0], [])
         return self.shown(self.step, words, line, "")
 
     def shown(self, way, words, line, mark):
@@ -214,8 +264,9 @@ class Shower:
         lines = [one.strip() for one in block if not one.strip().startswith(";")]
         if words[0] in ZONE_OUTPUTS:
             self.reader.offered = int(words[1])
-        if words[0] in OUTPUTS:
-            return self.reader.output(int(words[1]), text, lines).encode()
+        if is_output(words):
+            worker = words[1] if whose_output(words)[0] == "worker" else 0
+            return self.reader.output(int(worker), text, lines).encode()
         worker, text = split_worker(text)
         return self.reader.step(worker, text, lines)[0]
 
@@ -237,6 +288,12 @@ class Shower:
             return f"{kind} {words[1]}", []
         if kind == "full":
             return f"full {text_of_name(self.zone(words[1]))}", []
+        if kind == "primary":
+            return f"primary {text_of_name(self.zone(words[1]))} {text_of_address(words[2])}", []
+        if kind == "notify":
+            return self.notify(words, compressed)
+        if kind == "due":
+            return "due", []
         if kind == "xfer":
             zone = self.zone(words[1])
             text, block = text_of_stream(zone, octets_of(words[2]), compressed)
@@ -251,8 +308,7 @@ class Shower:
 
     def query(self, words, compressed):
         octets = octets_of(words[4])
-        address = ipaddress.IPv6Address(bytes.fromhex(words[3])) if len(words[3]) == 32 else ipaddress.IPv4Address(words[3])
-        way = f"{words[2]} from {address}"
+        way = f"{words[2]} from {text_of_address(words[3])}"
         try:
             message = decode(octets)
             if message.rcode or encode(message, compressed) != octets:
@@ -265,6 +321,21 @@ class Shower:
             raise
         found += ["compressed"] if compressed else []
         return " ".join(["query", text_of_question(question), way, *found]).replace(" flags ", " "), block
+
+    def notify(self, words, compressed):
+        octets, way = octets_of(words[2]), f"from {text_of_address(words[1])}"
+        try:
+            message = decode(octets)
+            if message.rcode or encode(message, compressed) != octets:
+                raise Refused("not in words")
+            question, = message.questions
+            found, block = shown(message, usual_notify(Question(question.name, SOA, 1)))
+        except (Refused, ValueError):
+            if compressed:
+                return f"notify bytes {digits_of(octets)} {way}", []
+            raise
+        found += ["compressed"] if compressed else []
+        return " ".join([f"notify {text_of_name(question.name)}", way, *found]).replace(" flags ", " "), block
 
     def answer(self, words, compressed):
         if words[0] == "fail":
@@ -294,21 +365,43 @@ class Shower:
             return f"current serial {words[2]}", []
         if kind == "refused":
             return " ".join(["refused", *words[2:]]), []
-        if kind == "silent":
-            return "silent", []
+        if kind in ("silent", "hush"):
+            return kind, []
+        if kind == "due":
+            return f"due {'none' if words[1] == '0' else text_of_name(self.zone(words[1]))}", []
         if compressed and kind == "ask":
             return f"asks bytes {words[2]}", []
-        message = decode(octets_of(words[2]))
         if kind == "ask":
+            message = decode(octets_of(words[2]))
             question, = message.questions
             return f"asks {text_of_question(question)}, id {message.id}", []
-        found, block = shown(message, self.worker(int(words[1])).usual_reply())
+        if kind == "notified":
+            text, block = self.reply(self.reader.notifier, words[1], compressed, "bytes")
+            return f"notified {text}", block
+        return self.reply(self.worker(int(words[1])), words[2], compressed, "reply bytes")
+
+    def reply(self, worker, digits, compressed, raw):
+        message = decode(octets_of(digits))
+        found, block = shown(message, worker.usual_reply())
         if not message.questions and not block:
             found = ["header alone"] + [word for word in found if word != "no question"]
-        if compressed and encode(message, True) != octets_of(words[2]):
-            return f"reply bytes {words[2]}", []
+        if compressed and encode(message, True) != octets_of(digits):
+            return f"{raw} {digits}", []
         found += ["compressed"] if compressed else []
         return ", ".join([text_of_rcode(message.rcode), *found]), block
+
+
+def is_output(words):
+    return words[0] in OUTPUTS and words != ["due"]
+
+
+def whose_output(words):
+    """The worker, or the zone, whose output it is; or the kind of step."""
+    if words[0] in ZONE_OUTPUTS:
+        return "zone", words[1:2]
+    if words[0] in NOTIFY_OUTPUTS:
+        return "notify", []
+    return ("due", []) if words[0] == "due" else ("worker", words[1:2])
 
 
 def split_worker(text):

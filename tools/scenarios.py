@@ -33,7 +33,7 @@ usage: rpz serve [--cache ENTRIES] LISTEN UPSTREAM TURNS WORKERS ZONE@PRIMARY...
        rpz --version"""
 STATUSES = {"usage": "2 rpz: usage\n" + USAGE}
 RAW = re.compile(r"(worker \d+: )?line( |$)")
-ANSWERED = (b"xfer", b"query", b"give", b"fail")  # lines that have an output
+ANSWERED = (b"xfer", b"query", b"give", b"fail", b"notify", b"due")  # lines that have an output
 
 
 @dataclass

@@ -47,7 +47,8 @@ fn start<S: Source>(
     if origins.len() > 32 {
         return Err(BenchError::NotTaken);
     }
-    let mut core = Core::start(alloc, origins)?;
+    let primaries = [None; 32];
+    let mut core = Core::start(alloc, origins, &primaries[..origins.len()])?;
     let mut total = 0usize;
     for zone in 0..origins.len() as u32 {
         total = total.saturating_add(load(alloc, &mut core, zone + 1, source)?);

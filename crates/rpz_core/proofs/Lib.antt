@@ -3,7 +3,9 @@ pub mod Outputs
 pub mod Seen
 pub mod Slots
 pub mod Flags
+pub mod Timed
 pub mod Transfers
+pub mod Moved
 pub mod Settled
 pub mod Turns
 pub mod Answered

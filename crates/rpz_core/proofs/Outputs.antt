@@ -16,16 +16,20 @@ use Rattle.reply_build.specs.declared.turn.Turn.{Turn}
 use Rattle.reply_build.specs.declared.turn.Turn.TheVariants.{Ask, Said}
 use Rattle.rpz_core.specs.declared.event.CoreFault.{CoreFault}
 use Rattle.rpz_core.specs.declared.event.Event.{Event}
-use Rattle.rpz_core.specs.declared.event.Event.TheVariants.{Transfer, Full, Query, Give, Fail, Clock}
+use Rattle.rpz_core.specs.declared.event.Event.TheVariants.{Transfer, Full, Query, Give, Fail, Notify, Due, Clock}
 use Rattle.rpz_core.specs.declared.event.Output.{Output}
 use Rattle.rpz_core.specs.declared.event.Output.TheVariants as output
 use Rattle.rpz_core.specs.Faults.{IsQuiet}
 use Rattle.ixfr_apply.specs.Marks.{mark_at, with_mark}
+use Rattle.notify_poll.specs.declared.notifying.Notified.{Notified}
+use Rattle.notify_poll.specs.declared.notifying.Notified.TheVariants as notified
+use Rattle.notify_poll.specs.Notifying.{answer_to, as_notified}
 use Rattle.ixfr_apply.specs.Offer.{Offer, takes, is_current, refuses, offer}
 use Rattle.rpz_core.specs.Offer.{offer_output}
 use Rattle.rpz_core.specs.Resolving.{Resolved, resolve}
 use Rattle.rpz_core.specs.Sessions.{PendingQuery, SessionsState, answered_step, with_learned, facts_with, learned_by, pending_step, query_step, resolved_step, resumed_step, turn_step, with_cached}
-use Rattle.rpz_core.specs.World.{World, clock_step, policy_of, transfer_step, full_step, with_sessions, world_step}
+use Rattle.rpz_core.specs.World.{World, clock_step, notified_output, notify_step, policy_of, transfer_step, full_step, with_sessions, world_step}
+use Rattle.rpz_core.proofs.Timed.{brought_length, changed_length}
 
 -- the output says something
 abbrev Speaks : Output → Type 0
@@ -35,10 +39,11 @@ Speaks out = Unit {0}
 silent : (out : Output) → Speaks out → out ≡ output.None → ⊥
 silent out h e = subst Speaks e h
 
--- the zones, the number of marks and the number of workers stay
+-- the zones, the number of marks, of timers and of workers stay
 pub record Keeps (w next : World) : Type 0 where
   pub origins : next.origins ≡ w.origins
   pub marks : length next.marks ≡ length w.marks
+  pub timers : length next.timers ≡ length w.timers
   pub workers : length next.sessions.workers ≡ length w.sessions.workers
 
 -- ---- transfers
@@ -61,7 +66,7 @@ refused fault next out e = absurd cc
 transfer_keeps : (w next : World) (number : ℕ) (stream : List ℕ) (zone : Option PlainZone) (out : Output) → transfer_step w number stream zone ≡ Ok (next, out) → Keeps w next
 transfer_keeps w next number stream None out e = absurd (refused _ next out e)
 transfer_keeps w next number stream (Some zone) out e =
-    subst (λ (g : World × Output). Keeps w g.0) (given _ next out e) (record { origins = refl; marks = length-set w.marks (number - 1) _; workers = refl })
+    subst (λ (g : World × Output). Keeps w g.0) (given _ next out e) (record { origins = refl; marks = length-set w.marks (number - 1) _; timers = changed_length _ w.timers (number - 1); workers = refl })
 
 transfer_speaks : (w next : World) (number : ℕ) (stream : List ℕ) (zone : Option PlainZone) (out : Output) → transfer_step w number stream zone ≡ Ok (next, out) → Speaks out
 transfer_speaks w next number stream None out e = absurd (refused _ next out e)
@@ -70,8 +75,8 @@ transfer_speaks w next number stream (Some zone) out e = subst (λ (g : World ×
 full_is : (w next : World) (number : ℕ) (zone : Option PlainZone) (out : Output) → full_step w number zone ≡ Ok (next, out) → Keeps w next × (out ≡ output.None)
 full_is w next number None out e = absurd (refused _ next out e)
 full_is w next number (Some zone) out e =
-    let same = given (record { origins = w.origins; accepted = w.accepted; marks = with_mark w.marks number true; sessions = w.sessions; clock = w.clock }, output.None) next out e in (
-      subst (λ (g : World × Output). Keeps w g.0) same (record { origins = refl; marks = length-set w.marks (number - 1) true; workers = refl }),
+    let same = given (record { origins = w.origins; accepted = w.accepted; marks = with_mark w.marks number true; timers = w.timers; sessions = w.sessions; clock = w.clock }, output.None) next out e in (
+      subst (λ (g : World × Output). Keeps w g.0) same (record { origins = refl; marks = length-set w.marks (number - 1) true; timers = refl; workers = refl }),
       sym (ap (λ (g : World × Output). g.1) same),
     )
 
@@ -91,7 +96,7 @@ turn_does : (w next : World) (s : SessionsState) (worker : ℕ) (policy : PlainP
     → with_sessions w (Ok (resolved_step s worker policy incoming r)) ≡ Ok (next, out) → Keeps w next × Speaks out
 turn_does w next s worker policy incoming r out many e =
     let same = given _ next out e in (
-      subst (λ (g : World × Output). Keeps w g.0) same (record { origins = refl; marks = refl; workers = turn_length (with_cached s r.cached) worker policy incoming r.facts r.turn ∙ many }),
+      subst (λ (g : World × Output). Keeps w g.0) same (record { origins = refl; marks = refl; timers = refl; workers = turn_length (with_cached s r.cached) worker policy incoming r.facts r.turn ∙ many }),
       subst (λ (g : World × Output). Speaks g.1) same (turn_speaks (with_cached s r.cached) worker policy incoming r.facts r.turn),
     )
 
@@ -125,7 +130,14 @@ step_keeps w next (Full number) out is = (full_is w next number (zone_at (policy
 step_keeps w next (Query worker transport client message) out is = (query_does w next (policy_of w) worker (incoming_of message client transport) (slice_get w.sessions.workers worker) out is).0
 step_keeps w next (Give worker message) out is = (answer_does w next worker message (slice_get w.sessions.workers worker) out is).0
 step_keeps w next (Fail worker) out is = (failure_does w next worker (slice_get w.sessions.workers worker) out is).0
-step_keeps w next (Clock seconds) out is = subst (λ (g : World × Output). Keeps w g.0) (given (clock_step w seconds) next out is) (record { origins = refl; marks = refl; workers = refl })
+step_keeps w next (Notify client message) out is =
+    subst (λ (g : World × Output). Keeps w g.0) (given (notify_step w client message) next out is) (record { origins = refl; marks = refl; timers = brought_length w.clock w.timers _; workers = refl })
+step_keeps w next Due out is = subst (λ (g : World × Output). Keeps w g.0) (given (w, output.Due _) next out is) (record { origins = refl; marks = refl; timers = refl; workers = refl })
+step_keeps w next (Clock seconds) out is = subst (λ (g : World × Output). Keeps w g.0) (given (clock_step w seconds) next out is) (record { origins = refl; marks = refl; timers = refl; workers = refl })
+
+notified_speaks : (n : Notified) → Speaks (notified_output n)
+notified_speaks (notified.Reply octets) = tt
+notified_speaks notified.Silent = tt
 
 loud : (out : Output) → Speaks out → (out ≡ output.None) ↔ ⊥
 loud out h = (λ e. silent out h e, λ e. absurd e)
@@ -137,4 +149,7 @@ step_outputs w next (Full number) out is = (λ _. tt, λ _. (full_is w next numb
 step_outputs w next (Query worker transport client message) out is = loud out (query_does w next (policy_of w) worker (incoming_of message client transport) (slice_get w.sessions.workers worker) out is).1
 step_outputs w next (Give worker message) out is = loud out (answer_does w next worker message (slice_get w.sessions.workers worker) out is).1
 step_outputs w next (Fail worker) out is = loud out (failure_does w next worker (slice_get w.sessions.workers worker) out is).1
+step_outputs w next (Notify client message) out is =
+    loud out (subst (λ (g : World × Output). Speaks g.1) (given (notify_step w client message) next out is) (notified_speaks (as_notified (answer_to message client w.origins w.timers).0)))
+step_outputs w next Due out is = loud out (subst (λ (g : World × Output). Speaks g.1) (given (w, output.Due _) next out is) tt)
 step_outputs w next (Clock seconds) out is = (λ _. tt, λ _. sym (ap (λ (g : World × Output). g.1) (given (clock_step w seconds) next out is)))

@@ -9,7 +9,7 @@ use Rattle.upstream_link.specs.declared.fact.AnswerFault.TheVariants.{Failed}
 use Rattle.policy_snapshot.specs.Policy.{PlainPolicy, zone_at}
 use Rattle.rpz_core.specs.declared.event.CoreFault.{CoreFault}
 use Rattle.rpz_core.specs.declared.event.Event.{Event}
-use Rattle.rpz_core.specs.declared.event.Event.TheVariants.{Transfer, Full, Query, Give, Fail, Clock}
+use Rattle.rpz_core.specs.declared.event.Event.TheVariants.{Transfer, Full, Query, Give, Fail, Notify, Due, Clock}
 use Rattle.rpz_core.specs.declared.event.Output.{Output}
 use Rattle.rpz_core.specs.Faults.{zone_fault, query_fault, fact_fault, fault_of}
 use Rattle.rpz_core.specs.Sessions.{PendingQuery, SessionsState, answered_step, pending_step, query_step, resumed_step}
@@ -40,4 +40,6 @@ refused_by_state w (Full number) f = by_full w number (zone_at (policy_of w) num
 refused_by_state w (Query worker transport client message) f = by_query w (policy_of w) worker (incoming_of message client transport) (slice_get w.sessions.workers worker) f
 refused_by_state w (Give worker message) f = by_pending w (answered_step w.clock w.sessions worker message) (slice_get w.sessions.workers worker) f
 refused_by_state w (Fail worker) f = by_pending w (λ pending. resumed_step w.clock w.sessions worker pending (Broken Failed)) (slice_get w.sessions.workers worker) f
+refused_by_state w (Notify client message) f = (λ e. absurd cc, λ e. absurd cc)
+refused_by_state w Due f = (λ e. absurd cc, λ e. absurd cc)
 refused_by_state w (Clock seconds) f = (λ e. absurd cc, λ e. absurd cc)

@@ -14,22 +14,30 @@ use Rattle.policy_snapshot.specs.Stands.{next_count, count_of}
 use Rattle.policy_snapshot.proofs.Standing.{policy_next, count_after}
 use Rattle.rpz_core.specs.declared.event.CoreFault.{CoreFault}
 use Rattle.rpz_core.specs.declared.event.Event.{Event}
-use Rattle.rpz_core.specs.declared.event.Event.TheVariants.{Transfer, Full, Query, Give, Fail, Clock}
+use Rattle.rpz_core.specs.declared.event.Event.TheVariants.{Transfer, Full, Query, Give, Fail, Notify, Due, Clock}
 use Rattle.rpz_core.specs.declared.event.Output.{Output}
 use Rattle.ixfr_apply.specs.Marks.{mark_at, with_mark}
+use Rattle.notify_poll.specs.declared.timer.Timer.{Timer}
+use Rattle.notify_poll.specs.Notifying.{changed_at}
+use Rattle.notify_poll.specs.Timers.{after_poll}
 use Rattle.ixfr_apply.specs.Offer.{Offer, takes, is_current, refuses, offer, offer_by_outcome, offer_by_reading, request_of, mark_after, wanted_of}
-use Rattle.rpz_core.specs.Offer.{content_taken}
+use Rattle.rpz_core.specs.Offer.{content_taken, polling_of}
 use Rattle.rpz_core.specs.Sessions.{SessionsState, take_query, take_answer, take_failure}
 use Rattle.rpz_core.specs.State as core
 use Rattle.rpz_core.specs.State.{CoreState, state_of, as_core_outcome, core_after_offer}
 use Rattle.rpz_core.specs.World.{World, policy_of, world_after_offer, transfer_step, full_step, with_sessions, world_step}
 
-state_with : List Bool → SessionsState → ℕ → Output → PlainPolicy → ℕ → CoreState × Output
-state_with marks sessions now out zones accepted = (record { policy = record { zones = zones; accepted = accepted }; marks = marks; sessions = sessions; clock = now }, out)
+state_with : List (List (List ℕ)) → List Bool → List Timer → SessionsState → ℕ → Output → PlainPolicy → ℕ → CoreState × Output
+state_with origins marks timers sessions now out zones accepted =
+    (record { origins = origins; policy = record { zones = zones; accepted = accepted }; marks = marks; timers = timers; sessions = sessions; clock = now }, out)
 
 -- the marks after an offer
 abbrev marks_after : World → ℕ → PlainZone → Offer → List Bool
 marks_after w number zone offered = let marked = mark_at w.marks number in with_mark w.marks number (mark_after marked (wanted_of marked zone.content) offered)
+
+-- the timers after an offer
+abbrev timers_after : World → ℕ → PlainZone → Offer → List Timer
+timers_after w number zone offered = changed_at (after_poll (polling_of zone offered) w.clock) w.timers (number - 1)
 
 -- an offer after which the core has the policy of the world
 offer_seen : (w : World) (number : ℕ) (zone : PlainZone) (stream : List ℕ) (offered : Offer) → zone_at (policy_of w) number ≡ Some zone
@@ -43,7 +51,7 @@ offer_seen w number zone stream (takes transfer next) at takes_it =
     let entry : Entry = record { zone = number; transfer = transfer } in
     let zones : slice_set (policy_of w) (number - 1) next ≡ policy_after w.origins (w.accepted ++ entry ∷ []) = sym (policy_next w.origins w.accepted number transfer zone next at is) in
     let count : next_count (count_of (length w.accepted)) ≡ count_of (length (w.accepted ++ entry ∷ [])) = count_after (length w.accepted) ∙ ap count_of (sym (length-append w.accepted (entry ∷ []))) in
-    λ i. state_with (marks_after w number zone (takes transfer next)) w.sessions w.clock (content_taken number next.content) (zones i) (count i)
+    λ i. state_with w.origins (marks_after w number zone (takes transfer next)) (timers_after w number zone (takes transfer next)) w.sessions w.clock (content_taken number next.content) (zones i) (count i)
 
 -- what is taken is what the zone can take
 outcome_takes : (zone : PlainZone) (t : transfers.Transfer) (r : Result PlainZone ApplyFault) → apply_outcome zone t ≡ r → (transfer : transfers.Transfer) (next : PlainZone) → offer_by_outcome t r ≡ takes transfer next
@@ -80,4 +88,6 @@ step_seen w (Full number) = full_seen w number (zone_at (policy_of w) number)
 step_seen w (Query worker transport client message) = sessions_seen w (take_query w.clock w.sessions (policy_of w) worker transport client message)
 step_seen w (Give worker message) = sessions_seen w (take_answer w.clock w.sessions worker message)
 step_seen w (Fail worker) = sessions_seen w (take_failure w.clock w.sessions worker)
+step_seen w (Notify client message) = refl
+step_seen w Due = refl
 step_seen w (Clock seconds) = refl

@@ -5,7 +5,7 @@ use Rattle.policy_snapshot.specs.Policy.{zone_at}
 use Rattle.rpz_core.specs.declared.event.CoreFault.{CoreFault}
 use Rattle.rpz_core.specs.declared.event.CoreFault.TheVariants as fault
 use Rattle.rpz_core.specs.declared.event.Event.{Event}
-use Rattle.rpz_core.specs.declared.event.Event.TheVariants.{Transfer, Full, Query, Give, Fail, Clock}
+use Rattle.rpz_core.specs.declared.event.Event.TheVariants.{Transfer, Full, Query, Give, Fail, Notify, Due, Clock}
 use Rattle.rpz_core.specs.Sessions.{PendingQuery}
 use Rattle.rpz_core.specs.World.{World, policy_of}
 
@@ -34,6 +34,8 @@ fault_of world (Query worker transport client message) =
     query_fault (slice_get world.sessions.workers worker)
 fault_of world (Give worker message) = fact_fault (slice_get world.sessions.workers worker)
 fault_of world (Fail worker) = fact_fault (slice_get world.sessions.workers worker)
+fault_of world (Notify client message) = None
+fault_of world Due = None
 fault_of world (Clock seconds) = None
 
 -- the event outputs nothing: it is Full or Clock
@@ -43,4 +45,17 @@ IsQuiet (Full number) = Unit {0}
 IsQuiet (Query worker transport client message) = ⊥
 IsQuiet (Give worker message) = ⊥
 IsQuiet (Fail worker) = ⊥
+IsQuiet (Notify client message) = ⊥
+IsQuiet Due = ⊥
 IsQuiet (Clock seconds) = Unit {0}
+
+-- the event is neither Transfer nor Notify
+abbrev pub LeavesTimers : Event → Type 0
+LeavesTimers (Transfer number stream) = ⊥
+LeavesTimers (Full number) = Unit {0}
+LeavesTimers (Query worker transport client message) = Unit {0}
+LeavesTimers (Give worker message) = Unit {0}
+LeavesTimers (Fail worker) = Unit {0}
+LeavesTimers (Notify client message) = ⊥
+LeavesTimers Due = Unit {0}
+LeavesTimers (Clock seconds) = Unit {0}

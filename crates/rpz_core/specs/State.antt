@@ -1,7 +1,9 @@
 -- The state of the core in code, which sees of the accepted transfers the policy that they make, and what each event does to it.
 use Rattle.std.specs.Prelude.{◌≡◌, ℕ, ◌-◌, Bool, true, List, length, Option, Some, None, Result, Ok, Err, slice_set}
+use Rattle.std.specs.Option.{unwrap_or}
 use Rattle.std.specs.declared.alloc.AllocError.{AllocError}
 use Rattle.dns_name.specs.Labels.{Name}
+use Rattle.ip_prefix.specs.declared.Addr.{Addr}
 use Rattle.zone_rows.specs.declared.zone.PlainZone.{PlainZone}
 use Rattle.policy_snapshot.specs.Policy.{zone_at}
 use Rattle.policy_snapshot.specs.Stands.{PlainSnapshot, new_snapshot, next_count, count_of}
@@ -15,21 +17,28 @@ use Rattle.rpz_core.specs.declared.event.Output.{Output}
 use Rattle.rpz_core.specs.declared.event.Output.TheVariants as output
 use Rattle.ixfr_apply.specs.Marks.{mark_at, no_marks, with_mark}
 use Rattle.ixfr_apply.specs.Offer.{Offer, takes, is_current, refuses, offer, mark_after, wanted_of}
-use Rattle.rpz_core.specs.Offer.{offer_output}
+use Rattle.notify_poll.specs.declared.timer.Timer.{Timer}
+use Rattle.notify_poll.specs.Notifying.{answer_to, as_notified, brought_forward, changed_at}
+use Rattle.notify_poll.specs.Timers.{after_poll, due_zone, first_timers}
+use Rattle.rpz_core.specs.Offer.{offer_output, polling_of}
 use Rattle.rpz_core.specs.Sessions.{PendingQuery, SessionsState, with_worker, no_sessions, uncached, take_query, take_answer, take_failure}
-use Rattle.rpz_core.specs.World.{World, policy_of}
+use Rattle.rpz_core.specs.World.{World, notified_output, policy_of}
 
 pub record CoreState : Type 0 where
+  pub origins : List Name
   pub policy : PlainSnapshot
   pub marks : List Bool
+  pub timers : List Timer
   pub sessions : SessionsState
   pub clock : ℕ
 
-abbrev pub new_core : List Name → CoreState
-new_core origins =
+abbrev pub new_core : List Name → List (Option Addr) → CoreState
+new_core origins primaries =
     record {
+      origins = origins;
       policy = new_snapshot origins;
       marks = no_marks origins;
+      timers = first_timers primaries 0;
       sessions = no_sessions;
       clock = 0;
     }
@@ -38,8 +47,10 @@ new_core origins =
 abbrev pub state_of : World → CoreState
 state_of world =
     record {
+      origins = world.origins;
       policy = record { zones = policy_of world; accepted = count_of (length world.accepted) };
       marks = world.marks;
+      timers = world.timers;
       sessions = world.sessions;
       clock = world.clock;
     }
@@ -61,9 +72,12 @@ abbrev pub core_after_offer : CoreState → ℕ → PlainZone → Offer → Core
 core_after_offer core number zone offered =
     let marked = mark_at core.marks number in (
       record {
+        origins = core.origins;
         policy = policy_by_offer core.policy number offered;
         marks = with_mark core.marks number (mark_after marked (wanted_of marked zone.content)
             offered);
+        timers = changed_at (after_poll (polling_of zone offered) core.clock) core.timers
+            (number - 1);
         sessions = core.sessions;
         clock = core.clock;
       },
@@ -81,8 +95,10 @@ full_step core number None = Err fault.NoZone
 full_step core number (Some zone) =
     Ok (
       record {
+        origins = core.origins;
         policy = core.policy;
         marks = with_mark core.marks number true;
+        timers = core.timers;
         sessions = core.sessions;
         clock = core.clock;
       },
@@ -93,16 +109,44 @@ abbrev pub with_sessions : CoreState → Result (SessionsState × Output) CoreFa
     Result (CoreState × Output) CoreFault
 with_sessions core (Ok next) =
     Ok (
-      record { policy = core.policy; marks = core.marks; sessions = next.0; clock = core.clock },
+      record {
+        origins = core.origins;
+        policy = core.policy;
+        marks = core.marks;
+        timers = core.timers;
+        sessions = next.0;
+        clock = core.clock;
+      },
       next.1,
     )
 with_sessions core (Err fault) = Err fault
 
 abbrev pub clock_step : CoreState → ℕ → CoreState × Output
 clock_step core seconds = (
-  record { policy = core.policy; marks = core.marks; sessions = core.sessions; clock = seconds },
+  record {
+    origins = core.origins;
+    policy = core.policy;
+    marks = core.marks;
+    timers = core.timers;
+    sessions = core.sessions;
+    clock = seconds;
+  },
   output.None,
 )
+
+abbrev pub notify_step : CoreState → Addr → List ℕ → CoreState × Output
+notify_step core client message =
+    let answer = answer_to message client core.origins core.timers in (
+      record {
+        origins = core.origins;
+        policy = core.policy;
+        marks = core.marks;
+        timers = brought_forward core.clock core.timers answer.1;
+        sessions = core.sessions;
+        clock = core.clock;
+      },
+      notified_output (as_notified answer.0),
+    )
 
 unfoldable pub core_step : CoreState → Event → Result (CoreState × Output) CoreFault
 core_step core (event.Transfer number stream) =
@@ -115,14 +159,19 @@ core_step core (event.Give worker message) =
     with_sessions core (take_answer core.clock core.sessions worker message)
 core_step core (event.Fail worker) =
     with_sessions core (take_failure core.clock core.sessions worker)
+core_step core (event.Notify client message) = Ok (notify_step core client message)
+core_step core event.Due =
+    Ok (core, output.Due (unwrap_or (due_zone core.timers core.clock) 0))
 core_step core (event.Clock seconds) = Ok (clock_step core seconds)
 
 -- the same with an empty cache
 abbrev pub uncached_core : CoreState → CoreState
 uncached_core core =
     record {
+      origins = core.origins;
       policy = core.policy;
       marks = core.marks;
+      timers = core.timers;
       sessions = uncached core.sessions;
       clock = core.clock;
     }

@@ -36,6 +36,13 @@ pub enum Event {
     Fail {
         worker: u32,
     },
+    /// A message of a client at this address comes, which may be a NOTIFY (RFC 1996).
+    Notify {
+        client: Addr,
+        message: Octets,
+    },
+    /// Which zone is due?
+    Due,
     /// It is so many seconds.
     Clock {
         seconds: u32,
@@ -57,6 +64,12 @@ pub enum Output {
     Reply { worker: u32, message: Octets },
     /// The query of this worker gets no reply.
     Silent { worker: u32 },
+    /// The reply to what came as a NOTIFY.
+    Notified { message: Octets },
+    /// What came as a NOTIFY gets no reply.
+    Hush,
+    /// The first zone that is due, by its number; 0 where none is.
+    Due { zone: u32 },
     /// Nothing: the output of Full and Clock.
     None,
 }

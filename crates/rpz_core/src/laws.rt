@@ -1,10 +1,14 @@
 //! Laws of the world and its steps. Each function is its clauses, and does nothing.
 
-ghost use Rattle.std.specs.Prelude.{◌≡◌, ◌≢◌, ◌↔◌, ◌-◌, ℕ, List, ◌∷◌, Contains, length, Some, None, Ok, Err};
+ghost use Rattle.std.specs.Prelude.{◌≡◌, ◌≢◌, ◌↔◌, ◌-◌, ℕ, List, ◌∷◌, Contains, length, slice_get, Option, Some, None, Ok, Err};
 ghost use Rattle.dns_name.specs.Labels.{Name};
 ghost use Rattle.answer_cache.specs.Recent.{AreApart, HaveSameEntries, live_entry};
 ghost use Rattle.dns_message.specs.declared.question.Question.{Question};
 ghost use Rattle.dns_message.specs.declared.request.Incoming.{Incoming};
+ghost use Rattle.ip_prefix.specs.declared.Addr.{Addr};
+ghost use Rattle.notify_poll.specs.Notifying.{answer_to, changed_at};
+ghost use Rattle.notify_poll.specs.Timers.{after_poll};
+ghost use Rattle.notify_poll.specs.declared.timer.Polling.TheVariants.{Faulty};
 ghost use Rattle.policy_snapshot.specs.Policy.{AreAccepted, PlainPolicy};
 ghost use Rattle.query_session.specs.Session.{turn_by};
 ghost use Rattle.reply_build.specs.declared.said.Said.{Said};
@@ -15,16 +19,16 @@ ghost use Rattle.upstream_link.specs.Facts.{AreKept, PlainFacts};
 ghost use Rattle.upstream_link.specs.Vouched.{PlainLearned};
 ghost use Rattle.rpz_core.specs.declared.event.CoreFault.{CoreFault};
 ghost use Rattle.rpz_core.specs.declared.event.Event.{Event};
-ghost use Rattle.rpz_core.specs.declared.event.Event.TheVariants.{Transfer};
+ghost use Rattle.rpz_core.specs.declared.event.Event.TheVariants.{Due, Notify, Transfer};
 ghost use Rattle.rpz_core.specs.declared.event.Output.{Output};
 ghost use Rattle.rpz_core.specs.declared.event.Output.TheVariants as output;
 ghost use Rattle.ixfr_apply.specs.declared.refusal.Refusal.{Refusal};
-ghost use Rattle.rpz_core.specs.Faults.{IsQuiet, fault_of};
+ghost use Rattle.rpz_core.specs.Faults.{IsQuiet, LeavesTimers, fault_of};
 ghost use Rattle.rpz_core.specs.History.{AreObtained, IsAnsweredAs, IsAskedAs, IsLearned, IsPendingAs, IsPendingAt, Reaches};
 ghost use Rattle.rpz_core.specs.Sessions.{PendingQuery, said_output};
 ghost use Rattle.ixfr_apply.specs.Marks.{mark_at};
 ghost use Rattle.rpz_core.specs.State.{CoreState, core_step, as_core_outcome, state_of};
-ghost use Rattle.rpz_core.specs.World.{World, world_step};
+ghost use Rattle.rpz_core.specs.World.{World, with_timers, world_step};
 
 use policy_snapshot::laws::a_policy_takes_transfers_one_by_one;
 use query_session::laws::what_is_obtained_is_kept;
@@ -35,29 +39,37 @@ use query_session::laws::what_is_obtained_is_kept;
 /// is what the policy asks. The policy is that after the transfers that were accepted when the query came, each of which its zone
 /// took as those before it left the policy.
 pub fn each_reply_is_the_policys_answer()
-    ensures origins { (origins : List Name) (events : List Event) (world : World) →
-        Reaches origins events world → world.origins ≡ origins }
-    ensures accepted { (origins : List Name) (events : List Event) (world : World) →
-        Reaches origins events world → AreAccepted world.origins world.accepted }
-    ensures pending { (origins : List Name) (events : List Event) (world : World)
-        (worker : ℕ) (pending : PendingQuery) → Reaches origins events world →
-        IsPendingAt world worker pending → IsPendingAs origins events world worker pending }
-    ensures cached { (origins : List Name) (events : List Event) (world : World)
-        (entry : PlainLearned) → Reaches origins events world →
-        Contains world.sessions.cached entry → IsLearned origins events entry }
-    ensures apart { (origins : List Name) (events : List Event) (world : World) →
-        Reaches origins events world → AreApart world.sessions.cached }
-    ensures kept { (origins : List Name) (worker : ℕ) (events : List Event)
-        (policy : PlainPolicy) (incoming : Incoming) (facts : PlainFacts) →
-        AreObtained origins worker events policy incoming facts → AreKept facts }
-    ensures asks { (origins : List Name) (events : List Event) (event : Event)
-        (world next : World) (worker : ℕ) (message : List ℕ) → Reaches origins events world →
+    ensures origins { (origins : List Name) (primaries : List (Option Addr))
+        (events : List Event) (world : World) → Reaches origins primaries events world →
+        world.origins ≡ origins }
+    ensures accepted { (origins : List Name) (primaries : List (Option Addr))
+        (events : List Event) (world : World) → Reaches origins primaries events world →
+        AreAccepted world.origins world.accepted }
+    ensures pending { (origins : List Name) (primaries : List (Option Addr))
+        (events : List Event) (world : World) (worker : ℕ) (pending : PendingQuery) →
+        Reaches origins primaries events world → IsPendingAt world worker pending →
+        IsPendingAs origins primaries events world worker pending }
+    ensures cached { (origins : List Name) (primaries : List (Option Addr))
+        (events : List Event) (world : World) (entry : PlainLearned) →
+        Reaches origins primaries events world → Contains world.sessions.cached entry →
+        IsLearned origins primaries events entry }
+    ensures apart { (origins : List Name) (primaries : List (Option Addr))
+        (events : List Event) (world : World) → Reaches origins primaries events world →
+        AreApart world.sessions.cached }
+    ensures kept { (origins : List Name) (primaries : List (Option Addr)) (worker : ℕ)
+        (events : List Event) (policy : PlainPolicy) (incoming : Incoming)
+        (facts : PlainFacts) →
+        AreObtained origins primaries worker events policy incoming facts → AreKept facts }
+    ensures asks { (origins : List Name) (primaries : List (Option Addr))
+        (events : List Event) (event : Event) (world next : World) (worker : ℕ)
+        (message : List ℕ) → Reaches origins primaries events world →
         world_step world event ≡ Ok (next, output.Ask worker message) →
         IsAskedAs next worker message }
-    ensures replies { (origins : List Name) (events : List Event) (event : Event)
-        (world next : World) (worker : ℕ) (said : Said) → Reaches origins events world →
+    ensures replies { (origins : List Name) (primaries : List (Option Addr))
+        (events : List Event) (event : Event) (world next : World) (worker : ℕ)
+        (said : Said) → Reaches origins primaries events world →
         world_step world event ≡ Ok (next, said_output worker said) →
-        IsAnsweredAs origins (event ∷ events) next worker said }
+        IsAnsweredAs origins primaries (event ∷ events) next worker said }
 {
     a_policy_takes_transfers_one_by_one();
     what_is_obtained_is_kept();
@@ -83,7 +95,7 @@ pub fn the_core_does_what_the_world_does()
         core_step (state_of world) event ≡ as_core_outcome (world_step world event) }
 {}
 
-/// No event opens a zone, or changes the number of marks or of workers.
+/// No event opens a zone, or changes the number of marks, of timers or of workers.
 pub fn an_event_keeps_the_zones_and_the_workers()
     ensures origins { (world next : World) (event : Event) (out : Output) →
         world_step world event ≡ Ok (next, out) →
@@ -91,17 +103,27 @@ pub fn an_event_keeps_the_zones_and_the_workers()
     ensures marks { (world next : World) (event : Event) (out : Output) →
         world_step world event ≡ Ok (next, out) →
         length next.marks ≡ length world.marks }
+    ensures timers { (world next : World) (event : Event) (out : Output) →
+        world_step world event ≡ Ok (next, out) →
+        length next.timers ≡ length world.timers }
     ensures workers { (world next : World) (event : Event) (out : Output) →
         world_step world event ≡ Ok (next, out) →
         length next.sessions.workers ≡ length world.sessions.workers }
 {}
 
-/// A transfer that is refused adds nothing to the accepted ones, and so leaves the policy. No transfer changes the mark of
-/// another zone, or a pending query, which keeps the policy that it came under; nor the zones' origins, the cache or the clock.
+/// A transfer that is refused adds nothing to the accepted ones, and so leaves the policy: it changes nothing but the mark and the
+/// zone's timer, by which the zone is polled again after its last retry. No transfer changes the mark or the timer of another zone,
+/// or a pending query, which keeps the policy that it came under; nor the zones' origins, the cache or the clock.
 pub fn a_refused_transfer_changes_nothing_but_the_mark()
     ensures accepted { (world next : World) (number zone : ℕ) (stream : List ℕ) (why : Refusal) →
         world_step world (Transfer number stream) ≡ Ok (next, output.Refused zone why) →
         next.accepted ≡ world.accepted }
+    ensures retries { (world next : World) (number zone : ℕ) (stream : List ℕ) (why : Refusal) →
+        world_step world (Transfer number stream) ≡ Ok (next, output.Refused zone why) →
+        next.timers ≡ changed_at (after_poll Faulty world.clock) world.timers (number - 1) }
+    ensures timers { (world next : World) (number other : ℕ) (stream : List ℕ) (out : Output) →
+        world_step world (Transfer number stream) ≡ Ok (next, out) → other - 1 ≢ number - 1 →
+        slice_get next.timers (other - 1) ≡ slice_get world.timers (other - 1) }
     ensures others { (world next : World) (number other : ℕ) (stream : List ℕ) (out : Output) →
         world_step world (Transfer number stream) ≡ Ok (next, out) → other - 1 ≢ number - 1 →
         mark_at next.marks other ≡ mark_at world.marks other }
@@ -114,6 +136,23 @@ pub fn a_refused_transfer_changes_nothing_but_the_mark()
     ensures clock { (world next : World) (number : ℕ) (stream : List ℕ) (out : Output) →
         world_step world (Transfer number stream) ≡ Ok (next, out) →
         next.clock ≡ world.clock }
+{}
+
+/// Nothing moves a timer but a transfer of its zone, and a NOTIFY that names a zone. A message that comes as a NOTIFY changes nothing
+/// else, and the question which zone is due nothing at all.
+pub fn only_a_transfer_or_a_notify_moves_a_timer()
+    ensures others { (world next : World) (event : Event) (out : Output) →
+        world_step world event ≡ Ok (next, out) → LeavesTimers event →
+        next.timers ≡ world.timers }
+    ensures unnamed { (world next : World) (client : Addr) (message : List ℕ) (out : Output) →
+        world_step world (Notify client message) ≡ Ok (next, out) →
+        (answer_to message client world.origins world.timers).1 ≡ None →
+        next.timers ≡ world.timers }
+    ensures notify { (world next : World) (client : Addr) (message : List ℕ) (out : Output) →
+        world_step world (Notify client message) ≡ Ok (next, out) →
+        next ≡ with_timers world next.timers }
+    ensures due { (world next : World) (out : Output) →
+        world_step world Due ≡ Ok (next, out) → next ≡ world }
 {}
 
 /// The turns of a query at a second, where live entries of the cache answer what it asks: what is done in the end is what is done

@@ -7,14 +7,15 @@ ghost use Rattle.policy_snapshot.specs.Policy.{zone_at};
 ghost use Rattle.zone_rows.specs.declared.zone.PlainZone.{PlainZone};
 ghost use Rattle.zone_rows.specs.Zone.{apply_outcome};
 ghost use Rattle.ixfr_apply.specs.Offer.{content_size, offer, offer_by_outcome, request_of};
-ghost use Rattle.rpz_core.specs.Offer.{zone_taken};
-ghost use Rattle.rpz_core.specs.Offered.{IsOffer, offered_mark, offered_output};
+ghost use Rattle.rpz_core.specs.Offer.{polling_by, zone_taken};
+ghost use Rattle.rpz_core.specs.Offered.{IsOffer, offered_mark, offered_output, offered_polling};
 
 use crate::event::Output;
 use axfr_apply::{Taken, TransferError, Wanted};
 use dns_name::Octets;
 use edge_io::Bytes;
 use ixfr_apply::{Refusal, asks_newer, read_transfer, wanted};
+use notify_poll::Polling;
 use policy_snapshot::Snapshot;
 use std::alloc::{AllocError, Global};
 use zone_index::Zone;
@@ -103,6 +104,20 @@ impl Offered {
         }
     }
 
+    /// How the poll of the zone of this number ended, which is this zone still.
+    pub(crate) fn polling(&self, zone: &Zone, number: u32) -> Polling
+        ensures { result ≡ offered_polling zone.now.content number self.now }
+    {
+        match self {
+            Offered::Takes(next) => match next.zone(number) {
+                None => Polling::Faulty,
+                Some(zone) => polling_done(zone),
+            },
+            Offered::Current(_) => polling_done(zone),
+            Offered::Refuses(_) => Polling::Faulty,
+        }
+    }
+
     /// What the zone of this number outputs.
     pub(crate) fn output(&self, number: u32) -> Output
         ensures { result ≡ offered_output number self.now }
@@ -118,6 +133,19 @@ impl Offered {
                 refusal: *refusal,
             },
         }
+    }
+}
+
+// How a poll ended behind which a zone is this: the times of its SOA record say when it is polled next.
+fn polling_done(zone: &Zone) -> Polling
+    ensures { result ≡ polling_by zone.now.content }
+{
+    match zone.soa() {
+        None => Polling::Faulty,
+        Some(soa) => Polling::Done {
+            refresh: soa.refresh,
+            retry: soa.retry,
+        },
     }
 }
 

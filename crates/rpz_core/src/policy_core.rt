@@ -1,64 +1,86 @@
 //! The core.
 
-ghost use Rattle.std.specs.Prelude.{◌≡◌, ◌≤◌, length, map, IfOk, is_some};
+ghost use Rattle.std.specs.Prelude.{◌≡◌, ◌≤◌, length, map, IfOk, is_some, Ok};
+ghost use Rattle.std.specs.Option.{unwrap_or};
 ghost use Rattle.zone_rows.specs.declared.zone.TheConstants.{ZONE_LIMIT};
+ghost use Rattle.notify_poll.specs.Timers.{due_zone};
 ghost use Rattle.policy_snapshot.specs.Policy.{zone_at};
-ghost use Rattle.rpz_core.specs.Offered.{core_by_offered};
-ghost use Rattle.rpz_core.specs.State.{Steps, StepsBare, TurnsBare, core_step, uncached_core, full_step, new_core, as_core_outcome, state_of, transfer_step};
-ghost use Rattle.rpz_core.specs.World.{World, new_world, world_step};
+ghost use Rattle.rpz_core.specs.Offered.{core_by_offered, policy_by_offered};
+ghost use Rattle.rpz_core.specs.State.{Steps, StepsBare, TurnsBare, core_step, uncached_core, full_step, new_core, notify_step, as_core_outcome, state_of, transfer_step};
+ghost use Rattle.rpz_core.specs.World.{World, new_world, notified_output as output_by, world_step};
 
 use crate::event::{CoreError, CoreFault, Event, Output};
 use crate::laws::the_core_does_what_the_world_does;
 use crate::offer::{Offered, read_offer};
 use crate::sessions::{Sessions, WORKERS};
 use dns_name::{Name, Octets};
+use ip_prefix::Addr;
 use ixfr_apply::{Marks, wanted};
+use notify_poll::{Notified, PollCore, Polling};
 use policy_snapshot::Snapshot;
 use policy_snapshot::laws::a_policy_takes_transfers_one_by_one;
 use std::alloc::{AllocError, Global};
 use std::marker::Model;
 use std::sync::Arc;
 
-/// The policy as it is, which of its zones are asked for whole next, the workers with their pending queries, one cache for all of
-/// them, and the clock. Contracts see these; a pending query holds the policy that it came under, which stays as it is when a
-/// transfer is taken.
+/// The policy as it is, which of its zones are asked for whole next, when each is polled, the workers with their pending queries,
+/// one cache for all of them, and the clock. Contracts see these, and the origins of the zones; a pending query holds the policy that
+/// it came under, which stays as it is when a transfer is taken.
 #[derive(Drop)]
 pub struct Core {
     alloc: Global,
+    origins: Vec<Name>,
     policy: Arc<Snapshot, Global>,
     marks: Marks,
+    timers: PollCore,
     sessions: Sessions,
     clock: u32,
 }
 
 impl Model for Core {
+    ghost use Rattle.std.specs.Prelude.{◌≡◌, length};
     ghost use Rattle.rpz_core.specs.State.{CoreState};
 
     ghost Value = { CoreState };
 
     ghost view = { λ c. record {
+      origins = c.origins.items;
       policy = c.policy.value;
       marks = c.marks;
+      timers = c.timers;
       sessions = c.sessions;
       clock = c.clock;
     } };
+
+    ghost invariant = { λ c. length c.timers ≡ length c.policy.value.zones };
 }
 
 impl Core {
-    /// Zones of these origins in this order, at most 32, with nothing loaded, and no query is pending.
-    pub fn start(alloc: Global, origins: &[Name]) -> Result<Self, AllocError>
-        requires { length origins.now ≤ ZONE_LIMIT }
-        ensures core { IfOk result (λ core. core ≡ new_core origins.now) }
-        ensures world { IfOk result (λ core. core ≡ state_of (new_world origins.now)) }
+    /// Zones of these origins in this order, at most 32, with nothing loaded, each of which has its primary or none. All of them are
+    /// due, and no query is pending.
+    pub fn start(
+        alloc: Global,
+        origins: &[Name],
+        primaries: &[Option<Addr>],
+    ) -> Result<Self, AllocError>
+        requires limit { length origins.now ≤ ZONE_LIMIT }
+        requires primaries { length primaries.now ≡ length origins.now }
+        ensures core { IfOk result (λ core. core ≡ new_core origins.now primaries.now) }
+        ensures world { IfOk result
+            (λ core. core ≡ state_of (new_world origins.now primaries.now)) }
     {
         a_policy_takes_transfers_one_by_one();
+        let names = copied(alloc, origins)?;
         let policy = Arc::new(alloc, Snapshot::start(alloc, origins)?)?;
         let marks = Marks::new(alloc, origins)?;
+        let timers = PollCore::start(alloc, primaries, 0)?;
         let sessions = Sessions::new(alloc)?;
         Ok(Core {
             alloc,
+            origins: names,
             policy,
             marks,
+            timers,
             sessions,
             clock: 0,
         })
@@ -130,6 +152,11 @@ impl Core {
                     .take_answer(self.alloc, self.clock, worker, message)
             }
             Event::Fail { worker } => self.sessions.take_failure(self.alloc, self.clock, worker),
+            Event::Notify { client, message } => self.take_notify(client, message.as_slice()),
+            Event::Due => {
+                let zone = self.zone_due();
+                Ok(Output::Due { zone })
+            }
             Event::Clock { seconds } => {
                 self.clock = seconds;
                 Ok(Output::None)
@@ -165,25 +192,89 @@ impl Core {
         let wanted = wanted(marked, zone.serial());
         let offered = read_offer(self.alloc, &self.policy, number, marked, zone, stream)?;
         let mark = offered.mark_after(marked, wanted);
-        Ok(self.settle(number, mark, offered)?)
+        let polling = offered.polling(zone, number);
+        Ok(self.settle(number, mark, polling, offered)?)
     }
 
-    // What was offered to the zone of this number is done, and the zone is marked afterwards or isn't.
-    fn settle(&mut self, number: u32, mark: bool, offered: Offered) -> Result<Output, AllocError>
-        ensures { TurnsBare uncached_core (core_by_offered self.old number mark offered) result
-            self.old self.new }
+    // What was offered to the zone of this number is done: the zone is marked afterwards or isn't, and its poll ended so.
+    fn settle(
+        &mut self,
+        number: u32,
+        mark: bool,
+        polling: Polling,
+        offered: Offered,
+    ) -> Result<Output, AllocError>
+        requires low { 1 ≤ number }
+        requires high { number ≤ length self.old.policy.zones }
+        requires zones { length (policy_by_offered self.old.policy offered).zones
+            ≡ length self.old.policy.zones }
+        ensures { TurnsBare uncached_core (core_by_offered self.old number mark polling offered)
+            result self.old self.new }
     {
         let output = offered.output(number);
         match offered {
             Offered::Takes(next) => {
                 self.policy = Arc::new(self.alloc, next)?;
                 self.marks.set(number, mark);
+                self.timers.polled(number, polling, self.clock);
                 Ok(output)
             }
             Offered::Current(_) | Offered::Refuses(_) => {
                 self.marks.set(number, mark);
+                self.timers.polled(number, polling, self.clock);
                 Ok(output)
             }
         }
     }
+
+    // A message comes from this client, which may be a NOTIFY.
+    #[tactic(auto, using(crate::proofs::Timed::brought_length))]
+    fn take_notify(&mut self, client: Addr, message: &[u8]) -> Result<Output, CoreError>
+        ensures { StepsBare uncached_core (Ok (notify_step self.old client message.now)) result
+            self.old self.new }
+    {
+        let notified = self.timers.notify(
+            self.alloc,
+            message,
+            client,
+            self.clock,
+            self.origins.as_slice(),
+        )?;
+        Ok(notified_output(notified))
+    }
+
+    // The first zone that is due, by its number, or 0.
+    fn zone_due(&self) -> u32
+        ensures { result ≡ unwrap_or (due_zone self.now.timers self.now.clock) 0 }
+    {
+        self.timers.due(self.clock).unwrap_or(0)
+    }
+}
+
+// What is output where a message was answered so.
+fn notified_output(notified: Notified) -> Output
+    ensures { result ≡ output_by notified }
+{
+    match notified {
+        Notified::Reply(message) => Output::Notified { message },
+        Notified::Silent => Output::Hush,
+    }
+}
+
+// The same names.
+fn copied(alloc: Global, origins: &[Name]) -> Result<Vec<Name>, AllocError>
+    ensures { IfOk result (λ names. names.items ≡ origins.now) }
+{
+    let mut names = Vec::with_capacity(alloc, origins.len())?;
+    for origin in origins {
+        names.push(again(origin)?)?;
+    }
+    Ok(names)
+}
+
+// The same name.
+fn again(name: &Name) -> Result<Name, AllocError>
+    ensures { IfOk result (λ copy. copy ≡ name.now) }
+{
+    name.clone()
 }

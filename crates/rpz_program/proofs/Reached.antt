@@ -2,12 +2,13 @@
 use Rattle.std.proofs.Common.{◌≡◌, ℕ, zero, suc, ◌+◌, ◌-◌, ◌==◌, ◌<◌, ◌≤◌, Bool, true, false, if◌then◌else◌, nat_lt, List, [], ◌∷◌, ◌++◌, Option, Some, None, Result, Ok, Err, length, map, replicate, refl, sym, ap, subst, ◌∙◌, arith}
 use Rattle.std.proofs.lemmas.Bool.Decides.{nat_tests}
 use Rattle.std.specs.Prelude.{IsOk, is_some, slice_get, slice_index_or, ⊤}
+use Rattle.ip_prefix.specs.declared.Addr.{Addr}
 use Rattle.script_codec.specs.declared.line.Line.{Line}
-use Rattle.script_codec.specs.declared.line.Line.TheVariants.{Zone, Transfer, Full, Query, Give, Fail, Clock}
+use Rattle.script_codec.specs.declared.line.Line.TheVariants.{Zone, Primary, Transfer, Full, Query, Give, Fail, Notify, Due, Clock}
 use Rattle.script_codec.specs.declared.line_fault.LineFault.{LineFault}
 use Rattle.script_codec.specs.Line.{unnumbered_line}
 use Rattle.script_codec.specs.State.{zone_count, is_pending}
-use Rattle.script_codec.specs.Within.{IsWithin, IsZone, MayOpen}
+use Rattle.script_codec.specs.Within.{IsWithin, IsZone, MayHavePrimary, MayOpen}
 use Rattle.script_codec.proofs.LineBounds.{line_within}
 use Rattle.script_loop.specs.Abstraction.{outcome_along}
 use Rattle.script_loop.specs.declared.limits.TheConstants.{LINE_BYTES, LINES}
@@ -26,29 +27,31 @@ use Rattle.rpz_core.specs.Sessions.{PendingQuery}
 use Rattle.rpz_core.specs.World.{World, policy_of, world_step}
 use Rattle.rpz_core.proofs.Outputs.{step_keeps}
 use Rattle.rpz_core.proofs.Refusals.{refused_by_state}
-use Rattle.rpz_program.specs.Script.{HasEvents, ScriptWorld, opened, begun, IsReached, at_start, after_line, state_in, world_in, shown_outcome, event_outcome, zone_outcome, world_after_line, step, text_outcome, too_long, too_many}
+use Rattle.rpz_program.specs.Opened.{with_origin, with_primary}
+use Rattle.rpz_program.specs.Script.{HasEvents, ScriptWorld, opened, begun, IsReached, at_start, after_line, state_in, world_in, shown_outcome, event_outcome, zone_outcome, primary_outcome, world_after_line, step, text_outcome, too_long, too_many}
 
 -- ---- events lead to a world that is reached, and it has its workers
 
 abbrev IsLedTo : World → Type 0
-IsLedTo world = (events : List Event) × Reaches world.origins events world
+IsLedTo world = (primaries : List (Option Addr)) × (events : List Event) × Reaches world.origins primaries events world
 
 events_in : (w : ScriptWorld) → HasEvents w → IsLedTo (world_in w)
-events_in (opened origins) h = ([], begins)
+events_in (opened zones) h = (zones.primaries, [], begins)
 events_in (begun world) h = h
 
 led_on : (world next : World) (e : Event) (out : Output) → IsLedTo world → world_step world e ≡ Ok (next, out) → IsLedTo next
 led_on world next e out h is = (
-  e ∷ h.0,
-  subst (λ (origins : List (List (List ℕ))). Reaches origins (e ∷ h.0) next) (sym (step_keeps world next e out is).origins) (goes_on h.0 e world next out h.1 is),
+  h.0,
+  e ∷ h.1,
+  subst (λ (origins : List (List (List ℕ))). Reaches origins h.0 (e ∷ h.1) next) (sym (step_keeps world next e out is).origins) (goes_on h.1 e world next out h.2 is),
 )
 
-worker_count : (origins : List (List (List ℕ))) (events : List Event) (world : World) → Reaches origins events world → length world.sessions.workers ≡ WORKERS
-worker_count origins _ _ begins = refl
-worker_count origins _ _ (goes_on events e world next out before is) = (step_keeps world next e out is).workers ∙ worker_count origins events world before
+worker_count : (origins : List (List (List ℕ))) (primaries : List (Option Addr)) (events : List Event) (world : World) → Reaches origins primaries events world → length world.sessions.workers ≡ WORKERS
+worker_count origins primaries _ _ begins = refl
+worker_count origins primaries _ _ (goes_on events e world next out before is) = (step_keeps world next e out is).workers ∙ worker_count origins primaries events world before
 
 workers_in : (w : ScriptWorld) → HasEvents w → length (world_in w).sessions.workers ≡ WORKERS
-workers_in w h = let led = events_in w h in worker_count (world_in w).origins led.0 (world_in w) led.1
+workers_in w h = let led = events_in w h in worker_count (world_in w).origins led.0 led.1 (world_in w) led.2
 
 abbrev Outcome : Type 0
 Outcome = Result (ScriptWorld × List ℕ) LineFault
@@ -76,17 +79,24 @@ event_goes : (w next : ScriptWorld) (e : Event) → HasEvents w → GoesByEvents
 event_goes w next e h = event_if (world_in w) next e (world_step (world_in w) e) (events_in w h) refl
 
 zone_goes : (w next : ScriptWorld) (origin : List (List ℕ)) → GoesByEvents next (zone_outcome w origin)
-zone_goes (opened origins) next origin out is = subst HasEvents (done_is (opened (origins ++ origin ∷ [])) next [] out is) tt
+zone_goes (opened zones) next origin out is = subst HasEvents (done_is (opened (with_origin zones origin)) next [] out is) tt
 zone_goes (begun world) next origin out is = absurd cc
+
+primary_goes : (w next : ScriptWorld) (zone : ℕ) (address : Addr) → GoesByEvents next (primary_outcome w zone address)
+primary_goes (opened zones) next zone address out is = subst HasEvents (done_is (opened (with_primary zones zone address)) next [] out is) tt
+primary_goes (begun world) next zone address out is = absurd cc
 
 line_goes : (w next : ScriptWorld) (line : Line) → HasEvents w → GoesByEvents next (world_after_line w line)
 unfolding world_after_line
 line_goes w next (Zone origin) h = zone_goes w next origin
+line_goes w next (Primary zone address) h = primary_goes w next zone address
 line_goes w next (Transfer zone stream) h = event_goes w next (event.Transfer zone stream) h
 line_goes w next (Full zone) h = event_goes w next (event.Full zone) h
 line_goes w next (Query worker transport client message) h = event_goes w next (event.Query worker transport client message) h
 line_goes w next (Give worker message) h = event_goes w next (event.Give worker message) h
 line_goes w next (Fail worker) h = event_goes w next (event.Fail worker) h
+line_goes w next (Notify client message) h = event_goes w next (event.Notify client message) h
+line_goes w next Due h = event_goes w next event.Due h
 line_goes w next (Clock seconds) h = event_goes w next (event.Clock seconds) h
 
 text_goes : (w next : ScriptWorld) (read : Result (Option Line) LineFault) → HasEvents w → GoesByEvents next (text_outcome w read)
@@ -159,11 +169,11 @@ none_pending (suc count) (suc k) = none_pending count k
 
 -- which workers are pending, in the world of the core
 pending_in : (w : ScriptWorld) (k : ℕ) → is_pending (state_in w) k ≡ slice_index_or (map is_some (world_in w).sessions.workers) k false
-pending_in (opened origins) k = sym (none_pending WORKERS k)
+pending_in (opened zones) k = sym (none_pending WORKERS k)
 pending_in (begun world) k = refl
 
 zones_in : (w : ScriptWorld) → length (policy_of (world_in w)) ≡ zone_count (state_in w)
-zones_in (opened origins) = policy_length origins []
+zones_in (opened zones) = policy_length zones.origins []
 zones_in (begun world) = policy_length world.origins world.accepted
 
 zone_found : (w : ScriptWorld) (number : ℕ) → IsZone (state_in w) number → zone_fault (zone_at (policy_of (world_in w)) number) ≡ None
@@ -188,17 +198,24 @@ event_done : (w : ScriptWorld) (e : Event) → fault_of (world_in w) e ≡ None 
 event_done w e h = event_done_if (world_in w) e (world_step (world_in w) e) h refl
 
 zone_done : (w : ScriptWorld) (origin : List (List ℕ)) → MayOpen (state_in w) origin → IsOk (zone_outcome w origin)
-zone_done (opened origins) origin h = refl
+zone_done (opened zones) origin h = refl
 zone_done (begun world) origin h = absurd h
+
+primary_done : (w : ScriptWorld) (zone : ℕ) (address : Addr) → MayHavePrimary (state_in w) zone → IsOk (primary_outcome w zone address)
+primary_done (opened zones) zone address h = refl
+primary_done (begun world) zone address h = absurd h
 
 within_done : (w : ScriptWorld) (line : Line) → HasEvents w → IsWithin (state_in w) line → IsOk (world_after_line w line)
 unfolding world_after_line
 within_done w (Zone origin) has h = zone_done w origin h.1
+within_done w (Primary zone address) has h = primary_done w zone address h.1
 within_done w (Transfer zone stream) has h = event_done w (event.Transfer zone stream) (zone_found w zone h)
 within_done w (Full zone) has h = event_done w (event.Full zone) (zone_found w zone h)
 within_done w (Query worker transport client message) has h = event_done w (event.Query worker transport client message) (query_found w worker has h.0 h.2)
 within_done w (Give worker message) has h = event_done w (event.Give worker message) (fact_found w worker has h.0 h.2)
 within_done w (Fail worker) has h = event_done w (event.Fail worker) (fact_found w worker has h.0 h.1)
+within_done w (Notify client message) has h = event_done w (event.Notify client message) refl
+within_done w Due has h = event_done w event.Due refl
 within_done w (Clock seconds) has h = event_done w (event.Clock seconds) refl
 
 -- A line of the grammar is done in every world that is reached.

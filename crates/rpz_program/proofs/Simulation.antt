@@ -1,8 +1,9 @@
 -- The stage does in its state what the world of the script does.
 use Rattle.std.proofs.Common.{◌≡◌, ℕ, List, Option, Some, None, Result, Ok, Err, map, refl, sym, ap, ◌∙◌}
 use Rattle.std.specs.Prelude.{is_some}
+use Rattle.ip_prefix.specs.declared.Addr.{Addr}
 use Rattle.script_codec.specs.declared.line.Line.{Line}
-use Rattle.script_codec.specs.declared.line.Line.TheVariants.{Zone, Transfer, Full, Query, Give, Fail, Clock}
+use Rattle.script_codec.specs.declared.line.Line.TheVariants.{Zone, Primary, Transfer, Full, Query, Give, Fail, Notify, Due, Clock}
 use Rattle.script_codec.specs.declared.line_fault.LineFault.{LineFault}
 use Rattle.script_codec.specs.Line.{unnumbered_line}
 use Rattle.script_codec.specs.State.{PlainState}
@@ -14,15 +15,13 @@ use Rattle.rpz_core.specs.declared.event.CoreFault.{CoreFault}
 use Rattle.rpz_core.specs.declared.event.Event.{Event}
 use Rattle.rpz_core.specs.declared.event.Event.TheVariants as event
 use Rattle.rpz_core.specs.declared.event.Output.{Output}
-use Rattle.rpz_core.specs.Sessions.{no_sessions}
-use Rattle.ixfr_apply.specs.Marks.{no_marks}
-use Rattle.rpz_core.specs.State.{CoreState, core_step, state_of, as_core_outcome}
+use Rattle.rpz_core.specs.State.{CoreState, core_step, new_core, state_of, as_core_outcome}
 use Rattle.rpz_core.specs.World.{World, world_step}
 use Rattle.rpz_core.proofs.Seen as core
 use Rattle.rpz_program.specs.declared.stage.Stage.TheVariants.{Running}
-use Rattle.rpz_program.specs.Script.{ScriptWorld, opened, begun, start, step, shown_outcome, world_in, event_outcome, zone_outcome, world_after_line, text_outcome}
+use Rattle.rpz_program.specs.Script.{ScriptWorld, opened, begun, start, step, shown_outcome, world_in, event_outcome, zone_outcome, primary_outcome, world_after_line, text_outcome}
 use Rattle.rpz_program.specs.Script as script
-use Rattle.rpz_program.specs.Stage.{new_stage, stage_of, core_in, stage_zone, stage_event, stage_line, stage_text, stage_step}
+use Rattle.rpz_program.specs.Stage.{new_stage, stage_of, core_in, stage_zone, stage_primary, stage_event, stage_line, stage_text, stage_step}
 use Rattle.rpz_program.specs.Stage as stage
 
 pub start_seen : stage_of start ≡ new_stage
@@ -30,16 +29,16 @@ start_seen = refl
 
 -- lines are read by the same
 state_seen : (w : ScriptWorld) → stage.state_in (stage_of w) ≡ script.state_in w
-state_seen (opened origins) = refl
+state_seen (opened zones) = refl
 state_seen (begun world) = ap (λ (n : ℕ). state.running n (map is_some world.sessions.workers)) (policy_length world.origins world.accepted)
 
-new_state : List (List (List ℕ)) → PlainPolicy → CoreState
-new_state origins zones = record { policy = record { zones = zones; accepted = 0 }; marks = no_marks origins; sessions = no_sessions; clock = 0 }
+new_state : List (List (List ℕ)) → List (Option Addr) → PlainPolicy → CoreState
+new_state origins primaries zones = record (new_core origins primaries) { policy = record { zones = zones; accepted = 0 } }
 
 -- the core begins, or runs, in the state of the world
 core_seen : (w : ScriptWorld) → core_in (stage_of w) ≡ state_of (world_in w)
 unfolding new_state
-core_seen (opened origins) = sym (ap (new_state origins) (policy_after-none origins))
+core_seen (opened zones) = sym (ap (new_state zones.origins zones.primaries) (policy_after-none zones.origins))
 core_seen (begun world) = refl
 
 output_seen : (r : Result (World × Output) CoreFault) → outcome_along Running (shown_outcome (as_core_outcome r)) ≡ outcome_along stage_of (outcome_along begun (shown_outcome r))
@@ -53,17 +52,24 @@ event_seen w e =
     ∙ output_seen (world_step (world_in w) e)
 
 zone_seen : (w : ScriptWorld) (origin : List (List ℕ)) → stage_zone (stage_of w) origin ≡ outcome_along stage_of (zone_outcome w origin)
-zone_seen (opened origins) origin = refl
+zone_seen (opened zones) origin = refl
 zone_seen (begun world) origin = refl
+
+primary_seen : (w : ScriptWorld) (zone : ℕ) (address : Addr) → stage_primary (stage_of w) zone address ≡ outcome_along stage_of (primary_outcome w zone address)
+primary_seen (opened zones) zone address = refl
+primary_seen (begun world) zone address = refl
 
 line_seen : (w : ScriptWorld) (line : Line) → stage_line (stage_of w) line ≡ outcome_along stage_of (world_after_line w line)
 unfolding stage_line world_after_line
 line_seen w (Zone origin) = zone_seen w origin
+line_seen w (Primary zone address) = primary_seen w zone address
 line_seen w (Transfer zone stream) = event_seen w (event.Transfer zone stream)
 line_seen w (Full zone) = event_seen w (event.Full zone)
 line_seen w (Query worker transport client message) = event_seen w (event.Query worker transport client message)
 line_seen w (Give worker message) = event_seen w (event.Give worker message)
 line_seen w (Fail worker) = event_seen w (event.Fail worker)
+line_seen w (Notify client message) = event_seen w (event.Notify client message)
+line_seen w Due = event_seen w event.Due
 line_seen w (Clock seconds) = event_seen w (event.Clock seconds)
 
 text_seen : (w : ScriptWorld) (read : Result (Option Line) LineFault) → stage_text (stage_of w) read ≡ outcome_along stage_of (text_outcome w read)

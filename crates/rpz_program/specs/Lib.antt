@@ -1,3 +1,4 @@
+pub mod Opened
 pub mod Script
 pub mod Stage
 pub mod Run

@@ -1,8 +1,9 @@
 -- The world of a script, and what its lines do to it.
 use Rattle.std.specs.Prelude.{◌≡◌, ℕ, List, [], ◌∷◌, ◌++◌, length, map, Option, Some, None, is_some, Result, Ok, Err, ⊤}
 use Rattle.dns_name.specs.Labels.{Name}
+use Rattle.ip_prefix.specs.declared.Addr.{Addr}
 use Rattle.script_codec.specs.declared.line.Line.{Line}
-use Rattle.script_codec.specs.declared.line.Line.TheVariants.{Zone, Transfer, Full, Query, Give, Fail, Clock}
+use Rattle.script_codec.specs.declared.line.Line.TheVariants.{Zone, Primary, Transfer, Full, Query, Give, Fail, Notify, Due, Clock}
 use Rattle.script_codec.specs.declared.shown.Shown.{Shown}
 use Rattle.script_codec.specs.declared.shown.Shown.TheVariants as shown
 use Rattle.script_codec.specs.declared.line_fault.LineFault.{LineFault}
@@ -25,34 +26,39 @@ use Rattle.rpz_core.specs.History.{Reaches}
 use Rattle.rpz_core.specs.World.{World, new_world, world_step}
 use Rattle.script_loop.specs.Abstraction.{outcome_along}
 use Rattle.script_loop.specs.Fold as fold
+use Rattle.rpz_program.specs.Opened.{OpenZones, no_zones, with_origin, with_primary}
 
--- The zones that were opened so far, by their origins; and from the first line on that opens no zone, the world of the core.
+-- The zones that were opened so far, with their primaries; and from the first line on that is neither of these two kinds, the
+-- world of the core.
 pub data ScriptWorld : Type 0 where
-  opened : List Name → ScriptWorld
+  opened : OpenZones → ScriptWorld
   begun : World → ScriptWorld
 
 abbrev pub start : ScriptWorld
-start = opened []
+start = opened no_zones
 
 -- what lines are read by: how many zones there are, and which workers have a pending query
 abbrev pub state_in : ScriptWorld → PlainState
-state_in (opened origins) = state.opening origins
+state_in (opened zones) = state.opening zones.origins zones.primaries
 state_in (begun world) = state.running (length world.origins) (map is_some world.sessions.workers)
 
 -- the world of the core, which begins with the zones that were opened
 abbrev pub world_in : ScriptWorld → World
-world_in (opened origins) = new_world origins
+world_in (opened zones) = new_world zones.origins zones.primaries
 world_in (begun world) = world
 
--- the event that a line is; a zone line is none
+-- the event that a line is; a zone line and a primary line are none
 abbrev pub event_of : Line → Option Event
 event_of (Zone origin) = None
+event_of (Primary zone address) = None
 event_of (Transfer zone stream) = Some (event.Transfer zone stream)
 event_of (Full zone) = Some (event.Full zone)
 event_of (Query worker transport client message) =
     Some (event.Query worker transport client message)
 event_of (Give worker message) = Some (event.Give worker message)
 event_of (Fail worker) = Some (event.Fail worker)
+event_of (Notify client message) = Some (event.Notify client message)
+event_of Due = Some event.Due
 event_of (Clock seconds) = Some (event.Clock seconds)
 
 -- a core that refuses an event refuses its line
@@ -74,6 +80,9 @@ shown_of (output.Refused zone refusal) = Some (shown.Refused zone (zone_fault_of
 shown_of (output.Ask worker message) = Some (shown.Ask worker message)
 shown_of (output.Reply worker message) = Some (shown.Reply worker message)
 shown_of (output.Silent worker) = Some (shown.Silent worker)
+shown_of (output.Notified message) = Some (shown.Notified message)
+shown_of output.Hush = Some shown.Hush
+shown_of (output.Due zone) = Some (shown.Due zone)
 shown_of output.None = None
 
 abbrev pub shown_octets : Option Shown → List ℕ
@@ -86,10 +95,15 @@ abbrev pub shown_outcome : {S : Type 0} → Result (S × Output) CoreFault →
 shown_outcome (Ok next) = Ok (next.0, shown_octets (shown_of next.1))
 shown_outcome (Err fault) = Err (why_of fault)
 
--- a zone is opened, before any other line
+-- a zone is opened, before the first event
 abbrev pub zone_outcome : ScriptWorld → Name → Result (ScriptWorld × List ℕ) LineFault
-zone_outcome (opened origins) origin = Ok (opened (origins ++ origin ∷ []), [])
+zone_outcome (opened zones) origin = Ok (opened (with_origin zones origin), [])
 zone_outcome (begun world) origin = Err why.Late
+
+-- a zone is given its primary, before the first event
+abbrev pub primary_outcome : ScriptWorld → ℕ → Addr → Result (ScriptWorld × List ℕ) LineFault
+primary_outcome (opened zones) zone address = Ok (opened (with_primary zones zone address), [])
+primary_outcome (begun world) zone address = Err why.Late
 
 -- any other line is an event of the core
 abbrev pub event_outcome : ScriptWorld → Event → Result (ScriptWorld × List ℕ) LineFault
@@ -99,12 +113,16 @@ event_outcome world event =
 -- the world after a line, and what the line writes; or why it is refused
 unfoldable pub world_after_line : ScriptWorld → Line → Result (ScriptWorld × List ℕ) LineFault
 world_after_line world (Zone origin) = zone_outcome world origin
+world_after_line world (Primary zone address) = primary_outcome world zone address
 world_after_line world (Transfer zone stream) = event_outcome world (event.Transfer zone stream)
 world_after_line world (Full zone) = event_outcome world (event.Full zone)
 world_after_line world (Query worker transport client message) =
     event_outcome world (event.Query worker transport client message)
 world_after_line world (Give worker message) = event_outcome world (event.Give worker message)
 world_after_line world (Fail worker) = event_outcome world (event.Fail worker)
+world_after_line world (Notify client message) =
+    event_outcome world (event.Notify client message)
+world_after_line world Due = event_outcome world event.Due
 world_after_line world (Clock seconds) = event_outcome world (event.Clock seconds)
 
 -- the same of the bytes of a line: nothing where it is skipped
@@ -140,5 +158,7 @@ pub data IsReached : ScriptWorld → Type 0 where
 
 -- Events of the core lead to the world that lines have brought about, from zones with nothing loaded.
 abbrev pub HasEvents : ScriptWorld → Type 0
-HasEvents (opened origins) = ⊤
-HasEvents (begun world) = (events : List Event) × Reaches world.origins events world
+HasEvents (opened zones) = ⊤
+HasEvents (begun world) =
+    (primaries : List (Option Addr)) × (events : List Event)
+    × Reaches world.origins primaries events world

@@ -21,6 +21,9 @@ pub(crate) fn shown(output: Output) -> Option<Shown>
         Output::Ask { worker, message } => Some(Shown::Ask { worker, message }),
         Output::Reply { worker, message } => Some(Shown::Reply { worker, message }),
         Output::Silent { worker } => Some(Shown::Silent { worker }),
+        Output::Notified { message } => Some(Shown::Notified { message }),
+        Output::Hush => Some(Shown::Hush),
+        Output::Due { zone } => Some(Shown::Due { zone }),
         Output::None => None,
     }
 }

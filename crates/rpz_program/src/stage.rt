@@ -2,13 +2,15 @@
 
 ghost use Rattle.std.specs.Prelude.{◌≡◌, []};
 ghost use Rattle.script_codec.specs.State.{state_of as state_seen};
-ghost use Rattle.script_codec.specs.Within.{IsWithin, MayOpen};
+ghost use Rattle.script_codec.specs.Within.{IsWithin, IsZone, MayOpen};
 ghost use Rattle.script_loop.specs.Replay.{Steps};
-ghost use Rattle.rpz_program.specs.Stage.{new_stage, stage_event, stage_line, stage_zone, state_in};
+ghost use Rattle.rpz_core.specs.declared.event.Event.TheVariants as event_form;
+ghost use Rattle.rpz_program.specs.Stage.{new_stage, stage_event, stage_line, stage_primary, stage_zone, state_in};
 
 use crate::answering::answer_event;
 use crate::origins::Origins;
-use dns_name::Name;
+use dns_name::{Name, Octets};
+use ip_prefix::{Addr, Transport};
 use rpz_core::{Core, Event};
 use script_codec::{Line, LineFault, ScriptState, UnnumberedError, read_unnumbered};
 use script_loop::{AnswerError, Machine};
@@ -17,7 +19,7 @@ use std::alloc::Global;
 /// How far a script is.
 #[derive(Drop)]
 pub(crate) enum Stage {
-    /// Its zones are opened: all lines so far were zone lines.
+    /// Its zones are opened: all lines so far were zone lines and primary lines.
     Opening(Origins),
     /// The core runs, with the zones that were opened.
     Running(Core),
@@ -73,6 +75,7 @@ impl Stage {
         match self {
             Stage::Opening(origins) => ScriptState::Opening {
                 origins: origins.names(),
+                primaries: origins.primaries(),
             },
             Stage::Running(core) => ScriptState::Running {
                 zones: core.zone_count(),
@@ -95,6 +98,7 @@ impl Stage {
     {
         match line {
             Line::Zone { origin } => self.open(origin),
+            Line::Primary { zone, address } => self.give_primary(zone, address),
             Line::Transfer { zone, stream } => {
                 self.take(alloc, Event::Transfer { zone, stream }, reply)
             }
@@ -104,19 +108,19 @@ impl Stage {
                 transport,
                 client,
                 message,
-            } => {
-                let event = Event::Query {
-                    worker,
-                    transport,
-                    client,
-                    message,
-                };
-                self.take(alloc, event, reply)
-            }
+            } => self.take(
+                alloc,
+                query_event(worker, transport, client, message),
+                reply,
+            ),
             Line::Give { worker, message } => {
                 self.take(alloc, Event::Give { worker, message }, reply)
             }
             Line::Fail { worker } => self.take(alloc, Event::Fail { worker }, reply),
+            Line::Notify { client, message } => {
+                self.take(alloc, Event::Notify { client, message }, reply)
+            }
+            Line::Due => self.take(alloc, Event::Due, reply),
             Line::Clock { seconds } => self.take(alloc, Event::Clock { seconds }, reply),
         }
     }
@@ -129,6 +133,20 @@ impl Stage {
         match self {
             Stage::Opening(origins) => {
                 origins.push(origin)?;
+                Ok(())
+            }
+            Stage::Running(_) => Err(AnswerError::Refused(LineFault::Late)),
+        }
+    }
+
+    // Gives a zone its primary, which writes nothing.
+    fn give_primary(&mut self, zone: u32, address: Addr) -> Result<(), AnswerError<LineFault>>
+        requires { IsZone (state_in self.old) zone }
+        ensures { Steps (stage_primary self.old zone address) result self.new [] }
+    {
+        match self {
+            Stage::Opening(origins) => {
+                origins.set_primary(zone, address);
                 Ok(())
             }
             Stage::Running(_) => Err(AnswerError::Refused(LineFault::Late)),
@@ -148,11 +166,23 @@ impl Stage {
         match self {
             Stage::Running(core) => answer_event(alloc, core, event, reply),
             Stage::Opening(origins) => {
-                let mut core = Core::start(alloc, origins.names().as_slice())?;
+                let mut core = Core::start(alloc, origins.names().as_slice(), origins.primaries())?;
                 answer_event(alloc, &mut core, event, reply)?;
                 *self = Stage::Running(core);
                 Ok(())
             }
         }
+    }
+}
+
+// The event of a query line.
+fn query_event(worker: u32, transport: Transport, client: Addr, message: Octets) -> Event
+    ensures { result ≡ event_form.Query worker transport client message }
+{
+    Event::Query {
+        worker,
+        transport,
+        client,
+        message,
     }
 }

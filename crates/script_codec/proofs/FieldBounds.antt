@@ -12,8 +12,8 @@ use Rattle.script_codec.specs.declared.state.TheConstants.{WORKERS}
 use Rattle.script_codec.specs.declared.line_fault.LineFault.TheVariants as why
 use Rattle.script_codec.specs.Field.{or_refused, name_field, number_field, zone_field, worker_field, bytes_field, message_field}
 use Rattle.script_codec.specs.Outcome.{refuse_if}
-use Rattle.script_codec.specs.State.{PlainState, opening, running, opens}
-use Rattle.script_codec.specs.Within.{IsWorker, IsMessage, MayOpen}
+use Rattle.script_codec.specs.State.{PlainState, opening, running, opens, takes_primary}
+use Rattle.script_codec.specs.Within.{IsWorker, IsMessage, MayOpen, MayHavePrimary}
 use Rattle.script_codec.proofs.Binding.{bind_ok, not_refused, ok_is}
 
 -- zones
@@ -51,10 +51,17 @@ message_bounds text message e =
 
 pub may_open : (state : PlainState) (origin : List (List ℕ)) (u : Unit {0}) → opens state origin ≡ Ok u → MayOpen state origin
 unfolding opens
-may_open (opening origins) origin u e =
+may_open (opening origins primaries) origin u e =
     let a = bind_ok (refuse_if (leb ZONE_LIMIT (length origins)) why.Many) _ u e in
     (leb-false ZONE_LIMIT (length origins) (not_refused _ why.Many a.0 a.1), not_refused _ why.Repeated u a.2)
 may_open (running zones pending) origin u e = absurd cc
+
+-- zones that may be given a primary
+
+pub may_have_primary : (state : PlainState) (zone : ℕ) (u : Unit {0}) → takes_primary state zone ≡ Ok u → MayHavePrimary state zone
+unfolding takes_primary
+may_have_primary (opening origins primaries) zone u e = not_refused _ why.Repeated u e
+may_have_primary (running zones pending) zone u e = absurd cc
 
 -- names
 

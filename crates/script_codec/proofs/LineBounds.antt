@@ -8,13 +8,13 @@ use Rattle.script_codec.specs.declared.line.Line.TheVariants as line
 use Rattle.script_codec.specs.declared.line_fault.LineFault.{LineFault}
 use Rattle.script_codec.specs.declared.line_fault.LineFault.TheVariants as why
 use Rattle.script_codec.specs.Field.{name_field, number_field, zone_field, worker_field, transport_field, address_field, bytes_field, message_field}
-use Rattle.script_codec.specs.Fields.{fields_of, one_field, two_fields, four_fields}
-use Rattle.script_codec.specs.Line.{zone_line, transfer_line, full_line, query_line, give_line, fail_line, clock_line, kind_line, worded_line, is_skipped, is_text_byte, unnumbered_line}
+use Rattle.script_codec.specs.Fields.{fields_of, no_more_fields, one_field, two_fields, four_fields}
+use Rattle.script_codec.specs.Line.{zone_line, primary_line, transfer_line, full_line, query_line, give_line, fail_line, notify_line, due_line, clock_line, kind_line, worded_line, is_skipped, is_text_byte, unnumbered_line}
 use Rattle.script_codec.specs.Outcome.{refuse_if}
-use Rattle.script_codec.specs.State.{PlainState, zone_count, is_pending, opens}
+use Rattle.script_codec.specs.State.{PlainState, zone_count, is_pending, opens, takes_primary}
 use Rattle.script_codec.specs.Within.{IsWithin}
 use Rattle.script_codec.proofs.Binding.{bind_ok, not_refused, ok_is}
-use Rattle.script_codec.proofs.FieldBounds.{zone_bounds, worker_bounds, message_bounds, may_open, name_bounds}
+use Rattle.script_codec.proofs.FieldBounds.{zone_bounds, worker_bounds, message_bounds, may_open, may_have_primary, name_bounds}
 
 -- from the line that the fields give to the line that is read
 read_is : (state : PlainState) (given says : Line) → (let r : Result Line LineFault = Ok given in r ≡ Ok says) → IsWithin state given → IsWithin state says
@@ -29,6 +29,17 @@ zone_within state fields says e =
     let b = bind_ok (name_field a.0) _ says a.2 in
     let c = bind_ok (opens state b.0) _ says b.2 in
     read_is state (line.Zone b.0) says c.2 (name_bounds a.0 b.0 b.1, may_open state b.0 c.0 c.1)
+
+-- `primary Z ADDR`
+
+primary_within : (state : PlainState) (fields : List (List ℕ)) (says : Line) → primary_line state fields ≡ Ok says → IsWithin state says
+unfolding primary_line
+primary_within state fields says e =
+    let a = bind_ok (two_fields fields) _ says e in
+    let b = bind_ok (zone_field (zone_count state) a.0.0) _ says a.2 in
+    let c = bind_ok (address_field a.0.1) _ says b.2 in
+    let d = bind_ok (takes_primary state b.0) _ says c.2 in
+    read_is state (line.Primary b.0 c.0) says d.2 (zone_bounds (zone_count state) a.0.0 b.0 b.1, may_have_primary state b.0 d.0 d.1)
 
 -- `xfer Z HEX`
 
@@ -83,6 +94,24 @@ fail_within state fields says e =
     let c = bind_ok (refuse_if (not (is_pending state b.0)) why.Idle) _ says b.2 in
     read_is state (line.Fail b.0) says c.2 (worker_bounds a.0 b.0 b.1, not-false (is_pending state b.0) (not_refused _ why.Idle c.0 c.1))
 
+-- `notify ADDR HEX`
+
+notify_within : (state : PlainState) (fields : List (List ℕ)) (says : Line) → notify_line fields ≡ Ok says → IsWithin state says
+unfolding notify_line
+notify_within state fields says e =
+    let a = bind_ok (two_fields fields) _ says e in
+    let b = bind_ok (address_field a.0.0) _ says a.2 in
+    let c = bind_ok (bytes_field a.0.1) _ says b.2 in
+    read_is state (line.Notify b.0 c.0) says c.2 tt
+
+-- `due`
+
+due_within : (state : PlainState) (fields : List (List ℕ)) (says : Line) → due_line fields ≡ Ok says → IsWithin state says
+unfolding due_line
+due_within state fields says e =
+    let a = bind_ok (no_more_fields fields) _ says e in
+    read_is state line.Due says a.2 tt
+
 -- `clock SECONDS`
 
 clock_within : (state : PlainState) (fields : List (List ℕ)) (says : Line) → clock_line fields ≡ Ok says → IsWithin state says
@@ -101,12 +130,15 @@ kind_within : (state : PlainState) (word : List ℕ) (fields : List (List ℕ)) 
 unfolding kind_line
 kind_within state word fields says =
     cond_both (bytes_eq word (codes "zone")) _ _ (ReadsWithin state says) (λ t. zone_within state fields says) (λ t.
+    cond_both (bytes_eq word (codes "primary")) _ _ (ReadsWithin state says) (λ t. primary_within state fields says) (λ t.
     cond_both (bytes_eq word (codes "xfer")) _ _ (ReadsWithin state says) (λ t. transfer_within state fields says) (λ t.
     cond_both (bytes_eq word (codes "full")) _ _ (ReadsWithin state says) (λ t. full_within state fields says) (λ t.
     cond_both (bytes_eq word (codes "query")) _ _ (ReadsWithin state says) (λ t. query_within state fields says) (λ t.
     cond_both (bytes_eq word (codes "give")) _ _ (ReadsWithin state says) (λ t. give_within state fields says) (λ t.
     cond_both (bytes_eq word (codes "fail")) _ _ (ReadsWithin state says) (λ t. fail_within state fields says) (λ t.
-    cond_both (bytes_eq word (codes "clock")) _ _ (ReadsWithin state says) (λ t. clock_within state fields says) (λ t e. absurd cc)))))))
+    cond_both (bytes_eq word (codes "notify")) _ _ (ReadsWithin state says) (λ t. notify_within state fields says) (λ t.
+    cond_both (bytes_eq word (codes "due")) _ _ (ReadsWithin state says) (λ t. due_within state fields says) (λ t.
+    cond_both (bytes_eq word (codes "clock")) _ _ (ReadsWithin state says) (λ t. clock_within state fields says) (λ t e. absurd cc))))))))))
 
 worded_within : (state : PlainState) (fields : List (List ℕ)) (says : Line) → worded_line state fields ≡ Ok says → IsWithin state says
 worded_within state [] says e = absurd cc

@@ -8,9 +8,9 @@ use Rattle.script_codec.specs.declared.line.Line.TheVariants as line
 use Rattle.script_codec.specs.declared.line_fault.LineFault.{LineFault}
 use Rattle.script_codec.specs.declared.line_fault.LineFault.TheVariants as why
 use Rattle.script_codec.specs.Outcome.{◌>>=◌, refuse_if}
-use Rattle.script_codec.specs.Fields.{fields_of, one_field, two_fields, four_fields}
+use Rattle.script_codec.specs.Fields.{fields_of, no_more_fields, one_field, two_fields, four_fields}
 use Rattle.script_codec.specs.Field.{name_field, number_field, zone_field, worker_field, transport_field, address_field, bytes_field, message_field}
-use Rattle.script_codec.specs.State.{PlainState, zone_count, is_pending, opens}
+use Rattle.script_codec.specs.State.{PlainState, zone_count, is_pending, opens, takes_primary}
 
 -- `zone NAME`
 unfoldable pub zone_line : PlainState → List (List ℕ) → Result Line LineFault
@@ -19,6 +19,15 @@ zone_line state fields = do
   origin ← name_field text
   _ ← opens state origin
   Ok (line.Zone origin)
+
+-- `primary Z ADDR`
+unfoldable pub primary_line : PlainState → List (List ℕ) → Result Line LineFault
+primary_line state fields = do
+  (digits, source) ← two_fields fields
+  zone ← zone_field (zone_count state) digits
+  address ← address_field source
+  _ ← takes_primary state zone
+  Ok (line.Primary zone address)
 
 -- `xfer Z HEX`
 unfoldable pub transfer_line : PlainState → List (List ℕ) → Result Line LineFault
@@ -63,6 +72,20 @@ fail_line state fields = do
   _ ← refuse_if (not (is_pending state worker)) why.Idle
   Ok (line.Fail worker)
 
+-- `notify ADDR HEX`
+unfoldable pub notify_line : List (List ℕ) → Result Line LineFault
+notify_line fields = do
+  (source, text) ← two_fields fields
+  client ← address_field source
+  message ← bytes_field text
+  Ok (line.Notify client message)
+
+-- `due`
+unfoldable pub due_line : List (List ℕ) → Result Line LineFault
+due_line fields = do
+  _ ← no_more_fields fields
+  Ok line.Due
+
 -- `clock SECONDS`
 unfoldable pub clock_line : List (List ℕ) → Result Line LineFault
 clock_line fields = do
@@ -74,13 +97,16 @@ clock_line fields = do
 unfoldable pub kind_line : PlainState → List ℕ → List (List ℕ) → Result Line LineFault
 kind_line state word fields =
     if bytes_eq word (codes "zone") then zone_line state fields
+    else (if bytes_eq word (codes "primary") then primary_line state fields
     else (if bytes_eq word (codes "xfer") then transfer_line state fields
     else (if bytes_eq word (codes "full") then full_line state fields
     else (if bytes_eq word (codes "query") then query_line state fields
     else (if bytes_eq word (codes "give") then give_line state fields
     else (if bytes_eq word (codes "fail") then fail_line state fields
+    else (if bytes_eq word (codes "notify") then notify_line fields
+    else (if bytes_eq word (codes "due") then due_line fields
     else (if bytes_eq word (codes "clock") then clock_line fields
-    else Err why.Word))))))
+    else Err why.Word)))))))))
 
 -- a line that begins with its first word
 abbrev pub worded_line : PlainState → List (List ℕ) → Result Line LineFault

@@ -1,6 +1,7 @@
 -- The state that a line is read in.
-use Rattle.std.specs.Prelude.{ℕ, nat_le, Bool, false, List, length, slice_index_or, Result, Err}
+use Rattle.std.specs.Prelude.{ℕ, ◌-◌, nat_le, Bool, false, List, length, Option, None, is_some, slice_index_or, Result, Err}
 use Rattle.dns_name.specs.Labels.{Name}
+use Rattle.ip_prefix.specs.declared.Addr.{Addr}
 use Rattle.script_codec.specs.declared.state.ScriptState.{ScriptState}
 use Rattle.script_codec.specs.declared.state.ScriptState.TheVariants.{Opening, Running}
 use Rattle.zone_rows.specs.declared.zone.TheConstants.{ZONE_LIMIT}
@@ -9,30 +10,41 @@ use Rattle.script_codec.specs.declared.line_fault.LineFault.TheVariants as why
 use Rattle.script_codec.specs.Names.{has_zone_name}
 use Rattle.script_codec.specs.Outcome.{◌>>=◌, refuse_if}
 
--- All lines so far were zone lines, which opened zones of these origins, zone 1 first; or there were others, and there are so
--- many zones, and the list says of each worker, worker 0 first, whether it has a pending query.
+-- All lines so far were zone lines, which opened zones of these origins, zone 1 first, and primary lines, by which each of these
+-- zones has a primary or none; or there were others, and there are so many zones, and the list says of each worker, worker 0
+-- first, whether it has a pending query.
 pub data PlainState : Type 0 where
-  opening : List Name → PlainState
+  opening : List Name → List (Option Addr) → PlainState
   running : ℕ → List Bool → PlainState
 
 -- what the code holds by reference
 abbrev pub state_of : ScriptState → PlainState
-state_of (Opening origins) = opening origins.now
+state_of (Opening origins primaries) = opening origins.now primaries.now
 state_of (Running zones pending) = running zones pending
 
 -- how many zones there are
 abbrev pub zone_count : PlainState → ℕ
-zone_count (opening origins) = length origins
+zone_count (opening origins primaries) = length origins
 zone_count (running zones pending) = zones
 
 -- whether the worker has a pending query
 abbrev pub is_pending : PlainState → ℕ → Bool
-is_pending (opening origins) worker = false
+is_pending (opening origins primaries) worker = false
 is_pending (running zones pending) worker = slice_index_or pending worker false
 
 -- whether a zone of this origin may be opened
 unfoldable pub opens : PlainState → Name → Result (Unit {0}) LineFault
-opens (opening origins) origin = do
+opens (opening origins primaries) origin = do
   _ ← refuse_if (nat_le ZONE_LIMIT (length origins)) why.Many
   refuse_if (has_zone_name origins origin) why.Repeated
 opens (running zones pending) origin = Err why.Late
+
+-- whether the zone of this number has a primary; zone 1 is the first
+abbrev pub has_primary : List (Option Addr) → ℕ → Bool
+has_primary primaries zone = is_some (slice_index_or primaries (zone - 1) None)
+
+-- whether the zone of this number may be given a primary
+unfoldable pub takes_primary : PlainState → ℕ → Result (Unit {0}) LineFault
+takes_primary (opening origins primaries) zone =
+    refuse_if (has_primary primaries zone) why.Repeated
+takes_primary (running zones pending) zone = Err why.Late

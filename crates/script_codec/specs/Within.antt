@@ -4,10 +4,10 @@ use Rattle.dns_name.specs.Labels.{IsName, Name}
 use Rattle.zone_rows.specs.declared.zone.TheConstants.{ZONE_LIMIT}
 use Rattle.script_codec.specs.declared.field.TheConstants.{MESSAGE_BYTES}
 use Rattle.script_codec.specs.declared.line.Line.{Line}
-use Rattle.script_codec.specs.declared.line.Line.TheVariants.{Zone, Transfer, Full, Query, Give, Fail, Clock}
+use Rattle.script_codec.specs.declared.line.Line.TheVariants.{Zone, Primary, Transfer, Full, Query, Give, Fail, Notify, Due, Clock}
 use Rattle.script_codec.specs.declared.state.TheConstants.{WORKERS}
 use Rattle.script_codec.specs.Names.{has_zone_name}
-use Rattle.script_codec.specs.State.{PlainState, opening, running, zone_count, is_pending}
+use Rattle.script_codec.specs.State.{PlainState, opening, running, zone_count, is_pending, has_primary}
 
 -- there is a zone of this number; zone 1 is the first
 abbrev pub IsZone : PlainState → ℕ → Type 0
@@ -21,15 +21,22 @@ IsWorker worker = worker < WORKERS
 abbrev pub IsMessage : List ℕ → Type 0
 IsMessage message = length message ≤ MESSAGE_BYTES
 
--- A zone of this origin may be opened: all lines so far were zone lines, there is room for one more, and none has this origin.
+-- A zone of this origin may be opened: all lines so far were zone lines and primary lines, there is room for one more, and none
+-- has this origin.
 abbrev pub MayOpen : PlainState → Name → Type 0
-MayOpen (opening origins) origin =
+MayOpen (opening origins primaries) origin =
     (length origins < ZONE_LIMIT) × (has_zone_name origins origin ≡ false)
 MayOpen (running zones pending) origin = ⊥
+
+-- The zone of this number may be given a primary: all lines so far were zone lines and primary lines, and it has none.
+abbrev pub MayHavePrimary : PlainState → ℕ → Type 0
+MayHavePrimary (opening origins primaries) zone = has_primary primaries zone ≡ false
+MayHavePrimary (running zones pending) zone = ⊥
 
 -- A transfer is of an open zone; a worker with a pending query gets no other, and only such a worker gets an answer.
 abbrev pub IsWithin : PlainState → Line → Type 0
 IsWithin state (Zone origin) = IsName origin × MayOpen state origin
+IsWithin state (Primary zone address) = IsZone state zone × MayHavePrimary state zone
 IsWithin state (Transfer zone stream) = IsZone state zone
 IsWithin state (Full zone) = IsZone state zone
 IsWithin state (Query worker transport client message) =
@@ -37,6 +44,8 @@ IsWithin state (Query worker transport client message) =
 IsWithin state (Give worker message) =
     IsWorker worker × IsMessage message × (is_pending state worker ≡ true)
 IsWithin state (Fail worker) = IsWorker worker × (is_pending state worker ≡ true)
+IsWithin state (Notify client message) = Unit {0}
+IsWithin state Due = Unit {0}
 IsWithin state (Clock seconds) = Unit {0}
 
 -- the same of a line that may be skipped

@@ -3,7 +3,7 @@
 ghost use Rattle.std.specs.Prelude.{◌≡◌, ◌<◌, ◌∷◌, length, position, IfSome};
 ghost use Rattle.script_codec.specs.Outcome.{Reads};
 ghost use Rattle.script_codec.specs.Fields as fields_form;
-ghost use Rattle.script_codec.specs.Fields.{is_space, fields_of, fields_left};
+ghost use Rattle.script_codec.specs.Fields.{is_space, fields_of, fields_left, no_more_fields};
 
 use crate::line_fault::LineFault;
 
@@ -41,6 +41,17 @@ fn first_field<'a>(left: Left<'a>) -> Result<(&'a [u8], Left<'a>), LineFault>
         return Err(LineFault::Fields);
     }
     Ok((field, others))
+}
+
+/// A line without fields.
+#[tactic(auto, using(crate::proofs::Cuts::never_ended))]
+pub fn no_fields(left: Left<'_>) -> Result<(), LineFault>
+    ensures { result ≡ no_more_fields (fields_left left.entry) }
+{
+    match left {
+        None => Ok(()),
+        Some(_) => Err(LineFault::Fields),
+    }
 }
 
 /// The field of a line that has one.

@@ -10,6 +10,11 @@ pub enum Line {
     Zone {
         origin: Name,
     },
+    /// The primary of the zone of this number, from which alone a NOTIFY of it is accepted.
+    Primary {
+        zone: u32,
+        address: Addr,
+    },
     /// A transfer of the zone of this number, as it came: each message behind its length in two bytes.
     Transfer {
         zone: u32,
@@ -35,6 +40,13 @@ pub enum Line {
     Fail {
         worker: u32,
     },
+    /// A message of a client at this address, which may be a NOTIFY.
+    Notify {
+        client: Addr,
+        message: Octets,
+    },
+    /// Which zone is due?
+    Due,
     /// The time, in seconds.
     Clock {
         seconds: u32,

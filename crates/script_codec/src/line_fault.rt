@@ -23,11 +23,11 @@ pub enum LineFault {
     Fields,
     /// The field is no name as text.
     Name,
-    /// A zone is opened after a line of another kind.
+    /// A zone is opened, or given a primary, after a line of another kind than these two.
     Late,
     /// As many zones are open as may be: 32.
     Many,
-    /// The zone is open already.
+    /// The zone is open already, or has a primary already.
     Repeated,
     /// The field is not a number of 1 to 10 decimal digits that is at most 4,294,967,295.
     Number,

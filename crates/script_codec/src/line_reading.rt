@@ -5,12 +5,12 @@ ghost use Rattle.std.specs.List.{list_all};
 ghost use Rattle.script_codec.specs.Outcome.{Gives, LineGives};
 ghost use Rattle.script_codec.specs.Fields.{fields_of, fields_left};
 ghost use Rattle.script_codec.specs.Line as line_form;
-ghost use Rattle.script_codec.specs.Line.{zone_line, transfer_line, full_line, query_line, give_line, fail_line, clock_line, worded_line, unnumbered_line, line_of, is_text_byte};
+ghost use Rattle.script_codec.specs.Line.{zone_line, primary_line, transfer_line, full_line, query_line, give_line, fail_line, notify_line, due_line, clock_line, worded_line, unnumbered_line, line_of, is_text_byte};
 ghost use Rattle.script_codec.specs.State.{PlainState, state_of};
 ghost use Rattle.script_codec.specs.Within.{IsWithin, SaysWithin};
 
 use crate::field::{address, bytes, message, name, number, transport, worker, zone};
-use crate::fields::{Left, four_fields, one_field, split_field, two_fields};
+use crate::fields::{Left, four_fields, no_fields, one_field, split_field, two_fields};
 use crate::line::Line;
 use crate::line_fault::{BadLine, LineError, LineFault, UnnumberedError};
 use crate::state::ScriptState;
@@ -103,6 +103,9 @@ fn read_worded(alloc: Global, text: &[u8], state: &ScriptState<'_>) -> Result<Li
     if word == b"zone".as_slice() {
         return read_zone(alloc, fields, state);
     }
+    if word == b"primary".as_slice() {
+        return read_primary(fields, state);
+    }
     if word == b"xfer".as_slice() {
         return read_transfer(alloc, fields, state);
     }
@@ -117,6 +120,12 @@ fn read_worded(alloc: Global, text: &[u8], state: &ScriptState<'_>) -> Result<Li
     }
     if word == b"fail".as_slice() {
         return read_fail(fields, state);
+    }
+    if word == b"notify".as_slice() {
+        return read_notify(alloc, fields);
+    }
+    if word == b"due".as_slice() {
+        return read_due(fields);
     }
     if word == b"clock".as_slice() {
         return read_clock(fields);
@@ -138,6 +147,19 @@ fn read_zone(
     let origin = name(alloc, text)?;
     state.opens(&origin)?;
     Ok(Line::Zone { origin })
+}
+
+// The fields of `primary Z ADDR`.
+#[tactic(auto, unfolding(crate::specs::Line::primary_line))]
+fn read_primary(fields: Left<'_>, state: &ScriptState<'_>) -> Result<Line, UnnumberedError>
+    ensures exact { Gives result (primary_line (state_of state.now) (fields_left fields.entry)) }
+    ensures within { IfOk result (IsWithin (state_of state.now)) }
+{
+    let (digits, source) = two_fields(fields)?;
+    let zone = zone(digits, state.zone_count())?;
+    let address = address(source)?;
+    state.takes_primary(zone)?;
+    Ok(Line::Primary { zone, address })
 }
 
 // The fields of `xfer Z HEX`.
@@ -224,6 +246,28 @@ fn read_fail(fields: Left<'_>, state: &ScriptState<'_>) -> Result<Line, Unnumber
         return Err(UnnumberedError::Refused(LineFault::Idle));
     }
     Ok(Line::Fail { worker })
+}
+
+// The fields of `notify ADDR HEX`.
+#[tactic(auto, unfolding(crate::specs::Line::notify_line))]
+fn read_notify(alloc: Global, fields: Left<'_>) -> Result<Line, UnnumberedError>
+    ensures exact { Gives result (notify_line (fields_left fields.entry)) }
+    ensures within { (state : PlainState) → IfOk result (IsWithin state) }
+{
+    let (source, text) = two_fields(fields)?;
+    let client = address(source)?;
+    let message = bytes(alloc, text)?;
+    Ok(Line::Notify { client, message })
+}
+
+// `due`, which has no field.
+#[tactic(auto, unfolding(crate::specs::Line::due_line))]
+fn read_due(fields: Left<'_>) -> Result<Line, UnnumberedError>
+    ensures exact { Gives result (due_line (fields_left fields.entry)) }
+    ensures within { (state : PlainState) → IfOk result (IsWithin state) }
+{
+    no_fields(fields)?;
+    Ok(Line::Due)
 }
 
 // The field of `clock SECONDS`.

@@ -18,4 +18,10 @@ pub enum Shown {
     Reply { worker: u32, message: Octets },
     /// The query of this worker gets no reply.
     Silent { worker: u32 },
+    /// The reply to a NOTIFY.
+    Notified { message: Octets },
+    /// What came as a NOTIFY gets no reply.
+    Hush,
+    /// The first zone that is due, by its number; 0 where none is.
+    Due { zone: u32 },
 }

@@ -32,6 +32,9 @@ pub fn write_shown(alloc: Global, shown: &Shown) -> Result<Octets, AllocError>
             return message_line(alloc, "reply", *worker, message.as_slice());
         }
         Shown::Silent { worker } => format!(in alloc; "silent {worker}\n")?,
+        Shown::Notified { message } => return notified_line(alloc, message.as_slice()),
+        Shown::Hush => format!(in alloc; "hush\n")?,
+        Shown::Due { zone } => format!(in alloc; "due {zone}\n")?,
     };
     Ok(Octets::from_vec(line.into_bytes()))
 }
@@ -67,6 +70,19 @@ fn message_line(
     let capacity = message.len().saturating_mul(2).saturating_add(HEAD_BYTES);
     let mut head = String::with_capacity(alloc, capacity)?;
     write!(head, "{word} {worker} ")?;
+    let mut line = head.into_bytes();
+    push_digits(&mut line, message)?;
+    line.push(b'\n')?;
+    Ok(Octets::from_vec(line))
+}
+
+// The reply to a NOTIFY in lower-case digits, in one allocation.
+fn notified_line(alloc: Global, message: &[u8]) -> Result<Octets, AllocError>
+    ensures { IfOk result (λ text. text ≡ shown_form.notified_line message.now) }
+{
+    let capacity = message.len().saturating_mul(2).saturating_add(HEAD_BYTES);
+    let mut head = String::with_capacity(alloc, capacity)?;
+    write!(head, "notified ")?;
     let mut line = head.into_bytes();
     push_digits(&mut line, message)?;
     line.push(b'\n')?;

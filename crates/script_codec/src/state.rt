@@ -1,13 +1,15 @@
 //! The state that a line is read in.
 
-ghost use Rattle.std.specs.Prelude.{◌≡◌, false, slice_index_or, IfOk};
-ghost use Rattle.script_codec.specs.State.{opening, state_of, zone_count as zones_in, is_pending as is_pending_in, opens as opens_in};
-ghost use Rattle.script_codec.specs.Within.{MayOpen};
+ghost use Rattle.std.specs.Prelude.{◌≡◌, ◌≤◌, false, List, Option, slice_index_or, IfOk};
+ghost use Rattle.ip_prefix.specs.declared.Addr.{Addr};
+ghost use Rattle.script_codec.specs.State.{opening, state_of, zone_count as zones_in, is_pending as is_pending_in, opens as opens_in, has_primary as has_primary_in, takes_primary as takes_primary_in};
+ghost use Rattle.script_codec.specs.Within.{MayHavePrimary, MayOpen};
 
 use crate::line_fault::LineFault;
 use crate::names::Names;
 use dns_name::Name;
 use edge_io::WORKER_LIMIT;
+use ip_prefix::Addr;
 use zone_rows::ZONE_LIMIT;
 
 /// How many workers there are.
@@ -16,10 +18,12 @@ pub const WORKERS: usize = WORKER_LIMIT;
 /// What a line of a script is read by. Empty lines and comments do not count.
 #[derive(Clone, Copy, Debug)]
 pub enum ScriptState<'a> {
-    /// Only zone lines so far.
+    /// Only zone lines and primary lines so far.
     Opening {
         /// The origins of the zones that were opened, the first of them zone 1.
         origins: &'a Names,
+        /// The primary of each of these zones, or none.
+        primaries: &'a [Option<Addr>],
     },
     /// There were other lines.
     Running {
@@ -36,7 +40,7 @@ impl ScriptState<'_> {
         ensures { result ≡ zones_in (state_of self.now) }
     {
         match self {
-            ScriptState::Opening { origins } => origins.len(),
+            ScriptState::Opening { origins, .. } => origins.len(),
             ScriptState::Running { zones, .. } => *zones,
         }
     }
@@ -58,17 +62,35 @@ impl ScriptState<'_> {
         ensures within { IfOk result (λ _. MayOpen (state_of self.now) origin.now) }
     {
         match self {
-            ScriptState::Opening { origins } => admits(origins, origin),
+            ScriptState::Opening { origins, .. } => admits(origins, origin),
             ScriptState::Running { .. } => Err(LineFault::Late),
         }
+    }
+
+    // Whether the zone of this number may be given a primary.
+    #[tactic(auto, unfolding(crate::specs::State::takes_primary))]
+    pub(crate) fn takes_primary(&self, zone: u32) -> Result<(), LineFault>
+        requires { 1 ≤ zone }
+        ensures exact { result ≡ takes_primary_in (state_of self.now) zone }
+        ensures within { IfOk result (λ _. MayHavePrimary (state_of self.now) zone) }
+    {
+        let ScriptState::Opening { primaries, .. } = self else {
+            return Err(LineFault::Late);
+        };
+        if has_primary(primaries, zone) {
+            return Err(LineFault::Repeated);
+        }
+        Ok(())
     }
 }
 
 // Whether a zone of this origin may be opened beside these.
 #[tactic(auto, unfolding(crate::specs::State::opens))]
 fn admits(origins: &Names, origin: &Name) -> Result<(), LineFault>
-    ensures exact { result ≡ opens_in (opening origins.now) origin.now }
-    ensures within { IfOk result (λ _. MayOpen (opening origins.now) origin.now) }
+    ensures exact { (primaries : List (Option Addr)) →
+        result ≡ opens_in (opening origins.now primaries) origin.now }
+    ensures within { (primaries : List (Option Addr)) →
+        IfOk result (λ _. MayOpen (opening origins.now primaries) origin.now) }
 {
     if origins.len() >= ZONE_LIMIT {
         return Err(LineFault::Many);
@@ -77,6 +99,15 @@ fn admits(origins: &Names, origin: &Name) -> Result<(), LineFault>
         return Err(LineFault::Repeated);
     }
     Ok(())
+}
+
+// Whether the zone of this number has a primary.
+fn has_primary(primaries: &[Option<Addr>], zone: u32) -> bool
+    requires { 1 ≤ zone }
+    ensures { result ≡ has_primary_in primaries.now zone }
+{
+    let place = zone as usize - 1;
+    place < primaries.len() && primaries[place].is_some()
 }
 
 // The flag of the worker; false for a number over 15.

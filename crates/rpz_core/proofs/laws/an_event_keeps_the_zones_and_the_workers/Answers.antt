@@ -9,3 +9,6 @@ returns-clause-workers c = λ w next e out is. (step_keeps w next e out is).work
 
 pub returns-clause-marks : goal.returns-clause-marks
 returns-clause-marks c = λ w next e out is. (step_keeps w next e out is).marks
+
+pub returns-clause-timers : goal.returns-clause-timers
+returns-clause-timers c = λ w next e out is. (step_keeps w next e out is).timers

@@ -1,4 +1,4 @@
-use Rattle.std.proofs.Common.{◌≡◌, ◌∙◌, ap}
+use Rattle.std.proofs.Common.{◌∙◌, ap}
 use Rattle.std.specs.Prelude.{slice_get}
 use Rattle.rpz_core.specs.Sessions.{SessionsState}
 use Rattle.rpz_core.proofs.Slots.{resumed_learned}
