@@ -26,7 +26,7 @@ TOP = Path(__file__).resolve().parent.parent
 FOLDER = TOP / "scenarios"
 CRATE = TOP / "crates" / "replay_cases"
 USAGE = """\
-usage: rpz serve [--cache ENTRIES] LISTEN UPSTREAM TURNS WORKERS ZONE@PRIMARY...
+usage: rpz serve [OPTION]... LISTEN UPSTREAM TURNS WORKERS ZONE@PRIMARY...
        rpz replay < SCRIPT
        rpz load SEED RULES QUERIES WORKERS
        rpz help [COMMAND]

@@ -14,7 +14,7 @@ use ip_prefix::{Addr, Transport};
 use ixfr_apply::read_transfer;
 use policy_publish::{Parts, PolicyReader, Publisher, StoreName};
 use reply_build::Said;
-use rpz_workers::{Job, NoGate, Worker};
+use rpz_workers::{Answered, Asker, Job, NoGate, Worker};
 use std::alloc::{AllocError, Global};
 use std::collections::VecDeque;
 use std::hash::RandomState;
@@ -25,7 +25,7 @@ use std::thread::{JoinHandle, Threads};
 use std::time::{Clock, Duration};
 use zone_rows::{Rows, Transfer};
 
-type BenchWorker<N, R> = Worker<N, ListLink, Shared<R, ListLink>, ListIds, NoGate>;
+type BenchWorker<N, R> = Worker<N, ListLink, Shared<R, ListLink>, Asker<ListLink, ListIds, NoGate>>;
 
 /// The stream of a transfer, and the messages of clients.
 #[derive(Drop)]
@@ -81,7 +81,7 @@ fn is_answer(reply: &[u8]) -> bool {
 // Answers a job, and says whether there is such a reply.
 fn answers<N: StoreName, R: Wait + Drop>(worker: &mut BenchWorker<N, R>, job: &Job) -> bool {
     match worker.answer(job, 0) {
-        Ok(Said::Reply(reply)) => is_answer(reply.as_slice()),
+        Ok(Answered::Said(Said::Reply(reply))) => is_answer(reply.as_slice()),
         _ => false,
     }
 }

@@ -2,6 +2,7 @@
 #![tactic(auto)]
 
 mod front;
+mod latest;
 mod publication;
 mod publisher;
 mod reader;
@@ -12,6 +13,7 @@ mod store;
 mod versions;
 
 pub use front::StoreName;
+pub use latest::Latest;
 pub use publication::Publication;
 pub use publisher::Publisher;
 pub use reader::{PolicyReader, Told};

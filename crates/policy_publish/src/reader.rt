@@ -36,6 +36,15 @@ impl<N: StoreName> Told<N> {
     {
         Told { front }
     }
+
+    /// The same list once more. It takes no memory.
+    pub fn again(&self) -> Told<N>
+        ensures { result ≡ self.now }
+    {
+        Told {
+            front: self.front.again(),
+        }
+    }
 }
 
 /// Takes versions of the store that `N` names. Contracts see the list for which the version stands that it took last, and the longest
@@ -46,8 +55,8 @@ pub struct PolicyReader<N: StoreName> {
     reader: Option<Reader<Shown, (), OfStore<N>>>,
     seen: Front<N>,
     told: Front<N>,
-    // The version that stands for what was seen, behind a count of holders of this reader's own: threads that count one another's
-    // holders wait for the same word of memory.
+    // The version that stands for what was seen, while no more was told; behind a count of holders of this reader's own: threads that
+    // count one another's holders wait for the same word of memory.
     own: Option<Arc<Snapshot, Global>>,
     alloc: Global,
 }
@@ -57,13 +66,15 @@ impl<N: StoreName> Model for PolicyReader<N> {
     ghost use Rattle.std.specs.Arc.{arc_value};
     ghost use Rattle.policy_snapshot.specs.Stands.{StandsFor};
     ghost use Rattle.policy_publish.specs.Lists.{Known};
+    ghost use mathlib.Core.List.{IsPrefix};
 
     ghost Value = { Known };
 
     ghost view = { λ r. record { seen = r.seen; told = r.told } };
 
     ghost invariant = { λ r. IfSome r.own
-        (λ version. StandsFor N.store.origins (arc_value version) r.seen) };
+        (λ version. StandsFor N.store.origins (arc_value version) r.seen ×
+        IsPrefix r.told r.seen) };
 }
 
 // What is shown once more; `None` where it has no more entries than these.
@@ -119,23 +130,23 @@ impl<N: StoreName> PolicyReader<N> {
         }
     }
 
-    // How many entries were seen, where the reader has the version that stands for them and was told of no more.
+    // How many entries were seen, where the reader has the version that stands for them.
     fn entries(&self) -> Option<u64> {
         match &self.own {
-            Some(_) if self.told.begins(&self.seen) => Some(self.seen.len()),
-            _ => None,
+            Some(_) => Some(self.seen.len()),
+            None => None,
         }
     }
 
-    // The version that the reader has, once more; an error where it has none, or was told of more.
+    // The version that the reader has, once more; an error where it has none.
     fn own_again(&self) -> Result<Arc<Snapshot, Global>, AllocError>
         ensures stands { IfOk result
             (λ version. StandsFor N.store.origins (arc_value version) self.now.seen) }
         ensures later { OnOk result (GoesOn self.now self.now.seen) }
     {
         match &self.own {
-            Some(own) if self.told.begins(&self.seen) => Ok(Arc::try_clone(own)?),
-            _ => Err(AllocError),
+            Some(own) => Ok(Arc::try_clone(own)?),
+            None => Err(AllocError),
         }
     }
 
@@ -210,12 +221,24 @@ impl<N: StoreName> PolicyReader<N> {
         }
     }
 
-    /// From now on `pin` gives no version before this list. It waits for nobody and takes no memory.
+    /// The list for which the version stands that the reader took last; the empty one where it has taken none. It waits for nobody and
+    /// takes no memory.
+    pub fn tell_seen(&self) -> Told<N>
+        ensures { result ≡ self.now.seen }
+    {
+        Told::of(self.seen.again())
+    }
+
+    /// From now on `pin` gives no version before this list. Where that is more than the reader has seen, it lets the version go that it
+    /// took last, so that an idle thread holds no old zone. It waits for nobody and takes no memory.
     pub fn learn(&mut self, told: Told<N>)
         ensures learnt { WasTold self.new told }
         ensures kept { KeepsTold self.old self.new }
         ensures seen { self.new.seen ≡ self.old.seen }
     {
         self.told = self.told.longer(&told.front);
+        if !self.told.begins(&self.seen) {
+            self.own = None;
+        }
     }
 }

@@ -11,15 +11,14 @@ use crate::publisher::Publisher;
 use crate::reader::PolicyReader;
 use crate::shown::Shown;
 use dns_name::Name;
-use edge_io::WORKER_LIMIT;
 use ixfr_apply::Marks;
 use policy_snapshot::Snapshot;
 use std::alloc::{AllocError, Global};
 use std::marker::Model;
 use std::sync::{Arc, Wait};
 
-/// How many readers a store has at most: one for each worker.
-pub const READER_LIMIT: usize = WORKER_LIMIT;
+/// How many readers a store has at most: one for each thread that answers queries.
+pub const READER_LIMIT: usize = 1_024;
 
 /// A store that has no name yet. Contracts see the book of its publications, the origins of its zones, and how many readers it has.
 #[derive(Drop)]
@@ -45,7 +44,7 @@ impl Model for Parts {
         (length p.origins.items ≤ ZONE_LIMIT) × (0 < p.readers) × (p.readers ≤ READER_LIMIT) };
 }
 
-/// A store with zones of these origins in this order, at most 32, and so many readers, 1 to 16. It waits for nobody and takes no memory.
+/// A store with zones of these origins in this order, at most 32, and so many readers, 1 to 1,024. It waits for nobody and takes no memory.
 pub fn start_store(origins: Vec<Name>, readers: usize) -> Parts
     requires origins { length origins.items ≤ ZONE_LIMIT }
     requires readers { (0 < readers) × (readers ≤ READER_LIMIT) }

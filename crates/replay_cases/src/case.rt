@@ -13,6 +13,7 @@ use std::collections::VecDeque;
 use std::hash::RandomState;
 use std::sync::Wait;
 use std::thread::Threads;
+use std::time::Clock;
 
 // Wires on which nothing comes.
 type NoWires = ListWires<ListSource, ListSink, ListLink, ListReplies<ListSource, ListSink>>;
@@ -59,7 +60,7 @@ impl Case {
     }
 
     /// Runs the script, and gives its name, its transcript and its status in lines.
-    pub fn run<R: Threads + Wait + Copy + Drop + Send + Sync + 'static>(
+    pub fn run<R: Threads + Wait + Clock + Copy + Drop + Send + Sync + 'static>(
         &self,
         rt: R,
         alloc: Global,

@@ -14,6 +14,7 @@ use std::io;
 use std::random::RandomSource;
 use std::sync::Wait;
 use std::thread::Threads;
+use std::time::Clock;
 
 type NoWires = ListWires<ListSource, ListSink, ListLink, ListReplies<ListSource, ListSink>>;
 
@@ -26,7 +27,7 @@ pub fn replay_words(alloc: Global) -> Result<Vec<String>, AllocError> {
 
 /// Runs words over a script and an output, without a network.
 pub fn run_alone<
-    R: Threads + Wait + RandomSource + Copy + Drop + Send + Sync + 'static,
+    R: Threads + Wait + Clock + RandomSource + Copy + Drop + Send + Sync + 'static,
     S: Source,
     K: Sink,
 >(rt: R, alloc: Global, words: &[String], script: &mut S, out: &mut K) -> io::Result<Status> {

@@ -29,7 +29,8 @@ pub struct Case {
     pub replies: &'static [&'static [u8]],
 }
 
-const ONE_WORKER: &str = "serve 127.0.0.1:5300 127.0.0.1:53 2 1 rpz.example@127.0.0.1:5301";
+const ONE_WORKER: &str =
+    "serve --askers 2 127.0.0.1:5300 127.0.0.1:53 2 1 rpz.example@127.0.0.1:5301";
 
 /// The transfer of `rpz.example` in one message of the ID 0 behind its length: the serial 1, and the row `bad.example` CNAME `.`.
 pub const TRANSFER: &[u8] = b"\0\x9b\0\0\x84\0\0\x01\0\x03\0\0\0\0\x03rpz\x07example\0\0\xfc\0\x01\
@@ -162,7 +163,7 @@ pub static CASES: [Case; 12] = [
     },
     Case {
         name: "63 arrivals",
-        words: "serve 127.0.0.1:5300 127.0.0.1:53 63 16 rpz.example@127.0.0.1:5301",
+        words: "serve --askers 2 127.0.0.1:5300 127.0.0.1:53 63 16 rpz.example@127.0.0.1:5301",
         streams: &[
             Some(Stream {
                 bytes: TRANSFER,
@@ -186,7 +187,7 @@ pub static CASES: [Case; 12] = [
     },
     Case {
         name: "64 arrivals",
-        words: "serve 127.0.0.1:5300 127.0.0.1:53 64 3 rpz.example@127.0.0.1:5301",
+        words: "serve --askers 2 127.0.0.1:5300 127.0.0.1:53 64 3 rpz.example@127.0.0.1:5301",
         streams: &[
             Some(Stream {
                 bytes: TRANSFER,
@@ -210,7 +211,7 @@ pub static CASES: [Case; 12] = [
     },
     Case {
         name: "two zones, of which the second one's primary answers another question",
-        words: "serve 127.0.0.1:5300 127.0.0.1:53 1 1 rpz.example@127.0.0.1:5301 two.example@127.0.0.1:5302",
+        words: "serve --askers 2 127.0.0.1:5300 127.0.0.1:53 1 1 rpz.example@127.0.0.1:5301 two.example@127.0.0.1:5302",
         streams: &[
             Some(Stream {
                 bytes: TRANSFER,
@@ -268,7 +269,7 @@ pub static CASES: [Case; 12] = [
     },
     Case {
         name: "a second worker that doesn't start",
-        words: "serve 127.0.0.1:5300 127.0.0.1:53 2 2 rpz.example@127.0.0.1:5301",
+        words: "serve --askers 2 127.0.0.1:5300 127.0.0.1:53 2 2 rpz.example@127.0.0.1:5301",
         streams: &[Some(Stream {
             bytes: TRANSFER,
             failing_read: NEVER,

@@ -1,6 +1,6 @@
-//! Two workers of a server, of which the one that asks first can't answer before the other has.
+//! Workers of a server whose questions hold until another reply was sent.
 
-use crate::cases::{CASES, NEVER};
+use crate::cases::{CASES, DENIAL, DENIED, NEVER};
 use crate::outside::{Flag, Meeting, Upstream};
 use crate::runs::{Memory, datagram, fetches, flag, posts, run_line};
 use crossbeam_channel::{Receiver, Sender, unbounded};
@@ -16,7 +16,12 @@ use std::test::Fail;
 use std::thread::Threads;
 use std::time::Clock;
 
-const TWO_WORKERS: &str = "serve 127.0.0.1:5300 127.0.0.1:53 2 2 rpz.example@127.0.0.1:5301";
+// Two workers that ask for what is passed on, and one.
+const TWO_ASKERS: &str =
+    "serve --askers 2 127.0.0.1:5300 127.0.0.1:53 2 2 rpz.example@127.0.0.1:5301";
+
+const ONE_ASKER: &str =
+    "serve --askers 1 127.0.0.1:5300 127.0.0.1:53 2 1 rpz.example@127.0.0.1:5301";
 
 // Queries of the IDs 1 and 2 for the address of `x.example`.
 const FIRST: &[u8] = b"\0\x01\x01\0\0\x01\0\0\0\0\0\0\x01x\x07example\0\0\x01\0\x01";
@@ -48,38 +53,44 @@ fn upstream<R: Clock + Drop>(rt: R, asked: &Flag, replied: &Flag) -> Result<Upst
     })
 }
 
-// The question that comes first waits for a reply, which only the other worker can send.
+// The question that comes first waits for a reply, which only another worker can send.
 fn wires<R: Threads + Wait + Clock + Copy + Drop + Send + Sync + 'static>(
     rt: R,
     alloc: Global,
     sender: &Sender<Octets>,
+    queries: [&'static [u8]; 2],
 ) -> Result<Memory<R>, Fail> {
     let (asked, replied) = (flag(alloc)?, flag(alloc)?);
-    let mut links = VecDeque::new(alloc);
-    links.push_back(upstream(rt, &asked, &replied)?)?;
-    links.push_back(upstream(rt, &asked, &replied)?)?;
-    let mut backs = VecDeque::new(alloc);
-    backs.push_back(posts(rt, alloc, sender, &replied)?)?;
-    backs.push_back(posts(rt, alloc, sender, &replied)?)?;
+    let (mut links, mut backs) = (VecDeque::new(alloc), VecDeque::new(alloc));
+    for _ in 0..24 {
+        links.push_back(upstream(rt, &asked, &replied)?)?;
+        backs.push_back(posts(rt, alloc, sender, &replied)?)?;
+    }
     let mut arrivals = VecDeque::new(alloc);
-    arrivals.push_back(datagram(alloc, FIRST)?)?;
-    arrivals.push_back(datagram(alloc, SECOND)?)?;
+    for query in queries {
+        arrivals.push_back(datagram(alloc, query)?)?;
+    }
     let fetched = fetches(alloc, CASES[0].streams)?;
     Ok(ListWires::new(alloc, arrivals, fetched, links, backs, Vec::new(alloc)))
 }
 
 // Both replies were sent, in either order.
-fn assert_both<R: Wait + Abort>(rt: &R, replies: &Receiver<Octets>) -> Result<(), Fail> {
+fn assert_both<R: Wait + Abort>(
+    rt: &R,
+    replies: &Receiver<Octets>,
+    expected: [&'static [u8]; 2],
+) -> Result<(), Fail> {
     let (Ok(one), Ok(other)) = (replies.try_recv(rt), replies.try_recv(rt)) else {
         return Err("two replies".into());
     };
-    let (first, second) = if one.as_slice() == FIRST_REPLY {
+    let [first_reply, second_reply] = expected;
+    let (first, second) = if one.as_slice() == first_reply {
         (one, other)
     } else {
         (other, one)
     };
-    assert_eq!(rt; first.as_slice(), FIRST_REPLY);
-    assert_eq!(rt; second.as_slice(), SECOND_REPLY);
+    assert_eq!(rt; first.as_slice(), first_reply);
+    assert_eq!(rt; second.as_slice(), second_reply);
     assert!(rt; replies.try_recv(rt).is_err());
     Ok(())
 }
@@ -87,15 +98,36 @@ fn assert_both<R: Wait + Abort>(rt: &R, replies: &Receiver<Octets>) -> Result<()
 fn meet<R: Threads + Wait + Abort + Clock + RandomSource + Copy + Drop + Send + Sync + 'static>(
     rt: R,
     alloc: Global,
+    line: &str,
+    queries: [&'static [u8]; 2],
+    expected: [&'static [u8]; 2],
 ) -> Result<(), Fail> {
     let (sender, replies) = unbounded(alloc)?;
-    let mut wires = wires(rt, alloc, &sender)?;
-    let (status, _written) = run_line(rt, alloc, TWO_WORKERS, &mut wires, NEVER, NEVER)?;
+    let mut wires = wires(rt, alloc, &sender, queries)?;
+    let (status, _written) = run_line(rt, alloc, line, &mut wires, NEVER, NEVER)?;
     assert_eq!(rt; status, Status::Done);
-    assert_both(&rt, &replies)
+    assert_both(&rt, &replies, expected)
 }
 
 #[test]
-fn workers_of_a_server_run_beside_each_other(rt: HostRuntime) -> Result<(), Fail> {
-    meet(rt, rt.alloc())
+fn workers_that_ask_run_beside_each_other(rt: HostRuntime) -> Result<(), Fail> {
+    meet(
+        rt,
+        rt.alloc(),
+        TWO_ASKERS,
+        [FIRST, SECOND],
+        [FIRST_REPLY, SECOND_REPLY],
+    )
+}
+
+// A name that a rule decides is answered while the only worker that asks still waits for the upstream.
+#[test]
+fn what_a_rule_decides_waits_for_no_question(rt: HostRuntime) -> Result<(), Fail> {
+    meet(
+        rt,
+        rt.alloc(),
+        ONE_ASKER,
+        [FIRST, DENIED],
+        [FIRST_REPLY, DENIAL],
+    )
 }

@@ -15,7 +15,8 @@ use std::thread::Threads;
 use std::time::Clock;
 use std::{io, thread};
 
-const LINE: &str = "serve 127.0.0.1:29170 127.0.0.1:29171 2 1 rpz.example@127.0.0.1:29172";
+const LINE: &str =
+    "serve --askers 1 127.0.0.1:29170 127.0.0.1:29171 2 1 rpz.example@127.0.0.1:29172";
 
 // Queries over TCP aren't counted.
 const WRITTEN: &[u8] = b"taken 1 1 1\nserved 2 reply 1 silent 0 memory 0 failed 0\n";

@@ -10,6 +10,7 @@ use std::random::RandomSource;
 use std::sync::Wait;
 use std::test::Fail;
 use std::thread::Threads;
+use std::time::Clock;
 
 // A query without a byte, and one whose opcode isn't served: lines of 24 and 47 bytes.
 const SCRIPT: &[u8] = b"query 0 udp 192.0.2.7 -\nquery 1 udp 192.0.2.7 abcd11000000000000000000\n";
@@ -18,7 +19,7 @@ const SCRIPT: &[u8] = b"query 0 udp 192.0.2.7 -\nquery 1 udp 192.0.2.7 abcd11000
 const OUTPUT: &[u8] = b"silent 0\nreply 1 abcd91840000000000000000\n";
 
 // The status and the output of the script, read 10 bytes and written 5 bytes at a time, where these reads and writes fail.
-fn run_failing<R: Threads + Wait + RandomSource + Copy + Drop + Send + Sync + 'static>(
+fn run_failing<R: Threads + Wait + Clock + RandomSource + Copy + Drop + Send + Sync + 'static>(
     rt: R,
     alloc: Global,
     reads: Vec<u64>,

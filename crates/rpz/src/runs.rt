@@ -108,7 +108,7 @@ pub fn posts<R: Wait + Copy + Drop>(
     })
 }
 
-// Links and places for replies, for 16 workers. All links give the same.
+// Links and places for replies, for 40 workers. All links give the same.
 fn wires<R: Threads + Wait + Clock + Copy + Drop + Send + Sync + 'static>(
     rt: R,
     alloc: Global,
@@ -117,7 +117,7 @@ fn wires<R: Threads + Wait + Clock + Copy + Drop + Send + Sync + 'static>(
 ) -> Result<Memory<R>, Fail> {
     let unused = flag(alloc)?;
     let (mut links, mut backs) = (VecDeque::new(alloc), VecDeque::new(alloc));
-    for _ in 0..16 {
+    for _ in 0..40 {
         links.push_back(Upstream {
             rt,
             messages: case.upstream,

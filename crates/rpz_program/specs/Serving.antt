@@ -12,6 +12,7 @@ use Rattle.rpz_workers.specs.declared.report.Report.{Report}
 use Rattle.rpz_program.specs.PollLines.{served_line}
 use Rattle.rpz_program.specs.Polls.{BeginsPoll, ConnectionViews, FeedState, PollsZones, rounds}
 use Rattle.rpz_program.specs.Sums.{GathersAll, saturated}
+use Rattle.rpz_program.specs.declared.feeds.TheConstants.{CONNECTION_WORKERS}
 use Rattle.rpz_program.specs.declared.serve_error.ServeError.{ServeError}
 use Rattle.rpz_program.specs.declared.serve_error.ServeError.TheVariants as error
 use Rattle.rpz_program.specs.declared.sums.Sums.{Sums}
@@ -29,6 +30,10 @@ origins_in settings = map (λ zone. zone.origin) settings.zones
 
 abbrev pub primaries_in : Settings → List Endpoint
 primaries_in settings = map (λ zone. zone.primary) settings.zones
+
+-- how many workers ask the upstream: those that take what was passed on, and those that take connections
+abbrev pub asker_count : Settings → ℕ
+asker_count settings = settings.askers + CONNECTION_WORKERS
 
 -- how often all zones are polled in a run of so many turns: at its start, and after each 64th arrival
 abbrev pub round_count : ℕ → ℕ

@@ -3,9 +3,11 @@
 #![tactic(auto)]
 
 mod answering;
+mod feeds;
 pub mod laws;
 mod loading;
 mod origins;
+mod plan;
 mod poll_lines;
 mod polling;
 mod replaying;
@@ -24,6 +26,8 @@ mod turns;
 mod zone_source;
 mod zones;
 
+pub use feeds::{CONNECTION_WORKERS, PASSED_LIMIT};
+pub use plan::Plan;
 pub use replaying::replayed;
 pub use serve_error::ServeError;
 pub use server::serve;

@@ -8,7 +8,7 @@ ghost use Rattle.rpz_program.specs.Loading.{EndsLoad, load_line};
 ghost use Rattle.rpz_program.specs.Polls.{connection_views, feed_state, sources_from};
 ghost use Rattle.rpz_program.specs.Run.{AnswersWholeLines, AreTaken, BeginsTranscript, EndsPage, IsFirstBadLine, IsVerdict, IsWholeScript, StopsBy};
 ghost use Rattle.rpz_program.specs.Script.{script_verdict};
-ghost use Rattle.rpz_program.specs.Serving.{ServesWhole, linked_with, nothing_published, origins_in, primaries_in};
+ghost use Rattle.rpz_program.specs.Serving.{ServesWhole, asker_count, linked_with, nothing_published, origins_in, primaries_in};
 ghost use Rattle.rpz_words.specs.Pages.{page_text};
 ghost use Rattle.rpz_words.specs.Words.{command_in};
 ghost use Rattle.rpz_words.specs.declared.pages.Page.{Page};
@@ -27,6 +27,7 @@ use std::alloc::Global;
 use std::hash::RandomState;
 use std::sync::Wait;
 use std::thread::Threads;
+use std::time;
 
 /// Runs the command that the words ask for, which stand without the program's name.
 ///
@@ -37,7 +38,7 @@ use std::thread::Threads;
 ///
 /// `hashers` makes the hash of the cache that workers share: where strangers pick the questions, one with a random seed.
 pub fn run<
-    R: Threads + Wait + Copy + Drop + Send + Sync + 'static,
+    R: Threads + Wait + time::Clock + Copy + Drop + Send + Sync + 'static,
     S: Source,
     K: Sink,
     W: Wires,
@@ -105,14 +106,15 @@ pub fn run<
         (feed_state (nothing_published (origins_in settings)) (W.fetches wires.old) (W.fetched wires.old)
         (W.fetch_faults wires.old) (I.ids ids.old) (K.held out.old))
         settings.turns (sources_from 1 (primaries_in settings))
-        (P.waiting spawner.old + settings.workers)
+        (P.waiting spawner.old + (asker_count settings + settings.workers))
         (P.gathered spawner.old) (P.gathered spawner.new) (K.held out.new) }
     ensures bound { result ≡ Status.Done → (settings : Settings) →
         command_in words.now ≡ Some (Serve settings) →
         W.bound wires.new ≡ one_more (W.bound wires.old) settings.listen }
     ensures linked { result ≡ Status.Done → (settings : Settings) →
         command_in words.now ≡ Some (Serve settings) →
-        W.linked wires.new ≡ linked_with (W.linked wires.old) settings.upstream settings.workers }
+        W.linked wires.new
+        ≡ linked_with (W.linked wires.old) settings.upstream (asker_count settings) }
 
     // However a server ends, what was written begins such lines, and no worker that it started is left.
     ensures stopped { result ≢ Status.Done → result ≢ Status.Usage → (settings : Settings) →

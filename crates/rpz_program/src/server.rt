@@ -4,12 +4,14 @@ ghost use Rattle.std.specs.Prelude.{◌≡◌, ◌≤◌, ◌+◌, Err, IfErr, O
 ghost use Rattle.edge_io.specs.Edge.{Rose};
 ghost use Rattle.edge_io.specs.Told.{one_more};
 ghost use Rattle.rpz_program.specs.Polls.{connection_views, feed_state, sources_from};
-ghost use Rattle.rpz_program.specs.Serving.{ServesWhole, StopsServing, linked_with, nothing_published, origins_in, primaries_in};
+ghost use Rattle.rpz_program.specs.Serving.{ServesWhole, StopsServing, asker_count, linked_with, nothing_published, origins_in, primaries_in};
 ghost use Rattle.rpz_words.specs.Limits.{IsServable};
 
+use crate::feeds::CONNECTION_WORKERS;
+use crate::plan::Plan;
 use crate::serve_error::ServeError;
 use crate::server_cache::open_cache;
-use crate::serving::{Plan, serve_over};
+use crate::serving::serve_over;
 use crate::zones::zone_sources;
 use edge_io::{Clock, Ids, Sink, Spawner, WireError, Wires};
 use policy_publish::start_store;
@@ -20,6 +22,7 @@ use std::hash::RandomState;
 use std::marker::Brand;
 use std::sync::Wait;
 use std::thread::Threads;
+use std::time;
 
 /// Serves as the settings say: opens the cache that the workers share, binds the endpoint, starts the workers, polls all zones, takes
 /// the arrivals, and writes the line that sums up what became of them. Where the cache finds no memory, nothing was bound yet. However
@@ -31,7 +34,7 @@ pub fn serve<
     C: Clock + Drop + Send + 'static,
     I: Ids + Drop + Send + 'static,
     K: Sink,
-    R: Threads + Wait + Copy + Drop + Send + Sync + 'static,
+    R: Threads + Wait + time::Clock + Copy + Drop + Send + Sync + 'static,
 >(
     rt: &R,
     alloc: Global,
@@ -49,7 +52,7 @@ pub fn serve<
         (feed_state (nothing_published (origins_in settings.now)) (W.fetches wires.old) (W.fetched wires.old)
         (W.fetch_faults wires.old) (I.ids ids.old) (K.held out.old))
         settings.now.turns (sources_from 1 (primaries_in settings.now))
-        (P.waiting spawner.old + settings.now.workers)
+        (P.waiting spawner.old + (asker_count settings.now + settings.now.workers))
         (P.gathered spawner.old) (P.gathered spawner.new) (K.held out.new)) }
     ensures err { IfErr result (λ why. StopsServing
         (connection_views W.In.left W.In.steady W.Out.held W.Out.steady) why
@@ -59,7 +62,7 @@ pub fn serve<
     ensures bound { OnOk result
         (W.bound wires.new ≡ one_more (W.bound wires.old) settings.now.listen) }
     ensures linked { OnOk result (W.linked wires.new
-        ≡ linked_with (W.linked wires.old) settings.now.upstream settings.now.workers) }
+        ≡ linked_with (W.linked wires.old) settings.now.upstream (asker_count settings.now)) }
     ensures waiting { P.waiting spawner.new ≤ P.waiting spawner.old }
     ensures socket { result ≡ Err ServeError.SocketFault →
         Rose (W.faults wires.old) (W.faults wires.new) }
@@ -72,12 +75,14 @@ pub fn serve<
     let plan = Plan {
         upstream: settings.upstream,
         turns: settings.turns,
+        askers: settings.askers + CONNECTION_WORKERS,
+        workers: settings.workers,
         zones: zone_sources(alloc, &settings.zones)?,
         cache: open_cache(alloc, settings.cache, hashers)?,
     };
     match wires.bind(settings.listen) {
         Ok(()) => {
-            let parts = start_store(origins, settings.workers);
+            let parts = start_store(origins, plan.askers + plan.workers);
             serve_over::<Brand, W, P, C, I, K, R>(
                 rt, alloc, parts, &plan, wires, spawner, clock, ids, out,
             )

@@ -1,39 +1,26 @@
 //! A run of a server.
 
-ghost use Rattle.std.specs.Prelude.{◌≡◌, ◌≤◌, ◌+◌, ◌<◌, All, Err, IfErr, IfOk, OnErr, OnOk, length, map, vec_len};
+ghost use Rattle.std.specs.Prelude.{◌≡◌, ◌≤◌, ◌+◌, ◌<◌, All, Err, IfErr, IfOk, OnErr, OnOk, length, map};
 ghost use Rattle.edge_io.specs.Edge.{Rose, appended};
 ghost use Rattle.rpz_program.specs.PollLines.{served_line};
 ghost use Rattle.rpz_program.specs.Polls.{IsNumbered, PollsZones, connection_views, feed_state, rounds};
 ghost use Rattle.rpz_program.specs.Serving.{BeginsServed, IsOfPolls, ServesWhole, StopsServing, linked_with, nothing_published, round_count};
 ghost use Rattle.rpz_program.specs.Sums.{saturated};
 
+use crate::plan::Plan;
 use crate::poll_lines::served_text;
 use crate::serve_error::ServeError;
-use crate::server_cache::ServerCache;
 use crate::starting::start_all;
 use crate::sums::{Sums, gather_all};
 use crate::telling::Queues;
 use crate::turns::take_all;
-use crate::zone_source::ZoneSource;
-use edge_io::{Clock, Endpoint, Ids, Link, Sink, SinkError, Spawner, Wires, write_all};
+use edge_io::{Clock, Ids, Sink, SinkError, Spawner, Wires, write_all};
 use policy_publish::{Parts, PolicyReader, Publisher, StoreName};
 use rpz_workers::Report;
 use std::alloc::Global;
 use std::sync::Wait;
 use std::thread::Threads;
-
-/// What a server does once its endpoint is bound, and over which cache.
-#[derive(Drop)]
-pub struct Plan<L: Link> {
-    /// Where questions are asked.
-    pub upstream: Endpoint,
-    /// How many arrivals are taken.
-    pub turns: u32,
-    /// The policy zones in order.
-    pub zones: Vec<ZoneSource>,
-    /// What was learned from the upstream, for all workers.
-    pub cache: ServerCache<L>,
-}
+use std::time;
 
 // Writes the line that ends a run. Arrivals that came back count as those for which memory ran out.
 fn write_served<K: Sink>(
@@ -68,7 +55,7 @@ fn run_turns<
     C: Clock + Drop + Send + 'static,
     I: Ids + Drop + Send + 'static,
     K: Sink,
-    R: Threads + Wait + Copy + Drop + Send + Sync + 'static,
+    R: Threads + Wait + time::Clock + Copy + Drop + Send + Sync + 'static,
 >(
     rt: &R,
     alloc: Global,
@@ -97,9 +84,10 @@ fn run_turns<
         plan.now.turns plan.now.zones.items (K.held out.new)) }
     ensures bound { W.bound wires.new ≡ W.bound wires.old }
     ensures linked { OnOk result (W.linked wires.new
-        ≡ linked_with (W.linked wires.old) plan.now.upstream (vec_len readers)) }
+        ≡ linked_with (W.linked wires.old) plan.now.upstream plan.now.askers) }
     ensures waiting { OnOk result
-        (P.waiting spawner.new ≡ P.waiting spawner.old + vec_len readers) }
+        (P.waiting spawner.new
+        ≡ P.waiting spawner.old + (plan.now.askers + plan.now.workers)) }
     ensures gathered { P.gathered spawner.new ≡ P.gathered spawner.old }
     ensures wire_count { W.faults wires.old ≤ W.faults wires.new }
     ensures start_count { P.faults spawner.old ≤ P.faults spawner.new }
@@ -111,17 +99,9 @@ fn run_turns<
     ensures failed { result ≡ Err ServeError.WriteFault →
         Rose (K.faults out.old) (K.faults out.new) }
 {
+    let told = publisher.tell();
     start_all(
-        rt,
-        alloc,
-        plan.upstream,
-        &plan.cache,
-        readers,
-        wires,
-        spawner,
-        clock,
-        ids,
-        queues,
+        rt, alloc, plan, readers, told, wires, spawner, clock, ids, queues,
     )?;
     take_all(
         rt,
@@ -136,7 +116,7 @@ fn run_turns<
     )
 }
 
-// Serves to its end; then stops and gathers the workers, however it ended.
+// Serves to its end; then the workers end and are gathered, however it ended.
 fn serve_open<
     N: StoreName + Send + Sync + 'static,
     W: Wires,
@@ -144,7 +124,7 @@ fn serve_open<
     C: Clock + Drop + Send + 'static,
     I: Ids + Drop + Send + 'static,
     K: Sink,
-    R: Threads + Wait + Copy + Drop + Send + Sync + 'static,
+    R: Threads + Wait + time::Clock + Copy + Drop + Send + Sync + 'static,
 >(
     rt: &R,
     alloc: Global,
@@ -162,7 +142,8 @@ fn serve_open<
         (connection_views W.In.left W.In.steady W.Out.held W.Out.steady)
         (feed_state publisher.old (W.fetches wires.old) (W.fetched wires.old)
         (W.fetch_faults wires.old) (I.ids ids.old) (K.held out.old))
-        plan.now.turns plan.now.zones.items (P.waiting spawner.old + vec_len readers)
+        plan.now.turns plan.now.zones.items
+        (P.waiting spawner.old + (plan.now.askers + plan.now.workers))
         (P.gathered spawner.old) (P.gathered spawner.new) (K.held out.new)) }
     ensures err { IfErr result (λ why. StopsServing
         (connection_views W.In.left W.In.steady W.Out.held W.Out.steady) why
@@ -171,7 +152,7 @@ fn serve_open<
         plan.now.turns plan.now.zones.items (K.held out.new)) }
     ensures bound { W.bound wires.new ≡ W.bound wires.old }
     ensures linked { OnOk result (W.linked wires.new
-        ≡ linked_with (W.linked wires.old) plan.now.upstream (vec_len readers)) }
+        ≡ linked_with (W.linked wires.old) plan.now.upstream plan.now.askers) }
     ensures waiting { P.waiting spawner.new ≡ 0 }
     ensures wire_count { W.faults wires.old ≤ W.faults wires.new }
     ensures socket { result ≡ Err ServeError.SocketFault →
@@ -181,7 +162,7 @@ fn serve_open<
     ensures failed { result ≡ Err ServeError.WriteFault →
         Rose (K.faults out.old) (K.faults out.new) }
 {
-    let mut queues = Queues::new(alloc);
+    let mut queues = Queues::new();
     let ran = run_turns(
         rt,
         alloc,
@@ -195,7 +176,7 @@ fn serve_open<
         out,
         &mut queues,
     );
-    queues.stop_all(rt);
+    // workers end once no item can come any more
     drop(queues);
     let sums = gather_all(spawner);
     match ran {
@@ -212,7 +193,7 @@ pub(crate) fn serve_over<
     C: Clock + Drop + Send + 'static,
     I: Ids + Drop + Send + 'static,
     K: Sink,
-    R: Threads + Wait + Copy + Drop + Send + Sync + 'static,
+    R: Threads + Wait + time::Clock + Copy + Drop + Send + Sync + 'static,
 >(
     rt: &R,
     alloc: Global,
@@ -230,7 +211,8 @@ pub(crate) fn serve_over<
         (connection_views W.In.left W.In.steady W.Out.held W.Out.steady)
         (feed_state (nothing_published parts.origins) (W.fetches wires.old) (W.fetched wires.old)
         (W.fetch_faults wires.old) (I.ids ids.old) (K.held out.old))
-        plan.now.turns plan.now.zones.items (P.waiting spawner.old + parts.readers)
+        plan.now.turns plan.now.zones.items
+        (P.waiting spawner.old + (plan.now.askers + plan.now.workers))
         (P.gathered spawner.old) (P.gathered spawner.new) (K.held out.new)) }
     ensures err { IfErr result (λ why. StopsServing
         (connection_views W.In.left W.In.steady W.Out.held W.Out.steady) why
@@ -239,7 +221,7 @@ pub(crate) fn serve_over<
         plan.now.turns plan.now.zones.items (K.held out.new)) }
     ensures bound { W.bound wires.new ≡ W.bound wires.old }
     ensures linked { OnOk result
-        (W.linked wires.new ≡ linked_with (W.linked wires.old) plan.now.upstream parts.readers) }
+        (W.linked wires.new ≡ linked_with (W.linked wires.old) plan.now.upstream plan.now.askers) }
     ensures waiting { P.waiting spawner.new ≤ P.waiting spawner.old }
     ensures wire_count { W.faults wires.old ≤ W.faults wires.new }
     ensures socket { result ≡ Err ServeError.SocketFault →

@@ -1,27 +1,45 @@
 //! How workers are started.
 
-ghost use Rattle.std.specs.Prelude.{◌≡◌, ◌≢◌, ◌≤◌, ◌+◌, Err, OnErr, OnOk, vec_len};
+ghost use Rattle.std.specs.Prelude.{◌≡◌, ◌≢◌, ◌≤◌, ◌+◌, Err, OnErr, OnOk};
 ghost use Rattle.edge_io.specs.Edge.{Rose};
 ghost use Rattle.edge_io.specs.Told.{one_more};
 ghost use Rattle.rpz_program.specs.Serving.{linked_with};
 ghost use Rattle.rpz_program.specs.Wires.{FetchesNothing};
 
+use crate::feeds::Feeds;
+use crate::plan::Plan;
 use crate::serve_error::ServeError;
 use crate::server_cache::ServerCache;
 use crate::telling::Queues;
 use answer_cache::Shared;
-use crossbeam_channel::{Receiver, Sender, unbounded};
-use edge_io::{
-    Clock, Endpoint, Ids, Link, Sink, Source, Spawner, StartError, Task, WireError, Wires,
-};
+use edge_io::{Clock, Endpoint, Ids, Link, Spawner, StartError, Task, WireError, Wires};
 use policy_publish::{PolicyReader, StoreName, Told};
-use rpz_workers::{ChannelItems, Item, NoGate, Report, ServeTask, Worker};
+use rpz_workers::{AsksNobody, NoGate, NoOnward, Report, ServeTask, Worker};
 use std::alloc::{AllocError, Global};
 use std::sync::{Arc, Wait};
 use std::thread::Threads;
+use std::time;
+
+// A place for replies.
+fn wire_replies<W: Wires>(wires: &mut W) -> Result<W::Back, ServeError>
+    ensures linked { W.linked wires.new ≡ W.linked wires.old }
+    ensures bound { W.bound wires.new ≡ W.bound wires.old }
+    ensures fetches { FetchesNothing W.fetches W.fetched W.fetch_faults wires.old wires.new }
+    ensures count { W.faults wires.old ≤ W.faults wires.new }
+    ensures failed { result ≡ Err ServeError.SocketFault →
+        Rose (W.faults wires.old) (W.faults wires.new) }
+    ensures not_start { result ≢ Err ServeError.StartFault }
+    ensures not_write { result ≢ Err ServeError.WriteFault }
+{
+    match wires.replies() {
+        Ok(replies) => Ok(replies),
+        Err(WireError::Failed) => Err(ServeError::SocketFault),
+        Err(WireError::OutOfMemory) => Err(ServeError::OutOfMemory),
+    }
+}
 
 // A link to the upstream, and a place for replies.
-fn wire_worker<W: Wires>(wires: &mut W, upstream: Endpoint) -> Result<(W::Up, W::Back), ServeError>
+fn wire_asker<W: Wires>(wires: &mut W, upstream: Endpoint) -> Result<(W::Up, W::Back), ServeError>
     ensures linked { OnOk result (W.linked wires.new ≡ one_more (W.linked wires.old) upstream) }
     ensures bound { W.bound wires.new ≡ W.bound wires.old }
     ensures fetches { FetchesNothing W.fetches W.fetched W.fetch_faults wires.old wires.new }
@@ -65,41 +83,34 @@ fn start_task<J: Task<Report> + Send + Drop + 'static, P: Spawner<Report>, R: Th
     }
 }
 
-// A worker's hold on the cache, and its items: those of the queue, and what it is told.
-fn cache_and_items<N: StoreName, L: Link, S: Source + Drop, K: Sink + Drop, R: Wait + Copy + Drop>(
+// A hold on the cache that all workers share.
+fn hold<L: Link, R: Wait + Copy + Drop>(
     rt: &R,
-    alloc: Global,
     cache: &ServerCache<L>,
-    items: &Receiver<Item<N, S, K>>,
-    told: &mut Vec<Sender<Told<N>>>,
-) -> Result<(Shared<R, L>, ChannelItems<N, S, K, R>), AllocError> {
-    let shared = Shared::new(*rt, Arc::try_clone(cache)?);
-    let (sender, receiver) = unbounded(alloc)?;
-    told.push(sender)?;
-    let items = items.clone()?;
-    Ok((shared, ChannelItems::new(*rt, items, receiver)))
+) -> Result<Shared<R, L>, AllocError> {
+    Ok(Shared::new(*rt, Arc::try_clone(cache)?))
 }
 
-// Starts a worker that takes from the queue, over the cache that all workers share.
-fn start_worker<
+// Starts a worker that asks over the link, over the cache that all workers share.
+fn start_asking<
     N: StoreName + Send + Sync + 'static,
     W: Wires,
     P: Spawner<Report>,
     C: Clock + Drop + Send + 'static,
     I: Ids + Drop + Send + 'static,
-    R: Threads + Wait + Copy + Drop + Send + Sync + 'static,
+    R: Threads + Wait + time::Clock + Copy + Drop + Send + Sync + 'static,
 >(
     rt: &R,
     alloc: Global,
     cache: &ServerCache<W::Up>,
     reader: PolicyReader<N>,
+    place: usize,
     link: W::Up,
     replies: W::Back,
     spawner: &mut P,
     clock: C,
     ids: I,
-    items: &Receiver<Item<N, W::In, W::Out>>,
-    told: &mut Vec<Sender<Told<N>>>,
+    feeds: &Feeds<N, W::In, W::Out>,
 ) -> Result<(), ServeError>
     ensures ok { OnOk result (P.waiting spawner.new ≡ P.waiting spawner.old + 1) }
     ensures err { OnErr result (P.waiting spawner.new ≡ P.waiting spawner.old) }
@@ -110,35 +121,36 @@ fn start_worker<
     ensures not_socket { result ≢ Err ServeError.SocketFault }
     ensures not_write { result ≢ Err ServeError.WriteFault }
 {
-    let (shared, items) = cache_and_items(rt, alloc, cache, items, told)?;
+    let shared = hold(rt, cache)?;
+    let items = feeds.asker_items(rt, place)?;
     let worker = Worker::new(alloc, reader, shared, link, ids, NoGate);
     start_task(
         rt,
         spawner,
-        ServeTask::new(*rt, worker, items, replies, clock),
+        ServeTask::new(*rt, worker, items, replies, clock, NoOnward),
     )
 }
 
-// Starts a worker for a reader, over the cache, with a clock and IDs of its own.
-fn start_one<
+// Starts a worker that asks, with a clock and IDs of its own.
+fn start_asker<
     N: StoreName + Send + Sync + 'static,
     W: Wires,
     P: Spawner<Report>,
     C: Clock + Drop + Send + 'static,
     I: Ids + Drop + Send + 'static,
-    R: Threads + Wait + Copy + Drop + Send + Sync + 'static,
+    R: Threads + Wait + time::Clock + Copy + Drop + Send + Sync + 'static,
 >(
     rt: &R,
     alloc: Global,
     upstream: Endpoint,
     cache: &ServerCache<W::Up>,
     reader: PolicyReader<N>,
+    place: usize,
     wires: &mut W,
     spawner: &mut P,
     clock: &mut C,
     ids: &mut I,
-    items: &Receiver<Item<N, W::In, W::Out>>,
-    told: &mut Vec<Sender<Told<N>>>,
+    feeds: &Feeds<N, W::In, W::Out>,
 ) -> Result<(), ServeError>
     ensures linked { OnOk result (W.linked wires.new ≡ one_more (W.linked wires.old) upstream) }
     ensures waiting { OnOk result (P.waiting spawner.new ≡ P.waiting spawner.old + 1) }
@@ -154,37 +166,36 @@ fn start_one<
         Rose (P.faults spawner.old) (P.faults spawner.new) }
     ensures not_write { result ≢ Err ServeError.WriteFault }
 {
-    let (link, replies) = wire_worker(wires, upstream)?;
+    let (link, replies) = wire_asker(wires, upstream)?;
     let (own_clock, own_ids) = (clock.another(), ids.another());
-    start_worker::<N, W, P, C, I, R>(
-        rt, alloc, cache, reader, link, replies, spawner, own_clock, own_ids, items, told,
+    start_asking::<N, W, P, C, I, R>(
+        rt, alloc, cache, reader, place, link, replies, spawner, own_clock, own_ids, feeds,
     )
 }
 
-/// Opens the queue, and starts a worker for each reader, over the cache, with a clock and IDs of its own.
-pub(crate) fn start_all<
+// Starts so many workers that ask.
+fn start_askers<
     N: StoreName + Send + Sync + 'static,
     W: Wires,
     P: Spawner<Report>,
     C: Clock + Drop + Send + 'static,
     I: Ids + Drop + Send + 'static,
-    R: Threads + Wait + Copy + Drop + Send + Sync + 'static,
+    R: Threads + Wait + time::Clock + Copy + Drop + Send + Sync + 'static,
 >(
     rt: &R,
     alloc: Global,
     upstream: Endpoint,
     cache: &ServerCache<W::Up>,
-    readers: Vec<PolicyReader<N>>,
+    readers: &mut Vec<PolicyReader<N>>,
+    count: usize,
     wires: &mut W,
     spawner: &mut P,
     clock: &mut C,
     ids: &mut I,
-    queues: &mut Queues<N, W::In, W::Out>,
+    feeds: &Feeds<N, W::In, W::Out>,
 ) -> Result<(), ServeError>
-    ensures linked { OnOk result
-        (W.linked wires.new ≡ linked_with (W.linked wires.old) upstream (vec_len readers)) }
-    ensures waiting { OnOk result
-        (P.waiting spawner.new ≡ P.waiting spawner.old + vec_len readers) }
+    ensures linked { OnOk result (W.linked wires.new ≡ linked_with (W.linked wires.old) upstream count) }
+    ensures waiting { OnOk result (P.waiting spawner.new ≡ P.waiting spawner.old + count) }
     ensures bound { W.bound wires.new ≡ W.bound wires.old }
     ensures fetches { FetchesNothing W.fetches W.fetched W.fetch_faults wires.old wires.new }
     ensures ids { I.ids ids.new ≡ I.ids ids.old }
@@ -197,26 +208,191 @@ pub(crate) fn start_all<
         Rose (P.faults spawner.old) (P.faults spawner.new) }
     ensures not_write { result ≢ Err ServeError.WriteFault }
 {
-    let (sender, items) = unbounded(alloc)?;
-    queues.items = Some(sender);
-    let mut readers = readers;
-    for _ in 0..readers.len() {
+    for place in 0..count {
         let Some(reader) = readers.pop() else {
             return Err(ServeError::OutOfMemory);
         };
-        start_one::<N, W, P, C, I, R>(
-            rt,
-            alloc,
-            upstream,
-            cache,
-            reader,
-            wires,
-            spawner,
-            clock,
-            ids,
-            &items,
-            &mut queues.told,
+        start_asker::<N, W, P, C, I, R>(
+            rt, alloc, upstream, cache, reader, place, wires, spawner, clock, ids, feeds,
         )?;
     }
     Ok(())
+}
+
+// Starts a worker that answers datagrams from the rules and the cache, and passes on what needs the upstream.
+fn start_answering<
+    N: StoreName + Send + Sync + 'static,
+    W: Wires,
+    P: Spawner<Report>,
+    C: Clock + Drop + Send + 'static,
+    R: Threads + Wait + time::Clock + Copy + Drop + Send + Sync + 'static,
+>(
+    rt: &R,
+    alloc: Global,
+    cache: &ServerCache<W::Up>,
+    reader: PolicyReader<N>,
+    replies: W::Back,
+    spawner: &mut P,
+    clock: C,
+    feeds: &Feeds<N, W::In, W::Out>,
+) -> Result<(), ServeError>
+    ensures ok { OnOk result (P.waiting spawner.new ≡ P.waiting spawner.old + 1) }
+    ensures err { OnErr result (P.waiting spawner.new ≡ P.waiting spawner.old) }
+    ensures gathered { P.gathered spawner.new ≡ P.gathered spawner.old }
+    ensures count { P.faults spawner.old ≤ P.faults spawner.new }
+    ensures failed { result ≡ Err ServeError.StartFault →
+        Rose (P.faults spawner.old) (P.faults spawner.new) }
+    ensures not_socket { result ≢ Err ServeError.SocketFault }
+    ensures not_write { result ≢ Err ServeError.WriteFault }
+{
+    let shared = hold(rt, cache)?;
+    let (items, onward) = feeds.datagram_items(rt, alloc)?;
+    let worker: Worker<N, W::Up, Shared<R, W::Up>, AsksNobody> = Worker::passing_on(
+        alloc, reader, shared,
+    );
+    start_task(
+        rt,
+        spawner,
+        ServeTask::new(*rt, worker, items, replies, clock, onward),
+    )
+}
+
+// Starts a worker that answers datagrams, with a clock of its own.
+fn start_answerer<
+    N: StoreName + Send + Sync + 'static,
+    W: Wires,
+    P: Spawner<Report>,
+    C: Clock + Drop + Send + 'static,
+    R: Threads + Wait + time::Clock + Copy + Drop + Send + Sync + 'static,
+>(
+    rt: &R,
+    alloc: Global,
+    cache: &ServerCache<W::Up>,
+    reader: PolicyReader<N>,
+    wires: &mut W,
+    spawner: &mut P,
+    clock: &mut C,
+    feeds: &Feeds<N, W::In, W::Out>,
+) -> Result<(), ServeError>
+    ensures linked { W.linked wires.new ≡ W.linked wires.old }
+    ensures waiting { OnOk result (P.waiting spawner.new ≡ P.waiting spawner.old + 1) }
+    ensures bound { W.bound wires.new ≡ W.bound wires.old }
+    ensures fetches { FetchesNothing W.fetches W.fetched W.fetch_faults wires.old wires.new }
+    ensures gathered { P.gathered spawner.new ≡ P.gathered spawner.old }
+    ensures wire_count { W.faults wires.old ≤ W.faults wires.new }
+    ensures start_count { P.faults spawner.old ≤ P.faults spawner.new }
+    ensures socket { result ≡ Err ServeError.SocketFault →
+        Rose (W.faults wires.old) (W.faults wires.new) }
+    ensures start { result ≡ Err ServeError.StartFault →
+        Rose (P.faults spawner.old) (P.faults spawner.new) }
+    ensures not_write { result ≢ Err ServeError.WriteFault }
+{
+    let replies = wire_replies(wires)?;
+    let own_clock = clock.another();
+    start_answering::<N, W, P, C, R>(rt, alloc, cache, reader, replies, spawner, own_clock, feeds)
+}
+
+// Starts so many workers that answer datagrams.
+fn start_answerers<
+    N: StoreName + Send + Sync + 'static,
+    W: Wires,
+    P: Spawner<Report>,
+    C: Clock + Drop + Send + 'static,
+    R: Threads + Wait + time::Clock + Copy + Drop + Send + Sync + 'static,
+>(
+    rt: &R,
+    alloc: Global,
+    cache: &ServerCache<W::Up>,
+    readers: &mut Vec<PolicyReader<N>>,
+    count: usize,
+    wires: &mut W,
+    spawner: &mut P,
+    clock: &mut C,
+    feeds: &Feeds<N, W::In, W::Out>,
+) -> Result<(), ServeError>
+    ensures linked { W.linked wires.new ≡ W.linked wires.old }
+    ensures waiting { OnOk result (P.waiting spawner.new ≡ P.waiting spawner.old + count) }
+    ensures bound { W.bound wires.new ≡ W.bound wires.old }
+    ensures fetches { FetchesNothing W.fetches W.fetched W.fetch_faults wires.old wires.new }
+    ensures gathered { P.gathered spawner.new ≡ P.gathered spawner.old }
+    ensures wire_count { W.faults wires.old ≤ W.faults wires.new }
+    ensures start_count { P.faults spawner.old ≤ P.faults spawner.new }
+    ensures socket { result ≡ Err ServeError.SocketFault →
+        Rose (W.faults wires.old) (W.faults wires.new) }
+    ensures start { result ≡ Err ServeError.StartFault →
+        Rose (P.faults spawner.old) (P.faults spawner.new) }
+    ensures not_write { result ≢ Err ServeError.WriteFault }
+{
+    for _ in 0..count {
+        let Some(reader) = readers.pop() else {
+            return Err(ServeError::OutOfMemory);
+        };
+        start_answerer::<N, W, P, C, R>(rt, alloc, cache, reader, wires, spawner, clock, feeds)?;
+    }
+    Ok(())
+}
+
+/// Opens the queues, and starts the workers that ask, and then those that answer datagrams, one for each reader, over the cache. The
+/// list is what was published by then.
+pub(crate) fn start_all<
+    N: StoreName + Send + Sync + 'static,
+    W: Wires,
+    P: Spawner<Report>,
+    C: Clock + Drop + Send + 'static,
+    I: Ids + Drop + Send + 'static,
+    R: Threads + Wait + time::Clock + Copy + Drop + Send + Sync + 'static,
+>(
+    rt: &R,
+    alloc: Global,
+    plan: &Plan<W::Up>,
+    readers: Vec<PolicyReader<N>>,
+    told: Told<N>,
+    wires: &mut W,
+    spawner: &mut P,
+    clock: &mut C,
+    ids: &mut I,
+    queues: &mut Queues<N, W::In, W::Out>,
+) -> Result<(), ServeError>
+    ensures linked { OnOk result (W.linked wires.new
+        ≡ linked_with (W.linked wires.old) plan.now.upstream plan.now.askers) }
+    ensures waiting { OnOk result (P.waiting spawner.new
+        ≡ P.waiting spawner.old + (plan.now.askers + plan.now.workers)) }
+    ensures bound { W.bound wires.new ≡ W.bound wires.old }
+    ensures fetches { FetchesNothing W.fetches W.fetched W.fetch_faults wires.old wires.new }
+    ensures ids { I.ids ids.new ≡ I.ids ids.old }
+    ensures gathered { P.gathered spawner.new ≡ P.gathered spawner.old }
+    ensures wire_count { W.faults wires.old ≤ W.faults wires.new }
+    ensures start_count { P.faults spawner.old ≤ P.faults spawner.new }
+    ensures socket { result ≡ Err ServeError.SocketFault →
+        Rose (W.faults wires.old) (W.faults wires.new) }
+    ensures start { result ≡ Err ServeError.StartFault →
+        Rose (P.faults spawner.old) (P.faults spawner.new) }
+    ensures not_write { result ≢ Err ServeError.WriteFault }
+{
+    let mut readers = readers;
+    let feeds = Feeds::open(alloc, told, queues)?;
+    start_askers::<N, W, P, C, I, R>(
+        rt,
+        alloc,
+        plan.upstream,
+        &plan.cache,
+        &mut readers,
+        plan.askers,
+        wires,
+        spawner,
+        clock,
+        ids,
+        &feeds,
+    )?;
+    start_answerers::<N, W, P, C, R>(
+        rt,
+        alloc,
+        &plan.cache,
+        &mut readers,
+        plan.workers,
+        wires,
+        spawner,
+        clock,
+        &feeds,
+    )
 }

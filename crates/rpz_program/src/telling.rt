@@ -4,56 +4,51 @@ use crate::poll_lines::PollOutcome;
 use crossbeam_channel::Sender;
 use edge_io::{Sink, Source};
 use policy_feed::Polled;
-use policy_publish::{Publisher, StoreName, Told};
+use policy_publish::{Latest, Publisher, StoreName};
 use rpz_workers::Item;
-use std::alloc::Global;
 use std::sync::Wait;
 
-/// Where the items of workers go: into one queue, from which a worker that has nothing to do takes the next one, and to each worker
-/// what was published.
+/// Where the items of workers go: datagrams to those that pass on what needs the upstream, connections to those that ask, and what was
+/// published to all of them. Workers end once this is dropped.
 #[derive(Drop)]
 pub(crate) struct Queues<N: StoreName, S: Source + Drop, K: Sink + Drop> {
-    /// The queue, once workers are started.
-    pub(crate) items: Option<Sender<Item<N, S, K>>>,
-    /// For each worker that takes from the queue.
-    pub(crate) told: Vec<Sender<Told<N>>>,
+    /// For datagrams, once workers are started.
+    pub(crate) datagrams: Option<Sender<Item<N, S, K>>>,
+    /// For connections, once workers are started.
+    pub(crate) connections: Option<Sender<Item<N, S, K>>>,
+    /// What was published last, once workers are started.
+    pub(crate) latest: Option<Latest<N>>,
 }
 
 impl<N: StoreName, S: Source + Drop, K: Sink + Drop> Queues<N, S, K> {
     /// No worker is started.
-    pub(crate) fn new(alloc: Global) -> Self {
+    pub(crate) fn new() -> Self {
         Queues {
-            items: None,
-            told: Vec::new(alloc),
+            datagrams: None,
+            connections: None,
+            latest: None,
         }
     }
 
-    // Tells each worker of all that was published. What a closed channel gives back is dropped.
-    fn tell_all<R: Wait>(&self, rt: &R, publisher: &Publisher<N>) {
-        for worker in &self.told {
-            let _ = worker.send(rt, publisher.tell());
-        }
-    }
-
-    /// Tells each worker after a publication.
+    /// Tells all workers after a publication.
     pub(crate) fn tell_new<R: Wait>(&self, rt: &R, publisher: &Publisher<N>, outcome: PollOutcome) {
+        let Some(latest) = &self.latest else {
+            return;
+        };
         if let Ok(Polled::New(_)) = outcome {
-            self.tell_all(rt, publisher);
+            latest.set(rt, publisher.tell());
         }
     }
 
-    /// Puts an item into the queue, and says whether it came back.
+    /// Hands an item to the workers that take its kind, and says whether it came back.
     pub(crate) fn hand_over<R: Wait>(&self, rt: &R, item: Item<N, S, K>) -> bool {
-        match &self.items {
+        let queue = match &item {
+            Item::Connection { .. } => &self.connections,
+            _ => &self.datagrams,
+        };
+        match queue {
             Some(items) => items.send(rt, item).is_err(),
             None => true,
-        }
-    }
-
-    /// Stops each worker: each takes one of as many stops.
-    pub(crate) fn stop_all<R: Wait>(&self, rt: &R) {
-        for _ in 0..self.told.len() {
-            let _ = self.hand_over(rt, Item::Stop);
         }
     }
 }

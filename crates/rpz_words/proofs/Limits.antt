@@ -13,14 +13,14 @@ use Rattle.dns_name.specs.Labels.{lowered}
 use Rattle.zone_rows.specs.declared.zone.TheConstants.{ZONE_LIMIT}
 use Rattle.rpz_words.specs.declared.command.Command.{Command}
 use Rattle.rpz_words.specs.declared.command.Command.TheVariants.{Load, Replay, Serve}
-use Rattle.rpz_words.specs.declared.settings.TheConstants.{LEAST_CACHE, LOAD_WORKER_LIMIT, MOST_CACHE, QUERY_LIMIT, RULE_LIMIT}
+use Rattle.rpz_words.specs.declared.settings.TheConstants.{ASKER_LIMIT, LEAST_CACHE, LOAD_WORKER_LIMIT, MOST_CACHE, QUERY_LIMIT, RULE_LIMIT}
 use Rattle.rpz_words.specs.declared.settings.LoadSettings.{LoadSettings}
 use Rattle.rpz_words.specs.declared.settings.Settings.{Settings}
-use Rattle.rpz_words.specs.declared.settings.TheConstants.{TURN_LIMIT, USUAL_CACHE, WORKER_LIMIT}
+use Rattle.rpz_words.specs.declared.settings.TheConstants.{TURN_LIMIT, USUAL_ASKERS, USUAL_CACHE, WORKER_LIMIT}
 use Rattle.rpz_words.specs.declared.words_error.WordsError.{WordsError}
 use Rattle.rpz_words.specs.declared.zones.ZoneSetting.{ZoneSetting}
 use Rattle.rpz_words.specs.Outcome.{Gives, none_if}
-use Rattle.rpz_words.specs.Values.{cache_of, endpoint_of, load_workers_of, queries_of, rules_of, seed_of, turns_of, workers_of, zone_setting_of, zone_settings_of, zones_of}
+use Rattle.rpz_words.specs.Values.{askers_of, cache_of, endpoint_of, load_workers_of, queries_of, rules_of, seed_of, turns_of, workers_of, zone_setting_of, zone_settings_of, zones_of}
 use Rattle.rpz_words.specs.Limits.{IsLoadable, IsServable, IsWithinLimits}
 use Rattle.rpz_words.specs.Words.{command_of, load_settings_of, named_command, settings_of, value_at, zones_at}
 use Rattle.rpz_words.specs.Zones.{HasDistinctOrigins, has_origin, has_repeated}
@@ -92,6 +92,17 @@ cache_within (Some digits) most e =
     let bounds = number_within LEAST_CACHE MOST_CACHE digits most e in
     record { enough = bounds.0; few = bounds.1 }
 
+record AreAskers (askers : ℕ) : Type 0 where
+  some : 1 ≤ askers
+  few : askers ≤ ASKER_LIMIT
+
+-- what `--askers` says is within its bounds, and so is the usual number
+askers_within : (value : Option Text) (askers : ℕ) → askers_of value ≡ Some askers → AreAskers askers
+askers_within None askers e = subst AreAskers (some_is USUAL_ASKERS askers e) (record { some = omega arith; few = omega arith })
+askers_within (Some digits) askers e =
+    let bounds = number_within 1 ASKER_LIMIT digits askers e in
+    record { some = bounds.0; few = bounds.1 }
+
 settings_within : (rows : List Row) (settings : Settings) → settings_of rows ≡ Some settings → IsServable settings
 unfolding settings_of
 settings_within rows settings e =
@@ -99,17 +110,21 @@ settings_within rows settings e =
     let b = bind_some (value_at endpoint_of (codes "UPSTREAM") rows) _ settings a.2 in
     let c = bind_some (value_at turns_of (codes "TURNS") rows) _ settings b.2 in
     let d = bind_some (value_at workers_of (codes "WORKERS") rows) _ settings c.2 in
-    let g = bind_some (cache_of (first_of (codes "ENTRIES") rows)) _ settings d.2 in
+    let k = bind_some (askers_of (first_of (codes "N") rows)) _ settings d.2 in
+    let g = bind_some (cache_of (first_of (codes "ENTRIES") rows)) _ settings k.2 in
     let f = bind_some (zones_at (codes "ZONE@PRIMARY") rows) _ settings g.2 in
     let turns = bind_some (first_of (codes "TURNS") rows) turns_of c.0 c.1 in
     let workers = bind_some (first_of (codes "WORKERS") rows) workers_of d.0 d.1 in
     let texts = bind_some (all_of (codes "ZONE@PRIMARY") rows) zones_of f.0 f.1 in
+    let askers = askers_within (first_of (codes "N") rows) k.0 k.1 in
     let cache = cache_within (first_of (codes "ENTRIES") rows) g.0 g.1 in
     let zones = zones_within texts.0 f.0 texts.2 in
     subst IsServable (some_is _ settings f.2) (record {
       some_turns = (number_within 1 TURN_LIMIT turns.0 c.0 turns.2).0;
       some_workers = (number_within 1 WORKER_LIMIT workers.0 d.0 workers.2).0;
       few_workers = (number_within 1 WORKER_LIMIT workers.0 d.0 workers.2).1;
+      some_askers = askers.some;
+      few_askers = askers.few;
       enough_entries = cache.enough;
       few_entries = cache.few;
       some_zones = zones.some_zones;

@@ -5,7 +5,7 @@ use Rattle.rpz_words.specs.declared.command.Command.{Command}
 use Rattle.rpz_words.specs.declared.command.Command.TheVariants.{Load, Replay, Serve, Show}
 use Rattle.rpz_words.specs.declared.settings.LoadSettings.{LoadSettings}
 use Rattle.rpz_words.specs.declared.settings.Settings.{Settings}
-use Rattle.rpz_words.specs.declared.settings.TheConstants.{LEAST_CACHE, LOAD_WORKER_LIMIT, MOST_CACHE, QUERY_LIMIT, RULE_LIMIT, WORKER_LIMIT}
+use Rattle.rpz_words.specs.declared.settings.TheConstants.{ASKER_LIMIT, LEAST_CACHE, LOAD_WORKER_LIMIT, MOST_CACHE, QUERY_LIMIT, RULE_LIMIT, WORKER_LIMIT}
 use Rattle.rpz_words.specs.Zones.{HasDistinctOrigins}
 
 -- what a server is to do is within its limits
@@ -13,6 +13,8 @@ pub record IsServable (settings : Settings) : Type 0 where
   pub some_turns : 1 ≤ settings.turns
   pub some_workers : 1 ≤ settings.workers
   pub few_workers : settings.workers ≤ WORKER_LIMIT
+  pub some_askers : 1 ≤ settings.askers
+  pub few_askers : settings.askers ≤ ASKER_LIMIT
   pub enough_entries : LEAST_CACHE ≤ settings.cache
   pub few_entries : settings.cache ≤ MOST_CACHE
   pub some_zones : 1 ≤ length settings.zones

@@ -7,8 +7,8 @@ use Rattle.dns_name.specs.Text.{text_name}
 use Rattle.edge_io.specs.declared.endpoint.Endpoint.{Endpoint}
 use Rattle.script_codec.specs.Field.{number_field, v4_field}
 use Rattle.zone_rows.specs.declared.zone.TheConstants.{ZONE_LIMIT}
-use Rattle.rpz_words.specs.declared.settings.TheConstants.{LEAST_CACHE, LOAD_WORKER_LIMIT, MOST_CACHE, QUERY_LIMIT, RULE_LIMIT, SEED_LIMIT}
-use Rattle.rpz_words.specs.declared.settings.TheConstants.{TURN_LIMIT, USUAL_CACHE, WORKER_LIMIT}
+use Rattle.rpz_words.specs.declared.settings.TheConstants.{ASKER_LIMIT, LEAST_CACHE, LOAD_WORKER_LIMIT, MOST_CACHE, QUERY_LIMIT, RULE_LIMIT, SEED_LIMIT}
+use Rattle.rpz_words.specs.declared.settings.TheConstants.{TURN_LIMIT, USUAL_ASKERS, USUAL_CACHE, WORKER_LIMIT}
 use Rattle.rpz_words.specs.declared.values.TheConstants.{PORT_DIGITS, PORT_LIMIT}
 use Rattle.rpz_words.specs.declared.zones.ZoneSetting.{ZoneSetting}
 use Rattle.rpz_words.specs.Outcome.{◌>>=◌, none_if}
@@ -51,9 +51,14 @@ load_workers_of digits = number_to LOAD_WORKER_LIMIT digits
 abbrev pub turns_of : List ℕ → Option ℕ
 turns_of digits = number_to TURN_LIMIT digits
 
--- how many workers answer: 1 to 16
+-- how many workers answer datagrams: 1 to 16
 abbrev pub workers_of : List ℕ → Option ℕ
 workers_of digits = number_to WORKER_LIMIT digits
+
+-- how many workers ask the upstream, by the value of `--askers`: 256 where it isn't given, else 1 to 512
+abbrev pub askers_of : Option (List ℕ) → Option ℕ
+askers_of None = Some USUAL_ASKERS
+askers_of (Some digits) = number_to ASKER_LIMIT digits
 
 -- how many answers the cache holds at most, by the value of `--cache`: 65,536 where it isn't given, else 16 to 1,048,576
 abbrev pub cache_of : Option (List ℕ) → Option ℕ

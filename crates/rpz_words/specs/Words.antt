@@ -13,7 +13,7 @@ use Rattle.rpz_words.specs.declared.settings.Settings.{Settings}
 use Rattle.rpz_words.specs.declared.zones.ZoneSetting.{ZoneSetting}
 use Rattle.rpz_words.specs.Outcome.{◌>>=◌}
 use Rattle.rpz_words.specs.Pages.{page_of}
-use Rattle.rpz_words.specs.Values.{cache_of, endpoint_of, load_workers_of, queries_of, rules_of, seed_of, turns_of, workers_of, zones_of}
+use Rattle.rpz_words.specs.Values.{askers_of, cache_of, endpoint_of, load_workers_of, queries_of, rules_of, seed_of, turns_of, workers_of, zones_of}
 
 -- the words behind the program's name
 abbrev pub argv : List (String Global) → List Text
@@ -35,10 +35,11 @@ some_values id = record (new_rule id) {
 abbrev pub option_value : Text → Text → Rule
 option_value name id = record (new_rule id) { long = Some name; action = Some Set }
 
--- `serve [--cache ENTRIES] LISTEN UPSTREAM TURNS WORKERS ZONE@PRIMARY...`
+-- `serve [--askers N] [--cache ENTRIES] LISTEN UPSTREAM TURNS WORKERS ZONE@PRIMARY...`
 abbrev pub serve_app : App
-serve_app = with_rule (with_rule (with_rule (with_rule (with_rule (with_rule
-    (new_app (codes "serve")) (option_value (codes "cache") (codes "ENTRIES")))
+serve_app = with_rule (with_rule (with_rule (with_rule (with_rule (with_rule (with_rule
+    (new_app (codes "serve")) (option_value (codes "askers") (codes "N")))
+    (option_value (codes "cache") (codes "ENTRIES")))
     (one_value (codes "LISTEN"))) (one_value (codes "UPSTREAM"))) (one_value (codes "TURNS")))
     (one_value (codes "WORKERS"))) (some_values (codes "ZONE@PRIMARY"))
 
@@ -68,6 +69,7 @@ settings_of rows = do
   upstream ← value_at endpoint_of (codes "UPSTREAM") rows
   turns ← value_at turns_of (codes "TURNS") rows
   workers ← value_at workers_of (codes "WORKERS") rows
+  askers ← askers_of (first_of (codes "N") rows)
   cache ← cache_of (first_of (codes "ENTRIES") rows)
   zones ← zones_at (codes "ZONE@PRIMARY") rows
   Some (record {
@@ -75,6 +77,7 @@ settings_of rows = do
     upstream = upstream;
     turns = turns;
     workers = workers;
+    askers = askers;
     cache = cache;
     zones = zones;
   })

@@ -35,13 +35,15 @@ fn option_arg<'a>(alloc: Global, name: &'a str, id: &'a str) -> Arg<'a>
     Arg::new(alloc, id).long(name).action(ArgAction::Set)
 }
 
-// `serve [--cache ENTRIES] LISTEN UPSTREAM TURNS WORKERS ZONE@PRIMARY...`
+// `serve [--askers N] [--cache ENTRIES] LISTEN UPSTREAM TURNS WORKERS ZONE@PRIMARY...`
 fn serve_command<'a>(alloc: Global) -> Result<Command<'a>, AllocError>
     ensures app { IfOk result (λ c. app_of c ≡ serve_app) }
     ensures local { IfOk result (λ c. (fields_of c).has_globals ≡ false) }
 {
+    let askers = option_arg(alloc, "askers", "N");
+    let with_askers = Command::new(alloc, "serve").arg(askers)?;
     let cache = option_arg(alloc, "cache", "ENTRIES");
-    let with_cache = Command::new(alloc, "serve").arg(cache)?;
+    let with_cache = with_askers.arg(cache)?;
     let listen = value_arg(alloc, "LISTEN");
     let with_listen = with_cache.arg(listen)?;
     let upstream = value_arg(alloc, "UPSTREAM");

@@ -7,7 +7,7 @@ ghost use Rattle.rpz_words.specs.Pages.{page_of, page_text};
 
 /// The usage of the program in short, without a line feed at its end.
 pub const USAGE: &str = "\
-usage: rpz serve [--cache ENTRIES] LISTEN UPSTREAM TURNS WORKERS ZONE@PRIMARY...
+usage: rpz serve [OPTION]... LISTEN UPSTREAM TURNS WORKERS ZONE@PRIMARY...
        rpz replay < SCRIPT
        rpz load SEED RULES QUERIES WORKERS
        rpz help [COMMAND]
@@ -16,7 +16,7 @@ usage: rpz serve [--cache ENTRIES] LISTEN UPSTREAM TURNS WORKERS ZONE@PRIMARY...
 const COMMANDS_PAGE: &str = "\
 rpz: a caching DNS forwarder that enforces response policy zones
 
-usage: rpz serve [--cache ENTRIES] LISTEN UPSTREAM TURNS WORKERS ZONE@PRIMARY...
+usage: rpz serve [OPTION]... LISTEN UPSTREAM TURNS WORKERS ZONE@PRIMARY...
        rpz replay < SCRIPT
        rpz load SEED RULES QUERIES WORKERS
        rpz help [COMMAND]
@@ -31,7 +31,7 @@ usage: rpz serve [--cache ENTRIES] LISTEN UPSTREAM TURNS WORKERS ZONE@PRIMARY...
 ";
 
 const SERVE_PAGE: &str = "\
-usage: rpz serve [--cache ENTRIES] LISTEN UPSTREAM TURNS WORKERS ZONE@PRIMARY...
+usage: rpz serve [OPTION]... LISTEN UPSTREAM TURNS WORKERS ZONE@PRIMARY...
 
 Answers clients over UDP and TCP by the rules of policy zones, and forwards
 what the rules don't decide.
@@ -39,9 +39,13 @@ what the rules don't decide.
   LISTEN            where clients are answered: A.B.C.D:PORT
   UPSTREAM          the recursive resolver, asked over TCP: A.B.C.D:PORT
   TURNS             after how many arrivals it ends: 1 to 4294967295
-  WORKERS           how many threads answer: 1 to 16
+  WORKERS           how many threads answer datagrams: 1 to 16
   ZONE@PRIMARY      a policy zone, and the primary that it is transferred from,
                     A.B.C.D:PORT; 1 to 32 zones, in order of precedence
+
+Options, anywhere behind `serve`:
+  --askers N        how many threads ask UPSTREAM, so that others need not wait:
+                    1 to 512, and 256 if it isn't given
   --cache ENTRIES   how many answers the cache of all workers holds at most:
                     16 to 1048576, and 65536 if it isn't given
 

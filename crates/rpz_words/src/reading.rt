@@ -4,7 +4,7 @@ ghost use Rattle.std.specs.Prelude.{◌≡◌, [], IfOk, OnOk, Ok, Err, None, So
 ghost use Rattle.clap.specs.Words.{all_of, first_of, found_of, rows_of, subcommand_of, subcommand_rows_of, takes};
 ghost use Rattle.clap.specs.Faults.{fault_of};
 ghost use Rattle.rpz_words.specs.Outcome.{Gives};
-ghost use Rattle.rpz_words.specs.Values.{cache_of, endpoint_of};
+ghost use Rattle.rpz_words.specs.Values.{askers_of, cache_of, endpoint_of};
 ghost use Rattle.rpz_words.specs.Values as values_form;
 ghost use Rattle.rpz_words.specs.Limits.{IsWithinLimits};
 ghost use Rattle.rpz_words.specs.Words as words_form;
@@ -15,8 +15,8 @@ use crate::command::Command;
 use crate::command_set::rpz_command;
 use crate::pages;
 use crate::settings::{
-    LEAST_CACHE, LOAD_WORKER_LIMIT, LoadSettings, MOST_CACHE, QUERY_LIMIT, RULE_LIMIT, SEED_LIMIT,
-    Settings, TURN_LIMIT, USUAL_CACHE, WORKER_LIMIT,
+    ASKER_LIMIT, LEAST_CACHE, LOAD_WORKER_LIMIT, LoadSettings, MOST_CACHE, QUERY_LIMIT, RULE_LIMIT,
+    SEED_LIMIT, Settings, TURN_LIMIT, USUAL_ASKERS, USUAL_CACHE, WORKER_LIMIT,
 };
 use crate::values::{count_to, number_between, number_to, read_endpoint, read_zones};
 use crate::words_error::WordsError;
@@ -107,6 +107,7 @@ fn read_settings(alloc: Global, matches: &ArgMatches) -> Result<Settings, WordsE
     let upstream = endpoint_at(matches, "UPSTREAM").ok_or(WordsError::Usage)?;
     let turns = number_at(matches, "TURNS", TURN_LIMIT).ok_or(WordsError::Usage)?;
     let workers = number_at(matches, "WORKERS", WORKER_LIMIT as u32).ok_or(WordsError::Usage)?;
+    let askers = askers_at(matches, "N").ok_or(WordsError::Usage)?;
     let cache = cache_at(matches, "ENTRIES").ok_or(WordsError::Usage)?;
     let zones = zones_at(alloc, matches, "ZONE@PRIMARY")?;
     Ok(Settings {
@@ -114,6 +115,7 @@ fn read_settings(alloc: Global, matches: &ArgMatches) -> Result<Settings, WordsE
         upstream,
         turns,
         workers: workers as usize,
+        askers: askers as usize,
         cache,
         zones,
     })
@@ -157,6 +159,16 @@ fn count_at(matches: &ArgMatches, id: &str, most: u32) -> Option<u32>
         ≡ value_at (values_form.count_to most) id.now (rows_of (found_of matches.now)) }
 {
     count_to(text_at(matches, id)?.as_bytes(), most)
+}
+
+// How many workers ask the upstream: the value of an option, or the usual number where it isn't given.
+fn askers_at(matches: &ArgMatches, id: &str) -> Option<u32>
+    ensures { result ≡ askers_of (first_of id.now (rows_of (found_of matches.now))) }
+{
+    match text_at(matches, id) {
+        Some(text) => number_to(text.as_bytes(), ASKER_LIMIT),
+        None => Some(USUAL_ASKERS),
+    }
 }
 
 // How many answers the cache holds at most: the value of an option, or the usual number where it isn't given.

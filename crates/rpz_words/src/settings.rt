@@ -30,6 +30,12 @@ pub const MOST_CACHE: u32 = 1_048_576;
 /// How many answers a server's cache holds at most where `--cache` isn't given.
 pub const USUAL_CACHE: u32 = 65_536;
 
+/// The most workers of a server that ask the upstream for what was passed on.
+pub const ASKER_LIMIT: u32 = 512;
+
+/// How many workers of a server ask the upstream for what was passed on where `--askers` isn't given.
+pub const USUAL_ASKERS: u32 = 256;
+
 /// What a server is to do.
 #[derive(Debug, Drop)]
 pub struct Settings {
@@ -39,8 +45,10 @@ pub struct Settings {
     pub upstream: Endpoint,
     /// How many arrivals are taken: 1 to 4,294,967,295.
     pub turns: u32,
-    /// How many workers answer: 1 to 16.
+    /// How many workers answer datagrams by the rules and the cache: 1 to 16.
     pub workers: usize,
+    /// How many workers ask the upstream for what those pass on: 1 to 512.
+    pub askers: usize,
     /// How many answers the cache that all workers share holds at most: 16 to 1,048,576.
     pub cache: u32,
     /// The policy zones in order, 1 to 32, of distinct names: rules of earlier ones go before those of later ones.

@@ -1,5 +1,6 @@
 pub mod Stages
-pub mod Answered
+pub mod WholeAnswer
+pub mod Settled
 pub mod LiveEntries
 pub mod Served
 pub mod Worked

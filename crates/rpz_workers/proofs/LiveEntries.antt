@@ -206,8 +206,8 @@ hit_at {L} now p entry y before cache tells found serves same =
       serves = subst (Serves p now) same serves;
     }
 
-module _ {L : Type 0} (gave : List ℕ → List ℕ → ℕ → Type 0) (now : ℕ) (p q : Question) (y : PlainLearned) (is_live : live now y ≡ true) (limit m : ℕ) (before after : Inquiry) (room : suc m ≤ limit) (has : HasFirst q y limit m before.cached) where
-  one_alike : (one : Obtained L) → key_of p ≡ key_of q → ObtainsFor gave now p before one after → HasFirst q y limit (suc m) after.cached × IsHit now p y (record { turn = one; before = before })
+module _ {L : Type 0} (gave : List ℕ → List ℕ → ℕ → Type 0) (passes_on : Bool) (now : ℕ) (p q : Question) (y : PlainLearned) (is_live : live now y ≡ true) (limit m : ℕ) (before after : Inquiry) (room : suc m ≤ limit) (has : HasFirst q y limit m before.cached) where
+  one_alike : (one : Obtained L) → key_of p ≡ key_of q → ObtainsFor gave passes_on now p before one after → HasFirst q y limit (suc m) after.cached × IsHit now p y (record { turn = one; before = before })
   one_alike (Learned entry) alike (inl hit) =
       let found = found_in p now limit (Some entry) before.cached has.entries has.tells hit.is_found in
       let found_twice = sym found ∙ finds p q y now m has.entries alike is_live has.first in
@@ -222,13 +222,13 @@ module _ {L : Type 0} (gave : List ℕ → List ℕ → ℕ → Type 0) (now : �
   one_alike (Learned entry) alike (inr asked) = absurd (must_find now p q y limit m before.cached alike is_live has asked.not_found)
   one_alike (Failed asked) alike (same, failed) = absurd (must_find now p q y limit m before.cached alike is_live has failed.not_found)
 
-  one_other : (one : Obtained L) → bytes_eq (key_of p) (key_of q) ≡ false → ObtainsFor gave now p before one after → HasFirst q y limit (suc m) after.cached
+  one_other : (one : Obtained L) → bytes_eq (key_of p) (key_of q) ≡ false → ObtainsFor gave passes_on now p before one after → HasFirst q y limit (suc m) after.cached
   one_other (Learned entry) differ (inl hit) = other_looked_up p q y limit m before.cached after.cached differ has hit.cached
   one_other (Learned entry) differ (inr asked) =
       stays_may_keep p q differ limit m entry has.entries (looked_up p before.cached) after.cached y room asked.asks.0 (ap (looked_up p) has.tells) asked.cached has.first
   one_other (Failed asked) differ (same, failed) = other_looked_up p q y limit m before.cached after.cached differ has failed.cached
 
-  one_stage : (one : Obtained L) → ObtainsFor gave now p before one after → HasFirst q y limit (suc m) after.cached × (key_of p ≡ key_of q → IsHit now p y (record { turn = one; before = before }))
+  one_stage : (one : Obtained L) → ObtainsFor gave passes_on now p before one after → HasFirst q y limit (suc m) after.cached × (key_of p ≡ key_of q → IsHit now p y (record { turn = one; before = before }))
   one_stage one by = (elim (bytes_eq (key_of p) (key_of q)) as (λ b. bytes_eq (key_of p) (key_of q) ≡ b → HasFirst q y limit (suc m) after.cached × (key_of p ≡ key_of q → IsHit now p y (record { turn = one; before = before }))) [
     | true ↦ λ t. let both = one_alike one ((bytes_eq-Decides (key_of p) (key_of q)).0 t) by in (both.0, λ _. both.1)
     | false ↦ λ t. (one_other one t by, λ alike. absurd (true≢false (sym ((bytes_eq-Decides (key_of p) (key_of q)).1 alike) ∙ t)))
@@ -248,14 +248,14 @@ pub record KeepsEntry {L : Type 0} (policy : PlainPolicy) (incoming : Incoming) 
   pub counted : length last.facts ≡ length stages
   pub hits : AllByRecursion (HitsFor policy incoming now question entry) stages
 
-module _ {L : Type 0} (gave : List ℕ → List ℕ → ℕ → Type 0) (now : ℕ) (policy : PlainPolicy) (incoming : Incoming) (question : Question) (entry : PlainLearned) (is_live : live now entry ≡ true) (limit m : ℕ) (room : m + FACT_LIMIT ≤ limit) (first : Inquiry) (none : first.facts ≡ []) (has : HasFirst question entry limit m first.cached) where
-  keeps_entry_more : (stage : Stage Inquiry (Obtained L)) (stages : List (Stage Inquiry (Obtained L))) (last : Inquiry) → Obtains gave now policy incoming stage.before stage.turn last
+module _ {L : Type 0} (gave : List ℕ → List ℕ → ℕ → Type 0) (passes_on : Bool) (now : ℕ) (policy : PlainPolicy) (incoming : Incoming) (question : Question) (entry : PlainLearned) (is_live : live now entry ≡ true) (limit m : ℕ) (room : m + FACT_LIMIT ≤ limit) (first : Inquiry) (none : first.facts ≡ []) (has : HasFirst question entry limit m first.cached) where
+  keeps_entry_more : (stage : Stage Inquiry (Obtained L)) (stages : List (Stage Inquiry (Obtained L))) (last : Inquiry) → Obtains gave passes_on now policy incoming stage.before stage.turn last
       → KeepsEntry policy incoming now limit m question entry stages stage.before → KeepsEntry policy incoming now limit m question entry (stage ∷ stages) last
   keeps_entry_more stage stages last obtains was =
       let within : length stage.before.facts < FACT_LIMIT = asks_within policy incoming stage.before.facts obtains.question obtains.asks in
       let place : suc (m + length stages) ≤ limit = omega (arith, was.counted) in
-      let one = one_stage gave now obtains.question question entry is_live limit (m + length stages) stage.before last place was.has stage.turn obtains.by in
-      let more : length last.facts ≡ length stage.before.facts + 1 = one_fact_more gave now obtains.question stage.before stage.turn last obtains.by in
+      let one = one_stage gave passes_on now obtains.question question entry is_live limit (m + length stages) stage.before last place was.has stage.turn obtains.by in
+      let more : length last.facts ≡ length stage.before.facts + 1 = one_fact_more gave passes_on now obtains.question stage.before stage.turn last obtains.by in
       let next : suc (m + length stages) ≡ m + suc (length stages) = omega arith in
       record {
         has = subst (λ (k : ℕ). HasFirst question entry limit k last.cached) next one.0;
@@ -268,7 +268,7 @@ module _ {L : Type 0} (gave : List ℕ → List ℕ → ℕ → Type 0) (now : �
         );
       }
 
-  keeps_entry : (stages : List (Stage Inquiry (Obtained L))) (last : Inquiry) → Chain (Obtains gave now policy incoming) first stages last → KeepsEntry policy incoming now limit m question entry stages last
+  keeps_entry : (stages : List (Stage Inquiry (Obtained L))) (last : Inquiry) → Chain (Obtains gave passes_on now policy incoming) first stages last → KeepsEntry policy incoming now limit m question entry stages last
   keeps_entry [] last same =
       let start : m ≡ m + 0 = omega arith in
       record {
@@ -278,13 +278,13 @@ module _ {L : Type 0} (gave : List ℕ → List ℕ → ℕ → Type 0) (now : �
       }
   keeps_entry (stage ∷ stages) last (obtains, chain) = keeps_entry_more stage stages last obtains (keeps_entry stages stage.before chain)
 
-pub live_entry_answers : {L : Type 0} (gave : List ℕ → List ℕ → ℕ → Type 0) (now : ℕ) (policy : PlainPolicy) (incoming : Incoming) (first last : Inquiry) (stages : List (Stage Inquiry (Obtained L))) (question : Question) (entry : PlainLearned) (cache : Recent)
-    → first.facts ≡ [] → first.cached ≡ Some cache → Chain (Obtains gave now policy incoming) first stages last
+pub live_entry_answers : {L : Type 0} (gave : List ℕ → List ℕ → ℕ → Type 0) (passes_on : Bool) (now : ℕ) (policy : PlainPolicy) (incoming : Incoming) (first last : Inquiry) (stages : List (Stage Inquiry (Obtained L))) (question : Question) (entry : PlainLearned) (cache : Recent)
+    → first.facts ≡ [] → first.cached ≡ Some cache → Chain (Obtains gave passes_on now policy incoming) first stages last
     → live_entry question now (take (cache.limit - FACT_LIMIT) cache.entries) ≡ Some entry
     → AllByRecursion (HitsFor policy incoming now question entry) stages
-live_entry_answers gave now policy incoming first last stages question entry cache none tells chain e =
+live_entry_answers gave passes_on now policy incoming first last stages question entry cache none tells chain e =
     let is = live_if now (find (is_about question) (take (cache.limit - FACT_LIMIT) cache.entries)) entry e in
     let some = some_room question entry (cache.limit - FACT_LIMIT) cache.entries is.0 in
     let room : (cache.limit - FACT_LIMIT) + FACT_LIMIT ≤ cache.limit = omega arith in
     let has : HasFirst question entry cache.limit (cache.limit - FACT_LIMIT) first.cached = record { entries = cache.entries; tells = tells; first = is.0 } in
-    (keeps_entry gave now policy incoming question entry is.1 cache.limit (cache.limit - FACT_LIMIT) room first none has stages last chain).hits
+    (keeps_entry gave passes_on now policy incoming question entry is.1 cache.limit (cache.limit - FACT_LIMIT) room first none has stages last chain).hits

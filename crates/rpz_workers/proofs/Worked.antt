@@ -6,10 +6,11 @@ use Rattle.edge_io.specs.Told.{PlainReply}
 use Rattle.edge_io.specs.declared.endpoint.Endpoint.{Endpoint}
 use Rattle.edge_io.specs.declared.replies.SendError.{SendError}
 use Rattle.edge_io.specs.declared.replies.SendError.TheVariants as send_error
-use Rattle.reply_build.specs.declared.said.Said.{Said}
 use Rattle.reply_build.specs.declared.said.Said.TheVariants as said
 use Rattle.rpz_workers.specs.declared.item.Item.{Item}
 use Rattle.rpz_workers.specs.declared.item.Item.TheVariants as item
+use Rattle.rpz_workers.specs.declared.outcome.Outcome.{Outcome}
+use Rattle.rpz_workers.specs.declared.outcome.Outcome.TheVariants as outcome
 use Rattle.rpz_workers.specs.declared.took.Took.{Took}
 use Rattle.rpz_workers.specs.declared.took.Took.TheVariants as took
 use Rattle.rpz_workers.specs.Handling.{Handles, Sends, StreamViews, WorkerState, sent_after, took_of}
@@ -19,41 +20,50 @@ use Rattle.rpz_workers.specs.Reporting.{Counts, counted, one_more_counted}
 use Rattle.rpz_workers.specs.Working.{Handled, RunState, TakesItem, Works, tally}
 
 -- nothing goes back to what is not answered at all
-pub nothing_sent : {E : Type 0} (peer : Endpoint) (message : List ℕ) (e : E) (sent : Option (List PlainReply)) → bare_reply message ≡ None → Sends {E = E} peer message (Err e) took.Memory sent sent
-nothing_sent peer message e sent none = record { tried = Ok tt; sent_is = sym (ap (λ (b : Option (List ℕ)). sent_after sent peer b (Ok tt)) none); took_is = refl }
+pub nothing_sent : (peer : Endpoint) (message : List ℕ) (what : Outcome) (sent : Option (List PlainReply)) → what ≡ outcome.NoMemory → bare_reply message ≡ None → Sends peer message what took.Memory sent sent
+nothing_sent peer message what sent is none =
+    let P : Outcome → Type 0 = λ w. Sends peer message w took.Memory sent sent in
+    subst P (sym is) (record { tried = Ok tt; sent_is = sym (ap (λ (b : Option (List ℕ)). sent_after sent peer b (Ok tt)) none); took_is = refl })
 
 -- where nothing is said, nothing is sent
-pub silent_sends : {E : Type 0} (peer : Endpoint) (message : List ℕ) (what : Result Said E) (s : Said) (sent : Option (List PlainReply)) → what ≡ Ok s → s ≡ said.Silent → Sends {E = E} peer message what took.Silent sent sent
-silent_sends {E} peer message what s sent is silent =
-    let P : Result Said E → Type 0 = λ w. Sends {E = E} peer message w took.Silent sent sent in
-    subst P (sym (is ∙ ap (λ (x : Said). Ok x) silent)) (record { tried = Ok tt; sent_is = refl; took_is = refl })
+pub silent_sends : (peer : Endpoint) (message : List ℕ) (what : Outcome) (sent : Option (List PlainReply)) → what ≡ outcome.Said said.Silent → Sends peer message what took.Silent sent sent
+silent_sends peer message what sent is =
+    let P : Outcome → Type 0 = λ w. Sends peer message w took.Silent sent sent in
+    subst P (sym is) (record { tried = Ok tt; sent_is = refl; took_is = refl })
 
-no_stop : {E : Type 0} (what : Result Said E) (tried : Result (Unit {0}) SendError) → took.Stop ≡ took_of what tried → ⊥
-no_stop (Ok said.Silent) tried e = cc
-no_stop (Ok (said.Reply bytes)) (Ok done) e = cc
-no_stop (Ok (said.Reply bytes)) (Err send_error.Failed) e = cc
-no_stop (Ok (said.Reply bytes)) (Err send_error.OutOfMemory) e = cc
-no_stop (Err x) (Ok done) e = cc
-no_stop (Err x) (Err send_error.Failed) e = cc
-no_stop (Err x) (Err send_error.OutOfMemory) e = cc
+-- where a message is passed on, nothing is sent
+pub passed_sends : (peer : Endpoint) (message : List ℕ) (what : Outcome) (sent : Option (List PlainReply)) → what ≡ outcome.PassedOn → Sends peer message what took.PassedOn sent sent
+passed_sends peer message what sent is =
+    let P : Outcome → Type 0 = λ w. Sends peer message w took.PassedOn sent sent in
+    subst P (sym is) (record { tried = Ok tt; sent_is = refl; took_is = refl })
+
+no_stop : (what : Outcome) (tried : Result (Unit {0}) SendError) → took.Stop ≡ took_of what tried → ⊥
+no_stop (outcome.Said said.Silent) tried e = cc
+no_stop (outcome.Said (said.Reply bytes)) (Ok done) e = cc
+no_stop (outcome.Said (said.Reply bytes)) (Err send_error.Failed) e = cc
+no_stop (outcome.Said (said.Reply bytes)) (Err send_error.OutOfMemory) e = cc
+no_stop outcome.NoMemory (Ok done) e = cc
+no_stop outcome.NoMemory (Err send_error.Failed) e = cc
+no_stop outcome.NoMemory (Err send_error.OutOfMemory) e = cc
+no_stop outcome.PassedOn tried e = cc
 
 -- Stop comes of Stop alone, and changes nothing
-pub stop_is_stop : {L N S K : Type 0} (origins : List (List (List ℕ))) (gave : List ℕ → List ℕ → ℕ → Type 0) (views : StreamViews S K) (before after : WorkerState L S K) (it : Item N S K)
-    → Handles origins gave views before it took.Stop after → (it ≡ item.Stop) × (after ≡ before)
-stop_is_stop origins gave views before after (item.Job job) h = absurd (no_stop h.what h.sends.tried h.sends.took_is)
-stop_is_stop origins gave views before after (item.Connection source sink client) h = let e = h.0 in absurd (cc)
-stop_is_stop origins gave views before after (item.Told list) h = let e = h.0 in absurd (cc)
-stop_is_stop origins gave views before after item.Stop h = (refl, h.1)
+pub stop_is_stop : {L N S K : Type 0} (origins : List (List (List ℕ))) (gave : List ℕ → List ℕ → ℕ → Type 0) (passes_on : Bool) (views : StreamViews S K) (before after : WorkerState L S K) (it : Item N S K)
+    → Handles origins gave passes_on views before it took.Stop after → (it ≡ item.Stop) × (after ≡ before)
+stop_is_stop origins gave passes_on views before after (item.Job job) h = absurd (no_stop h.what h.sends.tried h.sends.took_is)
+stop_is_stop origins gave passes_on views before after (item.Connection source sink client) h = let e = h.0 in absurd (cc)
+stop_is_stop origins gave passes_on views before after (item.Told list) h = let e = h.0 in absurd (cc)
+stop_is_stop origins gave passes_on views before after item.Stop h = (refl, h.1)
 
 -- what an item does to the count of failed sends
-pub handled_faults : {L N S K : Type 0} (origins : List (List (List ℕ))) (gave : List ℕ → List ℕ → ℕ → Type 0) (views : StreamViews S K) (before after : WorkerState L S K) (it : Item N S K) (t : Took)
-    → Handles origins gave views before it t after → (before.send_faults ≤ after.send_faults) × (t ≡ took.Failed → Rose before.send_faults after.send_faults)
-handled_faults origins gave views before after (item.Job job) t h = (h.count, h.failed)
-handled_faults origins gave views before after (item.Connection source sink client) t h =
+pub handled_faults : {L N S K : Type 0} (origins : List (List (List ℕ))) (gave : List ℕ → List ℕ → ℕ → Type 0) (passes_on : Bool) (views : StreamViews S K) (before after : WorkerState L S K) (it : Item N S K) (t : Took)
+    → Handles origins gave passes_on views before it t after → (before.send_faults ≤ after.send_faults) × (t ≡ took.Failed → Rose before.send_faults after.send_faults)
+handled_faults origins gave passes_on views before after (item.Job job) t h = (h.count, h.failed)
+handled_faults origins gave passes_on views before after (item.Connection source sink client) t h =
     let e = h.0 in let n : before.send_faults ≤ after.send_faults = omega (arith, h.1.send_faults) in (n, λ f. absurd (cc))
-handled_faults origins gave views before after (item.Told list) t h =
+handled_faults origins gave passes_on views before after (item.Told list) t h =
     let e = h.0 in let n : before.send_faults ≤ after.send_faults = omega (arith, ap (λ s. s.send_faults) h.1.same) in (n, λ f. absurd (cc))
-handled_faults origins gave views before after item.Stop t h =
+handled_faults origins gave passes_on views before after item.Stop t h =
     let e = h.0 in let n : before.send_faults ≤ after.send_faults = omega (arith, ap (λ s. s.send_faults) h.1) in (n, λ f. absurd (cc))
 
 -- the number of failed jobs, and the count of failed sends
@@ -62,6 +72,7 @@ faults_one c took.Reply a m b was le rose = omega arith
 faults_one c took.Silent a m b was le rose = omega arith
 faults_one c took.Memory a m b was le rose = omega arith
 faults_one c took.Failed a m b was le rose = let r = rose refl in omega arith
+faults_one c took.PassedOn a m b was le rose = omega arith
 faults_one c took.Closed a m b was le rose = omega arith
 faults_one c took.Learnt a m b was le rose = omega arith
 faults_one c took.Stop a m b was le rose = omega arith
@@ -74,23 +85,23 @@ pub faults_counted : (c : Counts) (t : Took) (a m b : ℕ) → min (a + c.failed
 faults_counted c t a m b was le rose = faults_if (c.jobs == 2 ^ 64 - 1) c t a m b was le rose
 
 -- what was handled so far
-pub record Worked {L N S K : Type 0} (origins : List (List (List ℕ))) (gave : List ℕ → List ℕ → ℕ → Type 0) (views : StreamViews S K) (before : RunState L N S K) (counts : Counts) (now : RunState L N S K) : Type 0 where
+pub record Worked {L N S K : Type 0} (origins : List (List (List ℕ))) (gave : List ℕ → List ℕ → ℕ → Type 0) (passes_on : Bool) (views : StreamViews S K) (before : RunState L N S K) (counts : Counts) (now : RunState L N S K) : Type 0 where
   pub stages : List (Stage (RunState L N S K) (Handled N S K))
-  pub chain : Chain (TakesItem origins gave views) before stages now
+  pub chain : Chain (TakesItem origins gave passes_on views) before stages now
   pub counts_are : counts ≡ tally stages
 
 -- one item more
-pub worked_more : {L N S K : Type 0} (origins : List (List (List ℕ))) (gave : List ℕ → List ℕ → ℕ → Type 0) (views : StreamViews S K) (before : RunState L N S K) (counts : Counts) (now after : RunState L N S K) (handled : Handled N S K)
-    → Worked origins gave views before counts now → TakesItem origins gave views now handled after → Worked origins gave views before (counted counts handled.took) after
-worked_more origins gave views before counts now after handled was takes =
+pub worked_more : {L N S K : Type 0} (origins : List (List (List ℕ))) (gave : List ℕ → List ℕ → ℕ → Type 0) (passes_on : Bool) (views : StreamViews S K) (before : RunState L N S K) (counts : Counts) (now after : RunState L N S K) (handled : Handled N S K)
+    → Worked origins gave passes_on views before counts now → TakesItem origins gave passes_on views now handled after → Worked origins gave passes_on views before (counted counts handled.took) after
+worked_more origins gave passes_on views before counts now after handled was takes =
     record { stages = record { turn = handled; before = now } ∷ was.stages; chain = (takes, was.chain); counts_are = ap (λ c. counted c handled.took) was.counts_are }
 
 -- the end of a run
-pub stopped : {L N S K : Type 0} (origins : List (List (List ℕ))) (gave : List ℕ → List ℕ → ℕ → Type 0) (views : StreamViews S K) (before now : RunState L N S K) (counts : Counts) (it : Item N S K) (t : Took) (after : RunState L N S K)
-    → Worked origins gave views before counts now → NextItem now.coming it after.coming → Handles origins gave views now.state it t after.state → t ≡ took.Stop
-    → Works origins gave views before counts after
-stopped {L} {N} {S} {K} origins gave views before now counts it t after was next handles e =
-    let P : Took → Type 0 = λ x. Handles origins gave views now.state it x after.state in
-    let stop = stop_is_stop origins gave views now.state after.state it (subst P e handles) in
+pub stopped : {L N S K : Type 0} (origins : List (List (List ℕ))) (gave : List ℕ → List ℕ → ℕ → Type 0) (passes_on : Bool) (views : StreamViews S K) (before now : RunState L N S K) (counts : Counts) (it : Item N S K) (t : Took) (after : RunState L N S K)
+    → Worked origins gave passes_on views before counts now → NextItem now.coming it after.coming → Handles origins gave passes_on views now.state it t after.state → t ≡ took.Stop
+    → Works origins gave passes_on views before counts after
+stopped {L} {N} {S} {K} origins gave passes_on views before now counts it t after was next handles e =
+    let P : Took → Type 0 = λ x. Handles origins gave passes_on views now.state it x after.state in
+    let stop = stop_is_stop origins gave passes_on views now.state after.state it (subst P e handles) in
     let Q : Item N S K → Type 0 = λ x. NextItem now.coming x after.coming in
     record { stages = was.stages; last = now; chain = was.chain; stops = subst Q stop.0 next; state = stop.1; counts_are = was.counts_are }

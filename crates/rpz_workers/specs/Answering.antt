@@ -1,16 +1,20 @@
 -- The answer of one query by a worker.
-use Rattle.std.specs.Prelude.{◌≡◌, ◌≤◌, ◌⊎◌, ℕ, List, [], ◌∷◌, ◌++◌, Option, Result, Ok, Err}
+use Rattle.std.specs.Prelude.{◌≡◌, ◌≤◌, ◌⊎◌, ℕ, Bool, true, List, [], ◌∷◌, ◌++◌, Option, None, Result, Ok, Err}
 use mathlib.Core.List.{IsPrefix}
 use Rattle.dns_name.specs.Labels.{Name}
 use Rattle.edge_io.specs.Chain.{Chain, Stage}
 use Rattle.dns_message.specs.Request.{incoming_of}
-use Rattle.answer_cache.specs.Keeps.{emptied}
+use Rattle.dns_message.specs.declared.question.Question.{Question}
+use Rattle.answer_cache.specs.Keeps.{IsFound, emptied, looked_up}
 use Rattle.answer_cache.specs.Recent.{Recent}
 use Rattle.policy_snapshot.specs.Policy.{policy_after}
 use Rattle.policy_publish.specs.Lists.{GoesOn, Known}
 use Rattle.query_session.specs.Session.{turn_by}
+use Rattle.reply_build.specs.Short.{IsShort}
 use Rattle.reply_build.specs.declared.said.Said.{Said}
 use Rattle.reply_build.specs.declared.turn.Turn.TheVariants as turn
+use Rattle.rpz_workers.specs.declared.answered.Answered.{Answered}
+use Rattle.rpz_workers.specs.declared.answered.Answered.TheVariants as answered
 use Rattle.rpz_workers.specs.declared.item.Job.{Job}
 use Rattle.rpz_workers.specs.declared.obtained.Obtained.{Obtained}
 use Rattle.rpz_workers.specs.Obtaining.{Inquiry, Obtains, limit_of}
@@ -44,11 +48,11 @@ obtained_in (stage ∷ stages) = obtained_in stages ++ stage.turn ∷ []
 -- before and with each that the worker was told, and by the facts that the query obtained, one after another, each for the question
 -- that comes next; after the last nothing is asked, and this is said.
 pub record IsAnswer {L : Type 0} (origins : List Name)
-    (gave : List ℕ → List ℕ → ℕ → Type 0) (job : Job) (now : ℕ) (said : Said)
+    (gave : List ℕ → List ℕ → ℕ → Type 0) (passes_on : Bool) (job : Job) (now : ℕ) (said : Said)
     (old new : PlainWorker L) : Type 0 where
   pub stages : List (Stage Inquiry (Obtained L))
   pub last : Inquiry
-  pub obtains : Chain (Obtains gave now (policy_after origins new.known.seen)
+  pub obtains : Chain (Obtains gave passes_on now (policy_after origins new.known.seen)
       (incoming_of job.message job.peer.addr job.transport)) (beginning old) stages last
   pub says : turn_by (policy_after origins new.known.seen)
       (incoming_of job.message job.peer.addr job.transport) last.facts ≡ turn.Said said
@@ -56,6 +60,27 @@ pub record IsAnswer {L : Type 0} (origins : List Name)
   pub goes_on : GoesOn old.known new.known.seen
   pub told : new.known.told ≡ old.known.told
   pub cached : new.cached ≡ last.cached
+  pub limit : limit_of new.cached ≡ limit_of old.cached
+  pub ids : new.ids ≡ last.ids
+  pub link_faults : new.link_faults ≡ last.link_faults
+
+-- The message needs the upstream: by the same policy, and by what live entries of the cache gave, one after another, this question
+-- comes next. No live entry of the cache is about it, where the cache tells its entries, and the worker asks nobody.
+pub record NeedsUpstream {L : Type 0} (origins : List Name)
+    (gave : List ℕ → List ℕ → ℕ → Type 0) (passes_on : Bool) (job : Job) (now : ℕ)
+    (question : Question) (old new : PlainWorker L) : Type 0 where
+  pub stages : List (Stage Inquiry (Obtained L))
+  pub last : Inquiry
+  pub obtains : Chain (Obtains gave passes_on now (policy_after origins new.known.seen)
+      (incoming_of job.message job.peer.addr job.transport)) (beginning old) stages last
+  pub asks : turn_by (policy_after origins new.known.seen)
+      (incoming_of job.message job.peer.addr job.transport) last.facts ≡ turn.Ask question
+  pub not_found : IsFound question now None last.cached
+  pub asks_nobody : passes_on ≡ true
+  pub obtained : new.obtained ≡ obtained_in stages
+  pub goes_on : GoesOn old.known new.known.seen
+  pub told : new.known.told ≡ old.known.told
+  pub cached : new.cached ≡ looked_up question last.cached
   pub limit : limit_of new.cached ≡ limit_of old.cached
   pub ids : new.ids ≡ last.ids
   pub link_faults : new.link_faults ≡ last.link_faults
@@ -69,8 +94,16 @@ pub record IsNoAnswer {L : Type 0} (old new : PlainWorker L) : Type 0 where
   pub link_faults : old.link_faults ≤ new.link_faults
   pub obtained : new.obtained ≡ []
 
--- the answer to a message, or that memory ran out
-abbrev pub Answers : {L E : Type 0} → List Name → (List ℕ → List ℕ → ℕ → Type 0) → Job →
-    ℕ → Result Said E → PlainWorker L → PlainWorker L → Type 0
-Answers origins gave job now (Ok said) old new = IsAnswer origins gave job now said old new
-Answers origins gave job now (Err e) old new = IsNoAnswer old new
+-- what the query of a message came to, or that memory ran out
+abbrev pub Answers : {L E : Type 0} → List Name → (List ℕ → List ℕ → ℕ → Type 0) → Bool → Job →
+    ℕ → Result Answered E → PlainWorker L → PlainWorker L → Type 0
+Answers origins gave passes_on job now (Ok (answered.Said said)) old new =
+    IsAnswer origins gave passes_on job now said old new
+Answers origins gave passes_on job now (Ok (answered.Needs question)) old new =
+    NeedsUpstream origins gave passes_on job now question old new
+Answers origins gave passes_on job now (Err e) old new = IsNoAnswer old new
+
+-- what is said fits into a message; a question that is to be asked is none
+abbrev pub IsShortAnswer : Answered → Type 0
+IsShortAnswer (answered.Said said) = IsShort said
+IsShortAnswer (answered.Needs question) = Unit {0}

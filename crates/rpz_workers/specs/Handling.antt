@@ -1,6 +1,5 @@
 -- What a worker does with its items.
-use Rattle.std.specs.Prelude.{◌≡◌, ◌≤◌, ℕ, List, Option, Some, None, Result, Ok, Err}
-use Rattle.std.specs.declared.alloc.AllocError.{AllocError}
+use Rattle.std.specs.Prelude.{◌≡◌, ◌≤◌, ℕ, Bool, List, Option, Some, None, Result, Ok, Err}
 use Rattle.dns_name.specs.Labels.{Name}
 use Rattle.edge_io.specs.Edge.{Rose}
 use Rattle.edge_io.specs.Told.{Closings, ComesNext, Ended, PlainReply, closed_more, more_if_ok}
@@ -9,32 +8,38 @@ use Rattle.edge_io.specs.declared.replies.SendError.{SendError}
 use Rattle.edge_io.specs.declared.replies.SendError.TheVariants as send_error
 use Rattle.policy_snapshot.specs.declared.entry.Entry.{Entry}
 use Rattle.policy_publish.specs.Lists.{KeepsTold, WasTold}
-use Rattle.reply_build.specs.declared.said.Said.{Said}
 use Rattle.reply_build.specs.declared.said.Said.TheVariants as said
 use Rattle.rpz_workers.specs.declared.item.Item.{Item}
 use Rattle.rpz_workers.specs.declared.item.Item.TheVariants as item
 use Rattle.rpz_workers.specs.declared.item.Job.{Job}
+use Rattle.rpz_workers.specs.declared.outcome.Outcome.{Outcome}
+use Rattle.rpz_workers.specs.declared.outcome.Outcome.TheVariants as outcome
 use Rattle.rpz_workers.specs.declared.took.Took.{Took}
 use Rattle.rpz_workers.specs.declared.took.Took.TheVariants as took
-use Rattle.rpz_workers.specs.Answering.{Answers, PlainWorker}
+use Rattle.rpz_workers.specs.Answering.{PlainWorker}
 use Rattle.rpz_workers.specs.Connections.{ServesConnection, connection_state, fault_counts}
+use Rattle.rpz_workers.specs.Passed.{PlainPassed}
+use Rattle.rpz_workers.specs.Passing.{Settles}
 use Rattle.rpz_workers.specs.Replying.{to_send}
 
--- what contracts see between two items: the worker, the seconds that its clock is still to give, the replies that were sent and the
--- connections that were closed, where they are known, and how often a send has failed
+-- what contracts see between two items: the worker, the seconds that its clock is still to give, what was passed on, the replies
+-- that were sent and the connections that were closed, where they are known, and how often a send has failed
 pub record WorkerState (L S K : Type 0) : Type 0 where
   pub worker : PlainWorker L
   pub moments : Option (List ℕ)
+  pub passed : Option (List PlainPassed)
   pub sent : Option (List PlainReply)
   pub closings : Option (Closings S K)
   pub send_faults : ℕ
 
 abbrev pub worker_state : {L S K : Type 0} → PlainWorker L → Option (List ℕ) →
-    Option (List PlainReply) → Option (Closings S K) → ℕ → WorkerState L S K
-worker_state worker moments sent closings send_faults =
+    Option (List PlainPassed) → Option (List PlainReply) → Option (Closings S K) → ℕ →
+    WorkerState L S K
+worker_state worker moments passed sent closings send_faults =
     record {
       worker = worker;
       moments = moments;
+      passed = passed;
       sent = sent;
       closings = closings;
       send_faults = send_faults;
@@ -65,28 +70,30 @@ took_by_send t (Ok done) = t
 took_by_send t (Err send_error.Failed) = took.Failed
 took_by_send t (Err send_error.OutOfMemory) = took.Memory
 
--- what became of a job, by its answer and by the send of its reply; where memory ran out for the answer, Memory, unless sending the
--- bare reply failed
-abbrev pub took_of : {E : Type 0} → Result Said E → Result (Unit {0}) SendError → Took
-took_of (Ok said.Silent) tried = took.Silent
-took_of (Ok (said.Reply bytes)) tried = took_by_send took.Reply tried
-took_of (Err e) tried = took_by_send took.Memory tried
+-- what became of a job, by what became of its message and by the send of its reply; where memory ran out for the answer, Memory,
+-- unless sending the bare reply failed
+abbrev pub took_of : Outcome → Result (Unit {0}) SendError → Took
+took_of (outcome.Said said.Silent) tried = took.Silent
+took_of (outcome.Said (said.Reply bytes)) tried = took_by_send took.Reply tried
+took_of outcome.NoMemory tried = took_by_send took.Memory tried
+took_of outcome.PassedOn tried = took.PassedOn
 
 -- How a reply went out, and what that makes of the job.
-pub record Sends {E : Type 0} (peer : Endpoint) (message : List ℕ) (what : Result Said E) (t : Took)
+pub record Sends (peer : Endpoint) (message : List ℕ) (what : Outcome) (t : Took)
     (sent sent_then : Option (List PlainReply)) : Type 0 where
   pub tried : Result (Unit {0}) SendError
   pub sent_is : sent_then ≡ sent_after sent peer (to_send message what) tried
   pub took_is : t ≡ took_of what tried
 
--- A job is answered at the second that the clock gives next, and the reply is sent to its peer.
+-- A job is answered at the second that the clock gives next, and the reply is sent to its peer; or it is passed on.
 pub record HandlesJob {L S K : Type 0} (origins : List Name)
-    (gave : List ℕ → List ℕ → ℕ → Type 0) (job : Job) (before : WorkerState L S K) (t : Took)
-    (after : WorkerState L S K) : Type 0 where
+    (gave : List ℕ → List ℕ → ℕ → Type 0) (passes_on : Bool) (job : Job)
+    (before : WorkerState L S K) (t : Took) (after : WorkerState L S K) : Type 0 where
   pub now : ℕ
-  pub what : Result Said AllocError
+  pub what : Outcome
   pub second : ComesNext before.moments now after.moments
-  pub answers : Answers origins gave job now what before.worker after.worker
+  pub settles : Settles origins gave passes_on job now what before.worker after.worker
+      before.passed after.passed
   pub sends : Sends job.peer job.message what t before.sent after.sent
   pub closings : after.closings ≡ before.closings
   pub count : before.send_faults ≤ after.send_faults
@@ -94,15 +101,16 @@ pub record HandlesJob {L S K : Type 0} (origins : List Name)
 
 -- A connection is served, and closed with what it ended by.
 pub record HandlesConnection {L S K : Type 0} (origins : List Name)
-    (gave : List ℕ → List ℕ → ℕ → Type 0) (views : StreamViews S K) (source : S) (sink : K)
-    (client : Endpoint) (before after : WorkerState L S K) : Type 0 where
+    (gave : List ℕ → List ℕ → ℕ → Type 0) (passes_on : Bool) (views : StreamViews S K)
+    (source : S) (sink : K) (client : Endpoint) (before after : WorkerState L S K) : Type 0 where
   pub ended : Ended S K
-  pub serves : ServesConnection origins gave client
+  pub serves : ServesConnection origins gave passes_on client
       (fault_counts (views.source_faults source) (views.source_faults ended.source)
       (views.sink_faults sink) (views.sink_faults ended.sink))
-      (connection_state before.worker before.moments (views.left source) (views.held sink))
+      (connection_state before.worker before.moments before.passed (views.left source)
+      (views.held sink))
       ended.why
-      (connection_state after.worker after.moments (views.left ended.source)
+      (connection_state after.worker after.moments after.passed (views.left ended.source)
       (views.held ended.sink))
   pub closings : after.closings ≡ closed_more before.closings ended
   pub sent : after.sent ≡ before.sent
@@ -117,12 +125,13 @@ pub record HandlesTold {L S K : Type 0} (list : List Entry)
   pub same : after ≡ record before { worker = record before.worker { known = after.worker.known } }
 
 -- what a worker does with an item
-abbrev pub Handles : {L N S K : Type 0} → List Name → (List ℕ → List ℕ → ℕ → Type 0) →
+abbrev pub Handles : {L N S K : Type 0} → List Name → (List ℕ → List ℕ → ℕ → Type 0) → Bool →
     StreamViews S K → WorkerState L S K → Item N S K → Took → WorkerState L S K → Type 0
-Handles origins gave views before (item.Job job) t after =
-    HandlesJob origins gave job before t after
-Handles origins gave views before (item.Connection source sink client) t after =
-    (t ≡ took.Closed) × HandlesConnection origins gave views source sink client before after
-Handles origins gave views before (item.Told list) t after =
+Handles origins gave passes_on views before (item.Job job) t after =
+    HandlesJob origins gave passes_on job before t after
+Handles origins gave passes_on views before (item.Connection source sink client) t after =
+    (t ≡ took.Closed)
+    × HandlesConnection origins gave passes_on views source sink client before after
+Handles origins gave passes_on views before (item.Told list) t after =
     (t ≡ took.Learnt) × HandlesTold list before after
-Handles origins gave views before item.Stop t after = (t ≡ took.Stop) × (after ≡ before)
+Handles origins gave passes_on views before item.Stop t after = (t ≡ took.Stop) × (after ≡ before)

@@ -1,5 +1,8 @@
+pub mod Asked
 pub mod Obtaining
 pub mod Answering
+pub mod Passed
+pub mod Passing
 pub mod Turns
 pub mod Laws
 pub mod Replying

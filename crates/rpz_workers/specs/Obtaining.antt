@@ -1,6 +1,6 @@
 -- What is obtained for the questions of one query at a second: live entries of a cache answer first, and then a link is asked
 -- (RFC 2308, section 5).
-use Rattle.std.specs.Prelude.{◌≡◌, ◌≤◌, ◌⊎◌, ℕ, List, [], ◌∷◌, ◌++◌, Option, Some, None, option_map}
+use Rattle.std.specs.Prelude.{◌≡◌, ◌≤◌, ◌⊎◌, ℕ, Bool, false, List, [], ◌∷◌, ◌++◌, Option, Some, None, option_map}
 use Rattle.edge_io.specs.Edge.{Rose}
 use Rattle.edge_io.specs.Told.{ComesNext}
 use Rattle.dns_message.specs.declared.question.Question.{Question}
@@ -52,9 +52,10 @@ pub record FromCache (gave : List ℕ → List ℕ → ℕ → Type 0) (now : �
   pub link_faults : after.link_faults ≡ before.link_faults
 
 -- No live entry of the cache is about the question, where it tells its entries. The link is asked in a message of the next ID, and
--- what it gives is known, and kept in the cache.
-pub record FromLink (gave : List ℕ → List ℕ → ℕ → Type 0) (now : ℕ) (question : Question)
-    (entry : PlainLearned) (before after : Inquiry) : Type 0 where
+-- what it gives is known, and kept in the cache. Who passes on what needs the upstream asks no link.
+pub record FromLink (gave : List ℕ → List ℕ → ℕ → Type 0) (passes_on : Bool) (now : ℕ)
+    (question : Question) (entry : PlainLearned) (before after : Inquiry) : Type 0 where
+  pub may_ask : passes_on ≡ false
   pub not_found : IsFound question now None before.cached
   pub id : ℕ
   pub next : ComesNext before.ids id after.ids
@@ -65,7 +66,9 @@ pub record FromLink (gave : List ℕ → List ℕ → ℕ → Type 0) (now : ℕ
   pub link_faults : before.link_faults ≤ after.link_faults
 
 -- No live entry of the cache is about the question, where it tells its entries, and the link fails.
-pub record LinkFails (now : ℕ) (question : Question) (before after : Inquiry) : Type 0 where
+pub record LinkFails (passes_on : Bool) (now : ℕ) (question : Question)
+    (before after : Inquiry) : Type 0 where
+  pub may_ask : passes_on ≡ false
   pub not_found : IsFound question now None before.cached
   pub id : ℕ
   pub next : ComesNext before.ids id after.ids
@@ -74,18 +77,18 @@ pub record LinkFails (now : ℕ) (question : Question) (before after : Inquiry) 
   pub link_faults : Rose before.link_faults after.link_faults
 
 -- how an answer was obtained for a question, or none
-abbrev pub ObtainsFor : {L : Type 0} → (List ℕ → List ℕ → ℕ → Type 0) → ℕ → Question → Inquiry →
-    Obtained L → Inquiry → Type 0
-ObtainsFor gave now question before (Learned entry) after =
+abbrev pub ObtainsFor : {L : Type 0} → (List ℕ → List ℕ → ℕ → Type 0) → Bool → ℕ → Question →
+    Inquiry → Obtained L → Inquiry → Type 0
+ObtainsFor gave passes_on now question before (Learned entry) after =
     FromCache gave now question entry before after
-    ⊎ FromLink gave now question entry before after
-ObtainsFor gave now question before (Failed asked) after =
-    (asked ≡ question) × LinkFails now question before after
+    ⊎ FromLink gave passes_on now question entry before after
+ObtainsFor gave passes_on now question before (Failed asked) after =
+    (asked ≡ question) × LinkFails passes_on now question before after
 
 -- The question that a query under a policy asks at this point, and what is obtained for it at this second.
-pub record Obtains {L : Type 0} (gave : List ℕ → List ℕ → ℕ → Type 0) (now : ℕ)
-    (policy : PlainPolicy) (incoming : Incoming) (before : Inquiry) (obtained : Obtained L)
-    (after : Inquiry) : Type 0 where
+pub record Obtains {L : Type 0} (gave : List ℕ → List ℕ → ℕ → Type 0) (passes_on : Bool)
+    (now : ℕ) (policy : PlainPolicy) (incoming : Incoming) (before : Inquiry)
+    (obtained : Obtained L) (after : Inquiry) : Type 0 where
   pub question : Question
   pub asks : turn_by policy incoming before.facts ≡ turn.Ask question
-  pub by : ObtainsFor gave now question before obtained after
+  pub by : ObtainsFor gave passes_on now question before obtained after

@@ -1,10 +1,12 @@
 -- The replies that are sent to clients.
-use Rattle.std.specs.Prelude.{ℕ, if◌then◌else◌, List, Option, Some, None, Result, Ok, Err}
+use Rattle.std.specs.Prelude.{ℕ, if◌then◌else◌, List, Option, Some, None}
 use Rattle.dns_record.specs.Number.{number_at}
 use Rattle.dns_message.specs.Request.{speaks_in}
 use Rattle.reply_build.specs.Servfail.{bare_servfail}
 use Rattle.reply_build.specs.declared.said.Said.{Said}
 use Rattle.reply_build.specs.declared.said.Said.TheVariants as said
+use Rattle.rpz_workers.specs.declared.outcome.Outcome.{Outcome}
+use Rattle.rpz_workers.specs.declared.outcome.Outcome.TheVariants as outcome
 
 -- the reply to a message for which memory ran out: a header of its ID with rcode 2; None where such a message is never answered
 abbrev pub bare_reply : List ℕ → Option (List ℕ)
@@ -17,6 +19,7 @@ reply_bytes (said.Reply bytes) = Some bytes
 reply_bytes said.Silent = None
 
 -- what is sent for a message: the reply, or the bare one where memory ran out for it; None where nothing is sent
-abbrev pub to_send : {E : Type 0} → List ℕ → Result Said E → Option (List ℕ)
-to_send message (Ok what) = reply_bytes what
-to_send message (Err e) = bare_reply message
+abbrev pub to_send : List ℕ → Outcome → Option (List ℕ)
+to_send message (outcome.Said what) = reply_bytes what
+to_send message outcome.NoMemory = bare_reply message
+to_send message outcome.PassedOn = None

@@ -14,7 +14,8 @@ pub record Counts : Type 0 where
 abbrev pub no_counts : Counts
 no_counts = record { jobs = 0; replies = 0; silent = 0; memory = 0; failed = 0 }
 
--- a job is counted once among the jobs, and once by what became of it; nothing else is counted
+-- a job is counted once among the jobs, and once by what became of it; one that was passed on is counted by who answers it, and
+-- nothing else is counted
 abbrev pub one_more_counted : Counts → Took → Counts
 one_more_counted c took.Reply = record c { jobs = c.jobs + 1; replies = c.replies + 1 }
 one_more_counted c took.Silent = record c { jobs = c.jobs + 1; silent = c.silent + 1 }

@@ -1,5 +1,5 @@
 -- A worker's run over its items.
-use Rattle.std.specs.Prelude.{◌≡◌, ◌≢◌, ℕ, List, [], ◌∷◌, Option}
+use Rattle.std.specs.Prelude.{◌≡◌, ◌≢◌, ℕ, Bool, List, [], ◌∷◌, Option}
 use Rattle.dns_name.specs.Labels.{Name}
 use Rattle.edge_io.specs.Chain.{Chain, Stage}
 use Rattle.rpz_workers.specs.declared.item.Item.{Item}
@@ -26,10 +26,11 @@ pub record Handled (N S K : Type 0) : Type 0 where
 
 -- The next item is taken and handled, and it isn't Stop.
 pub record TakesItem {L N S K : Type 0} (origins : List Name)
-    (gave : List ℕ → List ℕ → ℕ → Type 0) (views : StreamViews S K) (before : RunState L N S K)
-    (handled : Handled N S K) (after : RunState L N S K) : Type 0 where
+    (gave : List ℕ → List ℕ → ℕ → Type 0) (passes_on : Bool) (views : StreamViews S K)
+    (before : RunState L N S K) (handled : Handled N S K) (after : RunState L N S K) : Type 0 where
   pub next : NextItem before.coming handled.item after.coming
-  pub handles : Handles origins gave views before.state handled.item handled.took after.state
+  pub handles : Handles origins gave passes_on views before.state handled.item handled.took
+      after.state
   pub goes_on : handled.took ≢ took.Stop
 
 -- the numbers of a run; the last item stands first in the stages
@@ -39,11 +40,11 @@ tally (stage ∷ stages) = counted (tally stages) stage.turn.took
 
 -- One item after another is taken and handled, up to the Stop that ends the run, and these are its numbers.
 pub record Works {L N S K : Type 0} (origins : List Name)
-    (gave : List ℕ → List ℕ → ℕ → Type 0) (views : StreamViews S K) (before : RunState L N S K)
-    (counts : Counts) (after : RunState L N S K) : Type 0 where
+    (gave : List ℕ → List ℕ → ℕ → Type 0) (passes_on : Bool) (views : StreamViews S K)
+    (before : RunState L N S K) (counts : Counts) (after : RunState L N S K) : Type 0 where
   pub stages : List (Stage (RunState L N S K) (Handled N S K))
   pub last : RunState L N S K
-  pub chain : Chain (TakesItem origins gave views) before stages last
+  pub chain : Chain (TakesItem origins gave passes_on views) before stages last
   pub stops : NextItem last.coming item.Stop after.coming
   pub state : after.state ≡ last.state
   pub counts_are : counts ≡ tally stages

@@ -6,35 +6,37 @@ ghost use Rattle.rpz_workers.specs.Handling.{Handles, HandlesJob, Sends, stream_
 ghost use Rattle.rpz_workers.specs.Reports.{counts_of};
 ghost use Rattle.rpz_workers.specs.Working.{Works, run_state};
 
+use crate::asks::Asks;
 use crate::bare_reply::bare_reply;
 use crate::count::{count, nothing_done};
-use crate::gate::Gate;
 use crate::item::{Item, Items, Job};
+use crate::onward::Onward;
+use crate::outcome::Outcome;
 use crate::report::Report;
 use crate::took::Took;
 use crate::worker::Worker;
 use answer_cache::Keeps;
-use edge_io::{Clock, Endpoint, Ids, Link, Replies, SendError, Sink, Source};
+use edge_io::{Clock, Endpoint, Link, Replies, SendError, Sink, Source};
 use policy_publish::StoreName;
 use reply_build::Said;
-use std::alloc::AllocError;
 use std::sync::Wait;
 
-// Sends the reply to a message, where there is one, and says what became of the job.
+// Sends the reply to a message, where there is one here, and says what became of the job.
 fn send_reply<S: Source, K: Sink, P: Replies<S, K>>(
     replies: &mut P,
     peer: Endpoint,
     message: &[u8],
-    said: &Result<Said, AllocError>,
+    what: &Outcome,
 ) -> Took
-    ensures sends { Sends peer message.now said.now result (P.sent replies.old)
+    ensures sends { Sends peer message.now what.now result (P.sent replies.old)
         (P.sent replies.new) }
     ensures closings { P.closings replies.new ≡ P.closings replies.old }
     ensures count { P.faults replies.old ≤ P.faults replies.new }
     ensures failed { result ≡ Took.Failed → Rose (P.faults replies.old) (P.faults replies.new) }
 {
-    match said {
-        Ok(said) => match said {
+    match what {
+        Outcome::PassedOn => Took::PassedOn,
+        Outcome::Said(said) => match said {
             Said::Silent => Took::Silent,
             Said::Reply(bytes) => match replies.send(peer, bytes.as_slice()) {
                 Ok(()) => Took::Reply,
@@ -42,7 +44,7 @@ fn send_reply<S: Source, K: Sink, P: Replies<S, K>>(
                 Err(SendError::OutOfMemory) => Took::Memory,
             },
         },
-        Err(AllocError) => match bare_reply(message) {
+        Outcome::NoMemory => match bare_reply(message) {
             None => Took::Memory,
             Some(bytes) => match replies.send(peer, &bytes) {
                 Err(SendError::Failed) => Took::Failed,
@@ -52,55 +54,52 @@ fn send_reply<S: Source, K: Sink, P: Replies<S, K>>(
     }
 }
 
-impl<N: StoreName, L: Link + Drop, A: Keeps<L> + Drop, I: Ids + Drop, G: Gate + Drop> Worker<
-    N,
-    L,
-    A,
-    I,
-    G,
-> {
-    // Answers a job.
-    fn take_job<S: Source, K: Sink, P: Replies<S, K>, C: Clock>(
+impl<N: StoreName, L: Link + Drop, A: Keeps<L> + Drop, B: Asks<L> + Drop> Worker<N, L, A, B> {
+    // Answers a job, or passes it on.
+    fn take_job<S: Source, K: Sink, P: Replies<S, K>, C: Clock, O: Onward<N>>(
         &mut self,
         job: &Job,
         replies: &mut P,
         clock: &mut C,
+        onward: &mut O,
     ) -> Took
-        ensures { HandlesJob N.store.origins L.gave job.now
-            (worker_state self.old (C.moments clock.old)
+        ensures { HandlesJob N.store.origins L.gave B.passes_on job.now
+            (worker_state self.old (C.moments clock.old) (O.passed onward.old)
             (P.sent replies.old) (P.closings replies.old) (P.faults replies.old))
             result
-            (worker_state self.new (C.moments clock.new)
+            (worker_state self.new (C.moments clock.new) (O.passed onward.new)
             (P.sent replies.new) (P.closings replies.new) (P.faults replies.new)) }
     {
         let now = clock.now();
-        let said = self.answer(job, now);
-        send_reply(replies, job.peer, job.message.as_slice(), &said)
+        let what = self.settle(job, now, onward);
+        send_reply(replies, job.peer, job.message.as_slice(), &what)
     }
 
-    /// Handles an item: answers a job, serves and closes a connection, learns what is told. A job or a message of a connection is
-    /// answered at the second that the clock gives for it.
-    pub fn take<S: Source + Drop, K: Sink + Drop, P: Replies<S, K>, C: Clock>(
+    /// Handles an item: answers a job or passes it on, serves and closes a connection, learns what is told. A job or a message of a
+    /// connection is answered at the second that the clock gives for it. A worker that asks the upstream passes nothing on.
+    pub fn take<S: Source + Drop, K: Sink + Drop, P: Replies<S, K>, C: Clock, O: Onward<N>>(
         &mut self,
         item: Item<N, S, K>,
         replies: &mut P,
         clock: &mut C,
+        onward: &mut O,
     ) -> Took
-        ensures { Handles N.store.origins L.gave (stream_views S.left S.faults K.held K.faults)
-            (worker_state self.old (C.moments clock.old)
+        ensures { Handles N.store.origins L.gave B.passes_on
+            (stream_views S.left S.faults K.held K.faults)
+            (worker_state self.old (C.moments clock.old) (O.passed onward.old)
             (P.sent replies.old) (P.closings replies.old) (P.faults replies.old))
             item result
-            (worker_state self.new (C.moments clock.new)
+            (worker_state self.new (C.moments clock.new) (O.passed onward.new)
             (P.sent replies.new) (P.closings replies.new) (P.faults replies.new)) }
     {
         match item {
-            Item::Job(job) => self.take_job(&job, replies, clock),
+            Item::Job(job) => self.take_job(&job, replies, clock, onward),
             Item::Connection {
                 mut source,
                 mut sink,
                 client,
             } => {
-                let end = self.serve_stream(&mut source, &mut sink, client, clock);
+                let end = self.serve_stream(&mut source, &mut sink, client, clock, onward);
                 replies.close(source, sink, end);
                 Took::Closed
             }
@@ -119,22 +118,24 @@ impl<N: StoreName, L: Link + Drop, A: Keeps<L> + Drop, I: Ids + Drop, G: Gate + 
         Q: Items<N, S, K>,
         P: Replies<S, K>,
         C: Clock,
+        O: Onward<N>,
         R: Wait,
-    >(&mut self, rt: &R, items: &mut Q, replies: &mut P, clock: &mut C) -> Report
-        ensures works { Works N.store.origins L.gave (stream_views S.left S.faults K.held K.faults)
+    >(&mut self, rt: &R, items: &mut Q, replies: &mut P, clock: &mut C, onward: &mut O) -> Report
+        ensures works { Works N.store.origins L.gave B.passes_on
+            (stream_views S.left S.faults K.held K.faults)
             (run_state (Q.coming items.old)
-            (worker_state self.old (C.moments clock.old)
+            (worker_state self.old (C.moments clock.old) (O.passed onward.old)
             (P.sent replies.old) (P.closings replies.old) (P.faults replies.old)))
             (counts_of result)
             (run_state (Q.coming items.new)
-            (worker_state self.new (C.moments clock.new)
+            (worker_state self.new (C.moments clock.new) (O.passed onward.new)
             (P.sent replies.new) (P.closings replies.new) (P.faults replies.new))) }
         ensures failed { min (P.faults replies.old + result.failed) (2 ^ 64 - 1)
             ≤ P.faults replies.new }
     {
         let mut report = nothing_done();
         for _ in rt.forever() {
-            match self.take(items.next(), replies, clock) {
+            match self.take(items.next(), replies, clock, onward) {
                 Took::Stop => return report,
                 took => report = count(report, took),
             }

@@ -1,6 +1,6 @@
 //! Laws of workers. Each function is its clauses, and does nothing.
 
-ghost use Rattle.std.specs.Prelude.{◌≡◌, ◌-◌, ℕ, List, [], take, Some};
+ghost use Rattle.std.specs.Prelude.{◌≡◌, ◌-◌, ℕ, Bool, List, [], take, Some};
 ghost use Rattle.std.specs.List.{AllByRecursion};
 ghost use Rattle.edge_io.specs.Chain.{Chain, Stage};
 ghost use Rattle.dns_message.specs.declared.question.Question.{Question};
@@ -19,11 +19,11 @@ use edge_io::Link;
 /// [`FACT_LIMIT`](upstream_link::FACT_LIMIT) that there may be, answers each question of a query that is like its own: what the other
 /// questions bring doesn't push it out before.
 pub fn a_live_entry_answers<L: Link>()
-    ensures { (now : ℕ) (policy : PlainPolicy) (incoming : Incoming)
+    ensures { (passes_on : Bool) (now : ℕ) (policy : PlainPolicy) (incoming : Incoming)
         (first last : Inquiry) (stages : List (Stage Inquiry (Obtained L)))
         (question : Question) (entry : PlainLearned) (cache : Recent) →
         first.facts ≡ [] → first.cached ≡ Some cache →
-        Chain (Obtains L.gave now policy incoming) first stages last →
+        Chain (Obtains L.gave passes_on now policy incoming) first stages last →
         live_entry question now (take (cache.limit - FACT_LIMIT) cache.entries) ≡ Some entry →
         AllByRecursion (HitsFor policy incoming now question entry) stages }
 {}

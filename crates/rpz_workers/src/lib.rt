@@ -1,8 +1,13 @@
 //! Workers: each takes items, and answers queries by the policy that is published, over a link to the upstream.
 #![tactic(auto)]
 
+mod answered;
+mod asker;
+mod asker_items;
+mod asks;
 mod bare_reply;
 mod channel_items;
+mod channel_onward;
 mod connection;
 mod count;
 mod gate;
@@ -10,19 +15,32 @@ mod handling;
 mod item;
 pub mod laws;
 mod list_items;
+mod list_onward;
 mod obtained;
+mod onward;
+mod outcome;
+mod passed_items;
 mod report;
 mod sources;
 mod task;
 mod took;
 mod worker;
 
+pub use answered::Answered;
+pub use asker::{Asker, AsksNobody};
+pub use asker_items::AskerItems;
+pub use asks::{Asked, Asks};
 pub use channel_items::ChannelItems;
+pub use channel_onward::ChannelOnward;
 pub use connection::FRAME_LIMIT;
 pub use gate::{GATE_TURNS, Gate, NoGate};
 pub use item::{Item, Items, Job};
 pub use list_items::ListItems;
+pub use list_onward::{ListOnward, NoOnward, Passed};
 pub use obtained::Obtained;
+pub use onward::Onward;
+pub use outcome::Outcome;
+pub use passed_items::PassedItems;
 pub use report::Report;
 pub use task::ServeTask;
 pub use took::Took;

@@ -1,34 +1,35 @@
 //! A worker's answers, out of a cache or over its link.
 
-ghost use Rattle.std.specs.Prelude.{◌≡◌, ◌≤◌, [], length, Some, IfOk, IfSome, IsSome, OnOk};
+ghost use Rattle.std.specs.Prelude.{◌≡◌, ◌≤◌, [], length, None, Some, IfOk, IfSome, IsSome, OnOk};
 ghost use Rattle.dns_message.specs.Request.{incoming_of};
 ghost use Rattle.query_session.specs.Session.{after_fact, turn_of};
 ghost use Rattle.reply_build.specs.Short.{IsShort};
 ghost use Rattle.upstream_link.specs.Vouched.{Tells, Vouched, fact_at};
-ghost use Rattle.rpz_workers.specs.Obtaining.{ObtainsFor, limit_of};
-ghost use Rattle.rpz_workers.specs.Turns.{Asks, Says, TakesTurn, inquiry};
+ghost use Rattle.rpz_workers.specs.Answering.{IsShortAnswer};
+ghost use Rattle.rpz_workers.specs.Obtaining.{limit_of};
+ghost use Rattle.rpz_workers.specs.Turns.{Asks as asks_form, ComesTo, TakesTurn, TriesFor, inquiry};
 
-use crate::gate::{GATE_TURNS, Gate};
+use crate::answered::Answered;
+use crate::asks::{Asked, Asks};
 use crate::item::Job;
 use crate::obtained::Obtained;
 use answer_cache::Keeps;
 use dns_message::Question;
-use edge_io::{Ids, Link};
+use edge_io::Link;
 use policy_snapshot::Snapshot;
 use query_session::Session;
 use reply_build::{Said, Turn};
 use std::alloc::{AllocError, Global};
+use std::marker::PhantomData;
 use std::sync::Arc;
-use upstream_link::{AnswerFault, AskOutcome, FACT_LIMIT, Fact, Learned, ask};
+use upstream_link::{AnswerFault, FACT_LIMIT, Fact, Learned};
 
-/// A cache, and the link that is asked where no live entry of the cache answers, with the IDs of its messages and what is passed
-/// before each.
+/// A cache, and what is asked where no live entry of the cache answers.
 #[derive(Drop)]
-pub(crate) struct Sources<L: Link + Drop, A: Keeps<L> + Drop, I: Ids + Drop, G: Gate + Drop> {
+pub(crate) struct Sources<L: Link + Drop, A: Keeps<L> + Drop, B: Asks<L> + Drop> {
     pub(crate) cache: A,
-    pub(crate) link: L,
-    pub(crate) ids: I,
-    pub(crate) gate: G,
+    pub(crate) asks: B,
+    pub(crate) of: PhantomData<L>,
 }
 
 // Gives a session what was learned for its question, at its age.
@@ -82,128 +83,129 @@ fn last_turn(session: &mut Session) -> Result<Said, AllocError>
     }
 }
 
-impl<L: Link + Drop, A: Keeps<L> + Drop, I: Ids + Drop, G: Gate + Drop> Sources<L, A, I, G> {
-    // Asks the question over the link, and gives the answer to the session.
-    fn ask_link(
+impl<L: Link + Drop, A: Keeps<L> + Drop, B: Asks<L> + Drop> Sources<L, A, B> {
+    // Asks for the question, if anybody is asked, and gives the answer to the session; `None` where nobody is asked.
+    fn ask_for(
         &mut self,
         alloc: Global,
         session: &mut Session,
         question: &Question,
         now: u32,
-    ) -> Result<Obtained<L>, AllocError>
+    ) -> Result<Option<Obtained<L>>, AllocError>
         requires { session.old.asked ≡ Some question.now }
-        ensures obtains { IfOk result (λ obtained. Asks L.gave now question.now
+        ensures obtains { IfOk result (λ obtained. asks_form L.gave B.passes_on now question.now
             (inquiry session.old.facts (A.entries self.old.cache)
-            (I.ids self.old.ids) (L.faults self.old.link))
+            (B.ids self.old.asks) (B.faults self.old.asks))
             obtained
             (inquiry session.new.facts (A.entries self.new.cache)
-            (I.ids self.new.ids) (L.faults self.new.link))) }
+            (B.ids self.new.asks) (B.faults self.new.asks))) }
         ensures limit { limit_of (A.entries self.new.cache) ≡ limit_of (A.entries self.old.cache) }
-        ensures count { L.faults self.old.link ≤ L.faults self.new.link }
+        ensures count { B.faults self.old.asks ≤ B.faults self.new.asks }
         ensures policy { session.new.policy ≡ session.old.policy }
         ensures incoming { session.new.incoming ≡ session.old.incoming }
     {
-        self.gate.pass(GATE_TURNS);
-        let id = self.ids.next_id();
-        let asked = ask(alloc, &mut self.link, id, question, now)?;
+        let asked = self.asks.ask(alloc, question, now)?;
         match asked {
-            AskOutcome::Learned(learned) => {
+            Asked::Learned(learned) => {
                 // an answer that can't be cached, since an allocation failed, is used all the same
                 let _kept = self.cache.keep(alloc, question, &learned);
-                give(alloc, session, learned, now)
+                Ok(Some(give(alloc, session, learned, now)?))
             }
-            AskOutcome::Failed => give_failed(session, question),
+            Asked::Failed => Ok(Some(give_failed(session, question)?)),
+            Asked::PassedOn => Ok(None),
         }
     }
 
-    // Obtains an answer to the question that a session asked, and gives it to the session.
+    // Obtains an answer to the question that a session asked, and gives it to the session; `None` where it can't be answered here.
     fn obtain(
         &mut self,
         alloc: Global,
         session: &mut Session,
         question: &Question,
         now: u32,
-    ) -> Result<Obtained<L>, AllocError>
+    ) -> Result<Option<Obtained<L>>, AllocError>
         requires { session.old.asked ≡ Some question.now }
-        ensures obtains { IfOk result (λ obtained. ObtainsFor L.gave now question.now
+        ensures tries { IfOk result (λ obtained. TriesFor L.gave B.passes_on now question.now
             (inquiry session.old.facts (A.entries self.old.cache)
-            (I.ids self.old.ids) (L.faults self.old.link))
+            (B.ids self.old.asks) (B.faults self.old.asks))
             obtained
             (inquiry session.new.facts (A.entries self.new.cache)
-            (I.ids self.new.ids) (L.faults self.new.link))) }
+            (B.ids self.new.asks) (B.faults self.new.asks))) }
         ensures limit { limit_of (A.entries self.new.cache) ≡ limit_of (A.entries self.old.cache) }
-        ensures count { L.faults self.old.link ≤ L.faults self.new.link }
+        ensures count { B.faults self.old.asks ≤ B.faults self.new.asks }
         ensures policy { session.new.policy ≡ session.old.policy }
         ensures incoming { session.new.incoming ≡ session.old.incoming }
     {
         let found = self.cache.get(alloc, question, now)?;
         match found {
-            Some(learned) => give(alloc, session, learned, now),
-            None => self.ask_link(alloc, session, question, now),
+            Some(learned) => Ok(Some(give(alloc, session, learned, now)?)),
+            None => self.ask_for(alloc, session, question, now),
         }
     }
 
-    // One turn of a session: the reply, or silence, or one answer more.
+    // One turn of a session: what the query comes to, or one answer more.
     fn take_turn(
         &mut self,
         alloc: Global,
         session: &mut Session,
         now: u32,
         obtained: &mut Vec<Obtained<L>>,
-    ) -> Result<Option<Said>, AllocError>
-        ensures takes { IfOk result (λ said. TakesTurn L.gave now
+    ) -> Result<Option<Answered>, AllocError>
+        ensures takes { IfOk result (λ answered. TakesTurn L.gave B.passes_on now
             session.old.policy session.old.incoming
             (inquiry session.old.facts (A.entries self.old.cache)
-            (I.ids self.old.ids) (L.faults self.old.link))
-            said obtained.old.items obtained.new.items
+            (B.ids self.old.asks) (B.faults self.old.asks))
+            answered obtained.old.items obtained.new.items
             (inquiry session.new.facts (A.entries self.new.cache)
-            (I.ids self.new.ids) (L.faults self.new.link))) }
-        ensures short { IfOk result (λ said. IfSome said IsShort) }
+            (B.ids self.new.asks) (B.faults self.new.asks))) }
+        ensures short { IfOk result (λ answered. IfSome answered IsShortAnswer) }
         ensures limit { limit_of (A.entries self.new.cache) ≡ limit_of (A.entries self.old.cache) }
-        ensures count { L.faults self.old.link ≤ L.faults self.new.link }
+        ensures count { B.faults self.old.asks ≤ B.faults self.new.asks }
         ensures policy { session.new.policy ≡ session.old.policy }
         ensures incoming { session.new.incoming ≡ session.old.incoming }
     {
         let turn = session.turn()?;
         match turn {
-            Turn::Said(said) => Ok(Some(said)),
-            Turn::Ask(question) => {
-                let more = self.obtain(alloc, session, &question, now)?;
-                obtained.push(more)?;
-                Ok(None)
-            }
+            Turn::Said(said) => Ok(Some(Answered::Said(said))),
+            Turn::Ask(question) => match self.obtain(alloc, session, &question, now)? {
+                Some(more) => {
+                    obtained.push(more)?;
+                    Ok(None)
+                }
+                None => Ok(Some(Answered::Needs(question))),
+            },
         }
     }
 
-    // The turns of a session, until there is a reply, or silence.
+    // The turns of a session, up to what the query comes to.
     fn take_turns(
         &mut self,
         alloc: Global,
         session: &mut Session,
         now: u32,
         obtained: &mut Vec<Obtained<L>>,
-    ) -> Result<Said, AllocError>
+    ) -> Result<Answered, AllocError>
         requires facts { session.old.facts ≡ [] }
         requires none { obtained.old.items ≡ [] }
-        ensures leads { IfOk result (λ said. Says L.gave now
+        ensures comes_to { IfOk result (λ answered. ComesTo L.gave B.passes_on now
             session.old.policy session.old.incoming
             (inquiry [] (A.entries self.old.cache)
-            (I.ids self.old.ids) (L.faults self.old.link))
-            said obtained.new.items (A.entries self.new.cache)
-            (I.ids self.new.ids) (L.faults self.new.link)) }
-        ensures short { IfOk result IsShort }
+            (B.ids self.old.asks) (B.faults self.old.asks))
+            answered obtained.new.items (A.entries self.new.cache)
+            (B.ids self.new.asks) (B.faults self.new.asks)) }
+        ensures short { IfOk result IsShortAnswer }
         ensures limit { limit_of (A.entries self.new.cache) ≡ limit_of (A.entries self.old.cache) }
-        ensures count { L.faults self.old.link ≤ L.faults self.new.link }
+        ensures count { B.faults self.old.asks ≤ B.faults self.new.asks }
     {
         for _count in 0..FACT_LIMIT {
-            if let Some(said) = self.take_turn(alloc, session, now, obtained)? {
-                return Ok(said);
+            if let Some(answered) = self.take_turn(alloc, session, now, obtained)? {
+                return Ok(answered);
             }
         }
-        last_turn(session)
+        Ok(Answered::Said(last_turn(session)?))
     }
 
-    // Answers a message under this version of the policy.
+    // What a message comes to under this version of the policy.
     pub(crate) fn answer_by(
         &mut self,
         alloc: Global,
@@ -211,17 +213,18 @@ impl<L: Link + Drop, A: Keeps<L> + Drop, I: Ids + Drop, G: Gate + Drop> Sources<
         job: &Job,
         now: u32,
         obtained: &mut Vec<Obtained<L>>,
-    ) -> Result<Said, AllocError>
+    ) -> Result<Answered, AllocError>
         requires { obtained.old.items ≡ [] }
-        ensures leads { IfOk result (λ said. Says L.gave now policy.value.zones
+        ensures comes_to { IfOk result (λ answered. ComesTo L.gave B.passes_on now
+            policy.value.zones
             (incoming_of job.now.message job.now.peer.addr job.now.transport)
             (inquiry [] (A.entries self.old.cache)
-            (I.ids self.old.ids) (L.faults self.old.link))
-            said obtained.new.items (A.entries self.new.cache)
-            (I.ids self.new.ids) (L.faults self.new.link)) }
-        ensures short { IfOk result IsShort }
+            (B.ids self.old.asks) (B.faults self.old.asks))
+            answered obtained.new.items (A.entries self.new.cache)
+            (B.ids self.new.asks) (B.faults self.new.asks)) }
+        ensures short { IfOk result IsShortAnswer }
         ensures limit { limit_of (A.entries self.new.cache) ≡ limit_of (A.entries self.old.cache) }
-        ensures count { L.faults self.old.link ≤ L.faults self.new.link }
+        ensures count { B.faults self.old.asks ≤ B.faults self.new.asks }
     {
         let mut session = Session::start(
             alloc,

@@ -1,35 +1,37 @@
 //! A worker as a task.
 
-use crate::gate::Gate;
+use crate::asks::Asks;
 use crate::item::Items;
+use crate::onward::Onward;
 use crate::report::Report;
 use crate::worker::Worker;
 use answer_cache::Keeps;
-use edge_io::{Clock, Ids, Link, Replies, Sink, Source, Task};
+use edge_io::{Clock, Link, Replies, Sink, Source, Task};
 use policy_publish::StoreName;
 use std::marker::PhantomData;
 use std::sync::Wait;
 
-/// A worker as a task, with its items, the place where its replies go, and its clock.
+/// A worker as a task, with its items, the places where its replies go and where it passes messages on, and its clock.
 #[derive(Drop)]
 pub struct ServeTask<
     N: StoreName,
     L: Link + Drop,
     A: Keeps<L> + Drop,
-    I: Ids + Drop,
-    G: Gate + Drop,
+    B: Asks<L> + Drop,
     S: Source + Drop,
     K: Sink + Drop,
     Q: Items<N, S, K> + Drop,
     P: Replies<S, K> + Drop,
     C: Clock + Drop,
+    O: Onward<N> + Drop,
     R: Wait + Drop,
 > {
     rt: R,
-    worker: Worker<N, L, A, I, G>,
+    worker: Worker<N, L, A, B>,
     items: Q,
     replies: P,
     clock: C,
+    onward: O,
     streams: PhantomData<(S, K)>,
 }
 
@@ -37,23 +39,31 @@ impl<
     N: StoreName,
     L: Link + Drop,
     A: Keeps<L> + Drop,
-    I: Ids + Drop,
-    G: Gate + Drop,
+    B: Asks<L> + Drop,
     S: Source + Drop,
     K: Sink + Drop,
     Q: Items<N, S, K> + Drop,
     P: Replies<S, K> + Drop,
     C: Clock + Drop,
+    O: Onward<N> + Drop,
     R: Wait + Drop,
-> ServeTask<N, L, A, I, G, S, K, Q, P, C, R> {
+> ServeTask<N, L, A, B, S, K, Q, P, C, O, R> {
     /// The run of this worker over these.
-    pub fn new(rt: R, worker: Worker<N, L, A, I, G>, items: Q, replies: P, clock: C) -> Self {
+    pub fn new(
+        rt: R,
+        worker: Worker<N, L, A, B>,
+        items: Q,
+        replies: P,
+        clock: C,
+        onward: O,
+    ) -> Self {
         ServeTask {
             rt,
             worker,
             items,
             replies,
             clock,
+            onward,
             streams: PhantomData,
         }
     }
@@ -63,15 +73,15 @@ impl<
     N: StoreName,
     L: Link + Drop,
     A: Keeps<L> + Drop,
-    I: Ids + Drop,
-    G: Gate + Drop,
+    B: Asks<L> + Drop,
     S: Source + Drop,
     K: Sink + Drop,
     Q: Items<N, S, K> + Drop,
     P: Replies<S, K> + Drop,
     C: Clock + Drop,
+    O: Onward<N> + Drop,
     R: Wait + Drop,
-> Task<Report> for ServeTask<N, L, A, I, G, S, K, Q, P, C, R> {
+> Task<Report> for ServeTask<N, L, A, B, S, K, Q, P, C, O, R> {
     fn run(self) -> Report {
         let ServeTask {
             rt,
@@ -79,8 +89,9 @@ impl<
             mut items,
             mut replies,
             mut clock,
+            mut onward,
             streams: _,
         } = self;
-        worker.work(&rt, &mut items, &mut replies, &mut clock)
+        worker.work(&rt, &mut items, &mut replies, &mut clock, &mut onward)
     }
 }

@@ -11,6 +11,8 @@ pub enum Took {
     Memory,
     /// A job's reply was not sent: a fault.
     Failed,
+    /// A job was passed on: who answers it counts it.
+    PassedOn,
     /// A connection was served, and closed.
     Closed,
     /// A list of transfers was learned.

@@ -8,7 +8,7 @@ use dns_name::Octets;
 use edge_io::ListLink;
 use policy_publish::{PolicyReader, Publisher, StoreName};
 use reply_build::Said;
-use rpz_workers::NoGate;
+use rpz_workers::{Answered, NoGate};
 use std::alloc::Global;
 use std::process::Abort;
 use std::random::RandomSource;
@@ -39,8 +39,8 @@ fn said<N: StoreName, A: Keeps<ListLink> + Drop>(
     now: u32,
 ) -> Result<Octets, Fail> {
     match worker.answer(&job(alloc, 53_000, QUERY)?, now)? {
-        Said::Reply(bytes) => Ok(bytes),
-        Said::Silent => Err("a reply".into()),
+        Answered::Said(Said::Reply(bytes)) => Ok(bytes),
+        _ => Err("a reply".into()),
     }
 }
 

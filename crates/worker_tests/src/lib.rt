@@ -9,11 +9,15 @@ mod caches;
 #[cfg(test)]
 mod cases;
 #[cfg(test)]
+mod channels;
+#[cfg(test)]
 mod faults;
 #[cfg(test)]
 mod meetings;
 #[cfg(test)]
 mod messages;
+#[cfg(test)]
+mod passing;
 #[cfg(test)]
 mod polls;
 #[cfg(test)]

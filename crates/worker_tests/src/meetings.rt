@@ -9,7 +9,7 @@ use edge_io::{
     ListClock, ListReplies, ListSink, ListSource, SentReply, Spawner, Task, TaskSpawner,
 };
 use policy_publish::{PolicyReader, Publisher, StoreName};
-use rpz_workers::{Gate, Item, ListItems};
+use rpz_workers::{Gate, Item, ListItems, NoOnward};
 use std::alloc::Global;
 use std::collections::VecDeque;
 use std::process::Abort;
@@ -85,7 +85,7 @@ impl<N: StoreName, R: Wait + Clock + Drop> Task<Outcome> for Answering<N, R> {
             met,
             done,
         } = self;
-        let _report = worker.work(&rt, &mut items, &mut replies, &mut clock);
+        let _report = worker.work(&rt, &mut items, &mut replies, &mut clock, &mut NoOnward);
         done.store(true, Ordering::SeqCst);
         Outcome {
             answered: is_answer(&replies.sent),

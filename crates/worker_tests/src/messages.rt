@@ -30,6 +30,11 @@ pub const ASKED: &[u8] = b"\x44\x44\x01\0\0\x01\0\0\0\0\0\0\x01x\x07example\0\0\
 /// Its reply, since the upstream gives no answer: QR, RD and RA 1, rcode 2, and the question.
 pub const FAILURE: &[u8] = b"\x44\x44\x81\x82\0\x01\0\0\0\0\0\0\x01x\x07example\0\0\x01\0\x01";
 
+/// The same query behind its length, and behind it the one with RD 0.
+pub const ASKED_AND_UNSERVED: &[u8] =
+    b"\0\x1b\x44\x44\x01\0\0\x01\0\0\0\0\0\0\x01x\x07example\0\0\x01\0\x01\
+    \0\x1d\x33\x33\0\0\0\x01\0\0\0\0\0\0\x03bad\x07example\0\0\x01\0\x01";
+
 /// Eleven bytes, one fewer than a header has.
 pub const SHORT: &[u8] = b"\x11\x11\x01\0\0\x01\0\0\0\0\0";
 

@@ -8,13 +8,14 @@ use crate::workers::{ListWorker, client, job, list_worker};
 use crossbeam_channel::unbounded;
 use edge_io::{ListClock, ListReplies, ListSink, ListSource, SentReply, StreamEnd, read_full};
 use policy_feed::Polled;
-use policy_publish::{PolicyReader, Publication, Publisher, StoreName};
-use rpz_workers::{ChannelItems, Item, Items, ListItems, NoGate, Report};
+use policy_publish::{Latest, PolicyReader, Publication, Publisher, StoreName};
+use rpz_workers::{ChannelItems, Item, Items, ListItems, NoGate, NoOnward, Report};
 use std::alloc::Global;
 use std::collections::VecDeque;
 use std::process::Abort;
 use std::sync::Wait;
 use std::test::Fail;
+use std::time::Clock;
 
 type ListItem<N> = Item<N, ListSource, ListSink>;
 
@@ -75,8 +76,8 @@ fn listed<N: StoreName>(
     Ok(ListItems::new(items))
 }
 
-/// The items of a case in a channel without a sender, and nothing to be told of over the other one.
-pub fn sent<N: StoreName, R: Wait + Copy + Drop>(
+/// The items of a case in a channel without a sender. What is published comes before the first of them.
+pub fn sent<N: StoreName, R: Wait + Clock + Copy + Drop>(
     rt: &R,
     alloc: Global,
     publisher: &Publisher<N>,
@@ -88,8 +89,8 @@ pub fn sent<N: StoreName, R: Wait + Copy + Drop>(
             return Err("a message".into());
         }
     }
-    let (_, told) = unbounded(alloc)?;
-    Ok(ChannelItems::new(*rt, receiver, told))
+    let latest = Latest::start(alloc, publisher.tell())?;
+    Ok(ChannelItems::new(*rt, receiver, latest))
 }
 
 /// The numbers of a report, as those of a case.
@@ -137,7 +138,7 @@ fn run_over<N: StoreName, Q: Items<N, ListSource, ListSink>, R: Wait + Abort>(
 ) -> Result<(), Fail> {
     let mut replies: Kept = ListReplies::new(alloc, vec![in alloc; case.failing_send]?);
     let mut clock = ListClock::new(alloc, VecDeque::new(alloc));
-    let report = worker.work(rt, items, &mut replies, &mut clock);
+    let report = worker.work(rt, items, &mut replies, &mut clock, &mut NoOnward);
     assert_eq!(rt; numbers(&report), case.report, "{}", case.name);
     assert_sent(rt, &replies.sent, case);
     assert_eq!(rt; replies.closed, case.closed, "{}", case.name);
@@ -165,12 +166,12 @@ fn serve_alone<N: StoreName, R: Abort>(
     };
     let (mut source, mut sink) = sides(alloc, stream)?;
     let mut clock = ListClock::new(alloc, VecDeque::new(alloc));
-    let end = worker.serve_stream(&mut source, &mut sink, client(1), &mut clock);
+    let end = worker.serve_stream(&mut source, &mut sink, client(1), &mut clock, &mut NoOnward);
     assert_ended(rt, &mut source, &sink, end, case)
 }
 
 /// Runs a case over a list and over a channel.
-pub fn run_case<N: StoreName, R: Wait + Abort + Copy + Drop>(
+pub fn run_case<N: StoreName, R: Wait + Abort + Clock + Copy + Drop>(
     rt: &R,
     alloc: Global,
     publisher: &Publisher<N>,
@@ -211,7 +212,7 @@ fn a_worker_runs_over_items(rt: HostRuntime) -> Result<(), Fail> {
 }
 
 /// Each case is run.
-pub fn run_all<N: StoreName, R: Wait + Abort + Copy + Drop>(
+pub fn run_all<N: StoreName, R: Wait + Abort + Clock + Copy + Drop>(
     rt: &R,
     alloc: Global,
     publisher: &mut Publisher<N>,
@@ -222,7 +223,7 @@ pub fn run_all<N: StoreName, R: Wait + Abort + Copy + Drop>(
     run_cases(rt, alloc, publisher, &mut worker)
 }
 
-fn run_cases<N: StoreName, R: Wait + Abort + Copy + Drop>(
+fn run_cases<N: StoreName, R: Wait + Abort + Clock + Copy + Drop>(
     rt: &R,
     alloc: Global,
     publisher: &Publisher<N>,

@@ -3,8 +3,10 @@
 ghost use Rattle.std.specs.Prelude.{◌≡◌};
 
 use crate::answers::answer_all;
+use crate::channels::{pass_two, take_all};
 use crate::faults::fail_all;
 use crate::meetings::meet_all;
+use crate::passing::{pass_all, pass_one_of_two, refuse_one};
 use crate::polls::poll_all;
 use crate::publishing::follow_all;
 use crate::runs::run_all;
@@ -30,6 +32,11 @@ pub enum Trial {
     Faults,
     Tasks,
     Meetings,
+    Passing,
+    NoRoom,
+    PassingStream,
+    Channels,
+    Passed,
 }
 
 /// Tries something over a store of two readers, where nothing is published.
@@ -71,5 +78,10 @@ fn attempt_over<
         Trial::Faults => fail_all(rt, alloc, publisher, readers),
         Trial::Tasks => start_one(rt, alloc, publisher, readers),
         Trial::Meetings => meet_all(rt, alloc, publisher, readers),
+        Trial::Passing => pass_all(rt, alloc, publisher, readers),
+        Trial::NoRoom => refuse_one(rt, alloc, readers),
+        Trial::PassingStream => pass_one_of_two(rt, alloc, readers),
+        Trial::Channels => take_all(rt, alloc, publisher),
+        Trial::Passed => pass_two(rt, alloc, publisher, readers),
     }
 }

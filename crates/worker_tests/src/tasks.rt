@@ -6,13 +6,14 @@ use crate::stores::{Trial, attempt};
 use crate::workers::list_worker;
 use edge_io::{ListClock, ListReplies, Spawner, TaskSpawner};
 use policy_publish::{PolicyReader, Publisher, StoreName};
-use rpz_workers::{NoGate, Report, ServeTask};
+use rpz_workers::{NoGate, NoOnward, Report, ServeTask};
 use std::alloc::Global;
 use std::collections::VecDeque;
 use std::process::Abort;
 use std::sync::Wait;
 use std::test::Fail;
 use std::thread::Threads;
+use std::time::Clock;
 
 #[test]
 fn a_task_serves(rt: HostRuntime) -> Result<(), Fail> {
@@ -22,7 +23,7 @@ fn a_task_serves(rt: HostRuntime) -> Result<(), Fail> {
 /// A worker is a task that is run when it is started, over items that are there by then.
 pub fn start_one<
     N: StoreName + Send + Sync + 'static,
-    R: Threads + Wait + Abort + Copy + Drop + Send + Sync + 'static,
+    R: Threads + Wait + Abort + Clock + Copy + Drop + Send + Sync + 'static,
 >(
     rt: &R,
     alloc: Global,
@@ -39,7 +40,7 @@ pub fn start_one<
 
 fn start_task<
     N: StoreName + Send + Sync + 'static,
-    R: Threads + Wait + Copy + Drop + Send + Sync + 'static,
+    R: Threads + Wait + Clock + Copy + Drop + Send + Sync + 'static,
 >(
     rt: &R,
     alloc: Global,
@@ -51,6 +52,7 @@ fn start_task<
     let replies: Kept = ListReplies::new(alloc, vec![in alloc; MIXED.failing_send]?);
     let clock = ListClock::new(alloc, VecDeque::new(alloc));
     let worker = list_worker(alloc, readers, Vec::new(alloc), NoGate)?;
-    spawner.start(rt, ServeTask::new(*rt, worker, items, replies, clock))?;
+    let task = ServeTask::new(*rt, worker, items, replies, clock, NoOnward);
+    spawner.start(rt, task)?;
     Ok(())
 }

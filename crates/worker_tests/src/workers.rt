@@ -5,7 +5,7 @@ use dns_name::Octets;
 use edge_io::{Endpoint, ListIds, ListLink};
 use ip_prefix::{Addr, Transport};
 use policy_publish::{PolicyReader, StoreName};
-use rpz_workers::{Gate, Job, Worker};
+use rpz_workers::{Asker, Gate, Job, Worker};
 use std::alloc::Global;
 use std::collections::VecDeque;
 use std::hash::{BuildHasherDefault, FoldHasher, RandomState};
@@ -25,10 +25,10 @@ pub type CommonCache = Arc<SharedCache<ListLink>, Global>;
 pub type Hold<R> = Shared<R, ListLink>;
 
 /// A worker over a link and IDs in memory, and over a cache of this kind.
-pub type WorkerOver<N, A, G> = Worker<N, ListLink, A, ListIds, G>;
+pub type WorkerOver<N, A, G> = Worker<N, ListLink, A, Asker<ListLink, ListIds, G>>;
 
 /// The same with a cache of its own.
-pub type ListWorker<N, G> = Worker<N, ListLink, OwnCache, ListIds, G>;
+pub type ListWorker<N, G> = WorkerOver<N, OwnCache, G>;
 
 /// An empty cache of a worker's own, for four entries.
 pub fn own_cache(alloc: Global) -> Result<OwnCache, Fail> {

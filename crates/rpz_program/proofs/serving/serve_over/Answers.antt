@@ -12,7 +12,7 @@ pub returns-clause-ok : goal.returns-clause-ok
 returns-clause-ok g c =
     let made = c.in_ok-publisher.ensures in
     let same = opened c.args.parts.origins c.in_ok-publisher.publisher made.list.0 (rw (← c.requires.store) at made.list.1) (rw (← c.requires.store) at made.marks) in
-    rw (same, made.readers) at c.serve_open-served.ensures.ok
+    rw same at c.serve_open-served.ensures.ok
 
 pub returns-clause-err : goal.returns-clause-err
 returns-clause-err g c =

@@ -1,5 +1,5 @@
 use Rattle.std.proofs.Common.{◌∙◌, map}
-use Rattle.rpz_words.proofs.Taken.{no_fault, takes_same}
+use Rattle.rpz_words.proofs.Taken.{matched, no_fault, takes_same}
 use Rattle.rpz_words.proofs.reading.matches_of.Goals as goal
 
 pub returns : goal.returns
@@ -12,3 +12,7 @@ returns c = record {
 pub returns-in-Ok-clause-taken : goal.returns-in-Ok-clause-taken
 returns-in-Ok-clause-taken c =
     no_fault _ (map (λ word. word.now) c.args.words.now) c.in_ok-command.ensures c.in-Ok.ensures.kinds
+
+pub returns-in-Ok-clause-ok : goal.returns-in-Ok-clause-ok
+returns-in-Ok-clause-ok c =
+    matched _ (map (λ word. word.now) c.args.words.now) _ c.in_ok-command.ensures c.in-Ok.ensures.matches

@@ -10,7 +10,7 @@ loop-preserved g c =
     let was = c.loop.invariant in
     let read = c.in-Ok-Some.ensures in
     record {
-      served = served_more _ _ _ _ _ _ _ _ was.served (rw c.in-Ok-Some.field-0-is at read.taken) c.in-Ok.ensures.ok;
+      served = served_more _ _ _ _ _ _ _ _ _ was.served (rw c.in-Ok-Some.field-0-is at read.taken) c.in-Ok.ensures.ok;
       source = omega (arith, read.count);
       sink = omega (arith, c.in-Ok.ensures.count);
     }

@@ -15,10 +15,10 @@ loop-init g c =
 pub loop-preserved : goal.loop-preserved
 loop-preserved g c =
     let was = c.loop.invariant in
-    let faults = handled_faults _ _ _ _ _ _ _ c.take.ensures in
+    let faults = handled_faults _ _ _ _ _ _ _ _ c.take.ensures in
     record {
       can = tt;
       finite = tt;
-      worked = rw c.count-report.ensures (worked_more _ _ _ _ _ _ _ (record { item = c.next-in-loop.result; took = c.take.result }) was.worked (record { next = c.next-in-loop.ensures; handles = c.take.ensures; goes_on = c.in_default.not-Stop }));
+      worked = rw c.count-report.ensures (worked_more _ _ _ _ _ _ _ _ (record { item = c.next-in-loop.result; took = c.take.result }) was.worked (record { next = c.next-in-loop.ensures; handles = c.take.ensures; goes_on = c.in_default.not-Stop }));
       failed = rw (ap (λ k. k.failed) c.count-report.ensures) (faults_counted _ c.take.result _ _ _ was.failed faults.0 faults.1);
     }

@@ -1,18 +1,16 @@
 use Rattle.std.proofs.Common.{◌∙◌, arith}
 use Rattle.rpz_program.proofs.ZonePolls.{fetched_nothing_both}
-use Rattle.rpz_program.proofs.Runs.{linked_next}
-use Rattle.rpz_program.proofs.starting.start_all.Goals as goal
+use Rattle.rpz_program.proofs.starting.start_answerers.Goals as goal
 
 pub loop-preserved : goal.loop-preserved
 loop-preserved g c =
     let was = c.loop.invariant in
-    let one = c.in_ok-start_one.ensures in
+    let one = c.in_ok-start_answerer.ensures in
     record {
-      linked = linked_next _ _ _ c.args.upstream c.loop.counter one.linked was.linked;
+      linked = one.linked ∙ was.linked;
       waiting = omega (arith, was.waiting, one.waiting);
       bound = one.bound ∙ was.bound;
       fetches = fetched_nothing_both _ _ _ _ _ _ was.fetches one.fetches;
-      ids = one.ids ∙ was.ids;
       gathered = one.gathered ∙ was.gathered;
       wire_count = omega (arith, was.wire_count, one.wire_count);
       start_count = omega (arith, was.start_count, one.start_count);

@@ -1,0 +1,38 @@
+//! What a worker that asks takes.
+
+ghost use Rattle.std.specs.Prelude.{None};
+
+use crate::channel_items::ChannelItems;
+use crate::item::{Item, Items};
+use crate::passed_items::PassedItems;
+use edge_io::{Sink, Source};
+use policy_publish::StoreName;
+use std::sync::Wait;
+use std::time;
+
+/// What a worker that asks takes: connections of clients, or what others passed on.
+#[derive(Drop)]
+pub enum AskerItems<
+    N: StoreName,
+    S: Source + Drop,
+    K: Sink + Drop,
+    R: Wait + time::Clock + Copy + Drop,
+> {
+    Connections(ChannelItems<N, S, K, R>),
+    Passed(PassedItems<N, R>),
+}
+
+impl<N: StoreName, S: Source + Drop, K: Sink + Drop, R: Wait + time::Clock + Copy + Drop> Items<
+    N,
+    S,
+    K,
+> for AskerItems<N, S, K, R> {
+    ghost coming = { λ _. None };
+
+    fn next(&mut self) -> Item<N, S, K> {
+        match self {
+            AskerItems::Connections(items) => items.next(),
+            AskerItems::Passed(items) => items.next(),
+        }
+    }
+}
