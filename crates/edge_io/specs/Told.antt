@@ -1,5 +1,6 @@
 -- What is known of a program's outside: `None` stands for what isn't known, as over sockets.
 use Rattle.std.specs.Prelude.{◌≡◌, ◌+◌, ◌-◌, ◌^◌, ℕ, min, List, [], ◌∷◌, ◌++◌, Option, Some, None, Result, Ok, Err}
+use Rattle.ip_prefix.specs.declared.Transport.{Transport}
 use Rattle.edge_io.specs.declared.endpoint.Endpoint.{Endpoint}
 use Rattle.edge_io.specs.declared.replies.StreamEnd.{StreamEnd}
 
@@ -27,6 +28,7 @@ ComesNext (Some (y ∷ ys)) x after = (x ≡ y) × (after ≡ Some ys)
 -- a reply that was sent
 pub record PlainReply : Type 0 where
   pub peer : Endpoint
+  pub transport : Transport
   pub bytes : List ℕ
 
 -- a connection that has ended

@@ -1,27 +1,106 @@
 -- What is known of a network.
-use Rattle.std.specs.Prelude.{◌≡◌, List, [], ◌∷◌, Option, Some, None, Result, Ok, Err}
+use Rattle.std.specs.Prelude.{◌≡◌, ℕ, List, [], ◌∷◌, ◌++◌, length, Option, Some, None, Result, Ok, Err, IfOk, IfSome, ⊤}
+use Rattle.std.specs.Option.{option_map}
+use Rattle.std.specs.Result.{result_ok}
+use Rattle.edge_io.specs.Told.{PlainReply}
 use Rattle.edge_io.specs.declared.endpoint.Endpoint.{Endpoint}
+use Rattle.edge_io.specs.declared.replies.SendError.{SendError}
+use Rattle.edge_io.specs.declared.wake.Order.{Order}
+use Rattle.edge_io.specs.declared.wake.OrderEnd.{OrderEnd}
+use Rattle.edge_io.specs.declared.wake.OrderEnd.TheVariants.{ReadFault, WriteFault, FetchFault}
+use Rattle.edge_io.specs.declared.wake.Wake.{Wake}
+use Rattle.edge_io.specs.declared.wake.Wake.TheVariants as wake
 use Rattle.edge_io.specs.declared.wires.WireError.{WireError}
 use Rattle.edge_io.specs.declared.wires.WireError.TheVariants.{OutOfMemory, Failed}
-use Rattle.edge_io.specs.Told.{one_more}
 
--- The next of those that are still to come is handed out, where they are known. `None` stands for a call that fails, and after
--- the last all fail. Out of memory, all are still to come.
-abbrev pub HandsOut : {A : Type 0} → Option (List (Option A)) → Result A WireError →
-    Option (List (Option A)) → Type 0
-HandsOut told (Err OutOfMemory) after = after ≡ told
-HandsOut None (Ok y) after = after ≡ None
-HandsOut (Some []) (Ok y) after = ⊥
-HandsOut (Some (None ∷ xs)) (Ok y) after = ⊥
-HandsOut (Some (Some x ∷ xs)) (Ok y) after = (y ≡ x) × (after ≡ Some xs)
-HandsOut None (Err Failed) after = after ≡ None
-HandsOut (Some []) (Err Failed) after = after ≡ Some []
-HandsOut (Some (None ∷ xs)) (Err Failed) after = after ≡ Some xs
-HandsOut (Some (Some x ∷ xs)) (Err Failed) after = ⊥
+-- a transfer that was ordered of a primary server by this request, and its order; `None` where it could not be begun
+pub record PlainOrder : Type 0 where
+  pub primary : Endpoint
+  pub request : List ℕ
+  pub given : Option Order
 
--- the endpoint is the last of those that calls were given, whether or not the call failed; out of memory it isn't among them
-abbrev pub TakesEndpoint : {A : Type 0} → Option (List Endpoint) → Endpoint → Result A WireError →
-    Option (List Endpoint) → Type 0
-TakesEndpoint given at (Ok x) after = after ≡ one_more given at
-TakesEndpoint given at (Err Failed) after = after ≡ one_more given at
-TakesEndpoint given at (Err OutOfMemory) after = after ≡ given
+-- What wires tell: what was asked of them so far, each in order, and the wakes that are still to come. Of the wakes `None` stands
+-- for a wait that fails, and behind the last comes `Ended`, ever after. `turns` is how many arrivals are taken, where that was said.
+pub record PlainWires : Type 0 where
+  pub turns : Option ℕ
+  pub bound : List Endpoint
+  pub linked : List Endpoint
+  pub ordered : List PlainOrder
+  pub answered : List PlainReply
+  pub wakes : List (Option Wake)
+
+-- wires of which nothing was asked yet
+abbrev pub new_wires : List (Option Wake) → PlainWires
+new_wires wakes =
+    record { turns = None; bound = []; linked = []; ordered = []; answered = []; wakes = wakes }
+
+-- wires of which one thing more was asked
+abbrev pub with_turns : ℕ → PlainWires → PlainWires
+with_turns turns wires = record wires { turns = Some turns }
+
+abbrev pub with_bound : Endpoint → PlainWires → PlainWires
+with_bound at wires = record wires { bound = wires.bound ++ at ∷ [] }
+
+abbrev pub with_linked : Endpoint → PlainWires → PlainWires
+with_linked at wires = record wires { linked = wires.linked ++ at ∷ [] }
+
+abbrev pub with_ordered : PlainOrder → PlainWires → PlainWires
+with_ordered order wires = record wires { ordered = wires.ordered ++ order ∷ [] }
+
+abbrev pub with_answered : PlainReply → PlainWires → PlainWires
+with_answered reply wires = record wires { answered = wires.answered ++ reply ∷ [] }
+
+-- what a wait gives where these wakes are still to come, and which are to come behind it
+abbrev pub first_wake : List (Option Wake) → Result Wake WireError
+first_wake [] = Ok (wake.Ended 0)
+first_wake (None ∷ wakes) = Err Failed
+first_wake (Some next ∷ wakes) = Ok next
+
+abbrev pub later_wakes : List (Option Wake) → List (Option Wake)
+later_wakes [] = []
+later_wakes (first ∷ wakes) = wakes
+
+-- wires of which one wake less is still to come
+abbrev pub with_later_wakes : PlainWires → PlainWires
+with_later_wakes wires = record wires { wakes = later_wakes wires.wakes }
+
+-- what is told after a call that does this, whether or not it fails; out of memory it has done nothing
+abbrev pub after_call : {A : Type 0} → (PlainWires → PlainWires) → Result A WireError →
+    Option PlainWires → Option PlainWires
+after_call call (Ok x) told = option_map call told
+after_call call (Err Failed) told = option_map call told
+after_call call (Err OutOfMemory) told = told
+
+-- what is told after this reply was to be sent; one that was not sent isn't told
+abbrev pub after_send : PlainReply → Result (Unit {0}) SendError → Option PlainWires →
+    Option PlainWires
+after_send reply (Ok done) told = option_map (with_answered reply) told
+after_send reply (Err error) told = told
+
+-- a transfer that was ordered by a call that gave this
+abbrev pub plain_order : Endpoint → List ℕ → Result Order WireError → PlainOrder
+plain_order primary request result =
+    record { primary = primary; request = request; given = result_ok result }
+
+-- the number of an order is how many were ordered before it, where that is told
+abbrev pub IsNextOrder : Option PlainWires → Result Order WireError → Type 0
+IsNextOrder told result =
+    IfOk result (λ order. IfSome told (λ wires. order.number ≡ length wires.ordered))
+
+-- the next wake is given, where it is told; or memory ran out
+abbrev pub GivesNext : Option PlainWires → Result Wake WireError → Type 0
+GivesNext told (Err OutOfMemory) = ⊤
+GivesNext None result = ⊤
+GivesNext (Some wires) result = result ≡ first_wake wires.wakes
+
+-- an order that ended so had a connection that failed
+abbrev pub IsOrderFault : OrderEnd → Type 0
+IsOrderFault ReadFault = ⊤
+IsOrderFault WriteFault = ⊤
+IsOrderFault FetchFault = ⊤
+IsOrderFault why = ⊥
+
+-- such an end is given only where this holds
+abbrev pub BlamesOrder : Result Wake WireError → Type 0 → Type 0
+BlamesOrder (Ok (wake.Over order why)) blame = IsOrderFault why → blame
+BlamesOrder result blame = ⊤

@@ -1,24 +1,87 @@
 // Wires in memory.
-ghost use Rattle.std.specs.Prelude.{◌≡◌, ◌≤◌, [], Some};
+ghost use Rattle.std.specs.Prelude.{◌≡◌, ◌≤◌, ◌<◌, ◌++◌, [], ◌∷◌, Some, IfOk, map, vec_len, vec_capacity};
 ghost use Rattle.edge_io.specs.Edge.{Rose};
+ghost use Rattle.edge_io.specs.Wired.{BlamesOrder, new_wires};
 
-use crate::{Arrival, Endpoint, Link, Replies, Schedule, Sink, Source, WireError, Wires};
-use std::alloc::Global;
+use crate::list_inlet::{ArrivalQueue, ListInlet};
+use crate::{
+    Arrival, Endpoint, Link, Order, Replies, Schedule, SendError, SentOrder, SentReply, Sink,
+    Source, Wake, WireError, Wires,
+};
+use dns_name::Octets;
+use ip_prefix::Transport;
+use std::alloc::{AllocError, Global};
 use std::collections::VecDeque;
+use std::sync::Wait;
 
-/// Wires in memory: arrivals, connections, links and places for replies are handed out from lists, and a call behind
-/// the last of its list fails. `bind` fails where it is told to.
+/// What a wait of wires in memory does: it hands these arrivals to the inlets, and then gives this wake. `None` is a wait that
+/// fails.
 #[derive(Drop)]
-pub struct ListWires<S: Source + Drop, K: Sink + Drop, L: Link + Drop, P: Replies<S, K> + Drop> {
-    arrivals: VecDeque<Option<Arrival<S, K>>>,
-    fetches: VecDeque<Option<(S, K)>>,
+pub struct WireStage<S: Source + Drop, K: Sink + Drop> {
+    pub datagrams: Vec<Arrival<S, K>>,
+    pub connections: Vec<Arrival<S, K>>,
+    pub wake: Option<Wake>,
+}
+
+impl<S: Source + Drop, K: Sink + Drop> WireStage<S, K> {
+    /// No arrival, and this wake.
+    pub fn new(alloc: Global, wake: Option<Wake>) -> Self
+        ensures datagrams { result.datagrams.items ≡ [] }
+        ensures connections { result.connections.items ≡ [] }
+        ensures wake { result.wake ≡ wake }
+    {
+        WireStage {
+            datagrams: Vec::new(alloc),
+            connections: Vec::new(alloc),
+            wake,
+        }
+    }
+}
+
+/// Wires in memory. Each wait is one of a list of stages. The inlets end behind the last stage, by `stop`, or at the limit of
+/// arrivals; the wake `Ended` doesn't wait for that. Links and places for replies are handed out from lists, and a call behind
+/// the last of its list fails. Other calls fail where they are told to.
+#[derive(Drop)]
+pub struct ListWires<
+    S: Source + Drop,
+    K: Sink + Drop,
+    L: Link + Drop,
+    P: Replies<S, K> + Drop,
+    R: Wait + Copy + Drop,
+> {
+    rt: R,
+    alloc: Global,
+    stages: VecDeque<WireStage<S, K>>,
+    datagrams: ArrivalQueue<S, K>,
+    connections: ArrivalQueue<S, K>,
     links: VecDeque<L>,
     backs: VecDeque<P>,
-    bound: Vec<Endpoint>,
-    fetched: Vec<Endpoint>,
-    linked: Vec<Endpoint>,
-    fetch_faults: u64,
+    /// How many arrivals are taken in all, where that was said.
+    pub turns: Option<u32>,
+    // How many more are handed to inlets.
+    left: u64,
+    /// The endpoints that `bind` was given, in order. One whose call ran out of memory is not among them.
+    pub bound: Vec<Endpoint>,
+    /// The endpoints that `link` was given, likewise.
+    pub linked: Vec<Endpoint>,
+    /// The transfers that were ordered, likewise.
+    pub ordered: Vec<SentOrder>,
+    /// The replies to NOTIFY that were sent, in order.
+    pub answered: Vec<SentReply>,
+    orders: Schedule,
     schedule: Schedule,
+}
+
+// How many arrivals the stages have: datagrams, and connections.
+fn arrival_counts<S: Source + Drop, K: Sink + Drop>(
+    stages: &VecDeque<WireStage<S, K>>,
+) -> (usize, usize) {
+    let (mut datagrams, mut connections) = (0usize, 0usize);
+    for stage in stages {
+        datagrams = datagrams.saturating_add(stage.datagrams.len());
+        connections = connections.saturating_add(stage.connections.len());
+    }
+    (datagrams, connections)
 }
 
 impl<
@@ -26,37 +89,46 @@ impl<
     K: Sink + Drop + Send + 'static,
     L: Link + Drop + Send + 'static,
     P: Replies<S, K> + Drop + Send + 'static,
-> ListWires<S, K, L, P> {
-    /// No endpoint is given yet. The binds of the numbers in `failing` fail, and the first bind is bind 0. A `None`
-    /// among the arrivals or the fetches is a call that fails.
+    R: Wait + Copy + Drop + Send + 'static,
+> ListWires<S, K, L, P, R> {
+    /// Nothing was asked yet. Of `bind`, `datagrams`, `connections` and `answer`, counted together, the calls of the numbers in
+    /// `failing` fail, and of `order` those in `failing_orders`. The first call is call 0.
     pub fn new(
+        rt: R,
         alloc: Global,
-        arrivals: VecDeque<Option<Arrival<S, K>>>,
-        fetches: VecDeque<Option<(S, K)>>,
+        stages: VecDeque<WireStage<S, K>>,
         links: VecDeque<L>,
         backs: VecDeque<P>,
         failing: Vec<u64>,
-    ) -> Self
-        ensures arrivals { ⟦<ListWires<S, K, L, P> as Wires>⟧.arrivals result
-            ≡ Some arrivals.items }
-        ensures fetches { ⟦<ListWires<S, K, L, P> as Wires>⟧.fetches result ≡ Some fetches.items }
-        ensures bound { ⟦<ListWires<S, K, L, P> as Wires>⟧.bound result ≡ Some [] }
-        ensures fetched { ⟦<ListWires<S, K, L, P> as Wires>⟧.fetched result ≡ Some [] }
-        ensures linked { ⟦<ListWires<S, K, L, P> as Wires>⟧.linked result ≡ Some [] }
-        ensures no_fetch_fault { ⟦<ListWires<S, K, L, P> as Wires>⟧.fetch_faults result ≡ 0 }
-        ensures no_fault { ⟦<ListWires<S, K, L, P> as Wires>⟧.faults result ≡ 0 }
+        failing_orders: Vec<u64>,
+    ) -> Result<Self, AllocError>
+        ensures told { IfOk result (λ wires. ⟦<ListWires<S, K, L, P, R> as Wires>⟧.told wires
+            ≡ Some (new_wires (map (λ stage. stage.wake) stages.items))) }
+        ensures no_order_fault { IfOk result (λ wires.
+            ⟦<ListWires<S, K, L, P, R> as Wires>⟧.order_faults wires ≡ 0) }
+        ensures no_fault { IfOk result (λ wires.
+            ⟦<ListWires<S, K, L, P, R> as Wires>⟧.faults wires ≡ 0) }
     {
-        ListWires {
-            arrivals,
-            fetches,
+        let (datagrams, connections) = arrival_counts(&stages);
+        let datagrams = ArrivalQueue::new(alloc, datagrams)?;
+        let connections = ArrivalQueue::new(alloc, connections)?;
+        Ok(ListWires {
+            rt,
+            alloc,
+            stages,
+            datagrams,
+            connections,
             links,
             backs,
+            turns: None,
+            left: u64::MAX,
             bound: Vec::new(alloc),
-            fetched: Vec::new(alloc),
             linked: Vec::new(alloc),
-            fetch_faults: 0,
+            ordered: Vec::new(alloc),
+            answered: Vec::new(alloc),
+            orders: Schedule::new(failing_orders),
             schedule: Schedule::new(failing),
-        }
+        })
     }
 }
 
@@ -70,12 +142,36 @@ fn nothing_left(schedule: &mut Schedule) -> WireError
     WireError::Failed
 }
 
+// Counts the end of an order that is a fault of its connection.
+fn count_order(orders: &mut Schedule, wake: &Wake)
+    ensures fault { BlamesOrder (Ok wake.now) (Rose orders.old.faults orders.new.faults) }
+    ensures count { orders.old.faults ≤ orders.new.faults }
+{
+    if let Wake::Over { why, .. } = wake {
+        if why.is_fault() {
+            orders.count_fault();
+        }
+    }
+}
+
+// Puts an order behind the others, where there is room for it.
+fn keep(orders: &mut Vec<SentOrder>, order: SentOrder)
+    requires { vec_len orders.old < vec_capacity orders.old }
+    ensures { orders.new.items ≡ orders.old.items ++ order ∷ [] }
+{
+    match orders.push(order) {
+        Ok(()) => {}
+        Err(_) => unreachable!(),
+    }
+}
+
 impl<
     S: Source + Drop + Send + 'static,
     K: Sink + Drop + Send + 'static,
     L: Link + Drop + Send + 'static,
     P: Replies<S, K> + Drop + Send + 'static,
-> Wires for ListWires<S, K, L, P> {
+    R: Wait + Copy + Drop + Send + 'static,
+> Wires for ListWires<S, K, L, P, R> {
     type In = S;
 
     type Out = K;
@@ -84,19 +180,27 @@ impl<
 
     type Back = P;
 
-    ghost arrivals = { λ w. Some w.arrivals.items };
+    type Datagrams = ListInlet<S, K, R>;
 
-    ghost fetches = { λ w. Some w.fetches.items };
+    type Connections = ListInlet<S, K, R>;
 
-    ghost bound = { λ w. Some w.bound.items };
+    ghost told = { λ w. Some (record {
+      turns = w.turns;
+      bound = w.bound.items;
+      linked = w.linked.items;
+      ordered = w.ordered.items;
+      answered = w.answered.items;
+      wakes = map (λ stage. stage.wake) w.stages.items;
+    }) };
 
-    ghost fetched = { λ w. Some w.fetched.items };
-
-    ghost linked = { λ w. Some w.linked.items };
-
-    ghost fetch_faults = { λ w. w.fetch_faults };
+    ghost order_faults = { λ w. w.orders.faults };
 
     ghost faults = { λ w. w.schedule.faults };
+
+    fn limit(&mut self, turns: u32) {
+        self.turns = Some(turns);
+        self.left = u64::from(turns);
+    }
 
     fn bind(&mut self, at: Endpoint) -> Result<(), WireError> {
         if self.bound.push(at).is_err() {
@@ -106,26 +210,6 @@ impl<
             return Err(WireError::Failed);
         }
         Ok(())
-    }
-
-    fn next(&mut self) -> Result<Arrival<S, K>, WireError> {
-        match self.arrivals.pop_front() {
-            Some(Some(arrival)) => Ok(arrival),
-            _ => Err(nothing_left(&mut self.schedule)),
-        }
-    }
-
-    fn fetch(&mut self, primary: Endpoint) -> Result<(S, K), WireError> {
-        if self.fetched.push(primary).is_err() {
-            return Err(WireError::OutOfMemory);
-        }
-        match self.fetches.pop_front() {
-            Some(Some(stream)) => Ok(stream),
-            _ => {
-                self.fetch_faults = self.fetch_faults.saturating_add(1);
-                Err(WireError::Failed)
-            }
-        }
     }
 
     fn link(&mut self, upstream: Endpoint) -> Result<L, WireError> {
@@ -143,5 +227,85 @@ impl<
             Some(replies) => Ok(replies),
             None => Err(nothing_left(&mut self.schedule)),
         }
+    }
+
+    fn datagrams(&mut self) -> Result<ListInlet<S, K, R>, WireError> {
+        if self.schedule.fails_now() {
+            return Err(WireError::Failed);
+        }
+        match self.datagrams.inlet(self.rt) {
+            Ok(inlet) => Ok(inlet),
+            Err(_) => Err(WireError::OutOfMemory),
+        }
+    }
+
+    fn connections(&mut self) -> Result<ListInlet<S, K, R>, WireError> {
+        if self.schedule.fails_now() {
+            return Err(WireError::Failed);
+        }
+        match self.connections.inlet(self.rt) {
+            Ok(inlet) => Ok(inlet),
+            Err(_) => Err(WireError::OutOfMemory),
+        }
+    }
+
+    fn order(&mut self, primary: Endpoint, request: &[u8]) -> Result<Order, WireError> {
+        let Ok(request) = Octets::from_slice(self.alloc, request) else {
+            return Err(WireError::OutOfMemory);
+        };
+        if self.ordered.reserve(1).is_err() {
+            return Err(WireError::OutOfMemory);
+        }
+        let order = Order {
+            number: self.ordered.len() as u64,
+        };
+        if self.orders.fails_now() {
+            keep(&mut self.ordered, SentOrder::new(primary, request, None));
+            return Err(WireError::Failed);
+        }
+        keep(
+            &mut self.ordered,
+            SentOrder::new(primary, request, Some(order)),
+        );
+        Ok(order)
+    }
+
+    fn forget(&mut self, _order: Order) {}
+
+    fn wait(&mut self) -> Result<Wake, WireError> {
+        let Some(stage) = self.stages.pop_front() else {
+            self.stop();
+            return Ok(Wake::Ended { dropped: 0 });
+        };
+        let left = self.datagrams.put(&self.rt, stage.datagrams, self.left);
+        self.left = self.connections.put(&self.rt, stage.connections, left);
+        if self.left == 0 {
+            self.stop();
+        }
+        match stage.wake {
+            Some(wake) => {
+                count_order(&mut self.orders, &wake);
+                Ok(wake)
+            }
+            None => {
+                self.schedule.count_fault();
+                Err(WireError::Failed)
+            }
+        }
+    }
+
+    fn answer(&mut self, peer: Endpoint, bytes: &[u8]) -> Result<(), SendError> {
+        if self.schedule.fails_now() {
+            return Err(SendError::Failed);
+        }
+        let bytes = Octets::from_slice(self.alloc, bytes)?;
+        self.answered
+            .push(SentReply::new(peer, Transport::Udp, bytes))?;
+        Ok(())
+    }
+
+    fn stop(&mut self) {
+        self.datagrams.end();
+        self.connections.end();
     }
 }

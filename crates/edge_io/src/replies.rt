@@ -7,6 +7,7 @@ ghost use Rattle.edge_io.specs.declared.replies.SendError.TheVariants.{OutOfMemo
 
 use crate::{Endpoint, Schedule, Sink, Source};
 use dns_name::Octets;
+use ip_prefix::Transport;
 use std::alloc::{AllocError, AllocFailed, Global};
 use std::marker::Model;
 
@@ -51,7 +52,7 @@ impl<T: Drop> From<AllocFailed<T>> for SendError {
     }
 }
 
-/// Where replies to datagrams go, and where connections are closed.
+/// Where replies go, and where connections are closed.
 ///
 /// Of those in memory contracts know what was sent and which connection was closed last, and not of those over sockets.
 pub trait Replies<S: Source, K: Sink> {
@@ -64,10 +65,11 @@ pub trait Replies<S: Source, K: Sink> {
     /// How often a send has failed. It never falls, and stands still at 2^64 - 1.
     ghost faults: { Self → ℕ };
 
-    /// Sends a reply as one datagram.
-    fn send(&mut self, peer: Endpoint, bytes: &[u8]) -> Result<(), SendError>
+    /// Sends a reply: as one datagram, or over TCP as a frame on the connection of this peer.
+    fn send(&mut self, peer: Endpoint, transport: Transport, bytes: &[u8]) -> Result<(), SendError>
         ensures sent { sent self.new ≡
-            more_if_ok (sent self.old) result (record { peer = peer; bytes = bytes.now }) }
+            more_if_ok (sent self.old) result
+            (record { peer = peer; transport = transport; bytes = bytes.now }) }
         ensures closings { closings self.new ≡ closings self.old }
         ensures count { faults self.old ≤ faults self.new }
         ensures failed { result ≡ Err SendError.Failed → Rose (faults self.old) (faults self.new) }
@@ -81,25 +83,31 @@ pub trait Replies<S: Source, K: Sink> {
         ensures count { faults self.new ≡ faults self.old };
 }
 
-/// A reply that was sent. Contracts see its peer and its bytes.
+/// A reply that was sent. Contracts see its peer, its transport and its bytes.
 #[derive(Drop)]
 pub struct SentReply {
     pub peer: Endpoint,
+    pub transport: Transport,
     pub bytes: Octets,
 }
 
 impl Model for SentReply {
     ghost Value = { PlainReply };
 
-    ghost view = { λ r. record { peer = r.peer; bytes = r.bytes } };
+    ghost view = { λ r. record { peer = r.peer; transport = r.transport; bytes = r.bytes } };
 }
 
 impl SentReply {
-    fn new(peer: Endpoint, bytes: Octets) -> Self
+    pub(crate) fn new(peer: Endpoint, transport: Transport, bytes: Octets) -> Self
         ensures peer { result.peer ≡ peer }
+        ensures transport { result.transport ≡ transport }
         ensures bytes { result.bytes ≡ bytes }
     {
-        SentReply { peer, bytes }
+        SentReply {
+            peer,
+            transport,
+            bytes,
+        }
     }
 }
 
@@ -145,12 +153,17 @@ impl<S: Source + Drop, K: Sink + Drop> Replies<S, K> for ListReplies<S, K> {
 
     ghost faults = { λ r. r.schedule.faults };
 
-    fn send(&mut self, peer: Endpoint, bytes: &[u8]) -> Result<(), SendError> {
+    fn send(
+        &mut self,
+        peer: Endpoint,
+        transport: Transport,
+        bytes: &[u8],
+    ) -> Result<(), SendError> {
         if self.schedule.fails_now() {
             return Err(SendError::Failed);
         }
         let bytes = Octets::from_slice(self.alloc, bytes)?;
-        self.sent.push(SentReply::new(peer, bytes))?;
+        self.sent.push(SentReply::new(peer, transport, bytes))?;
         Ok(())
     }
 

@@ -10,8 +10,12 @@ use std::thread::{JoinHandle, Threads};
 
 /// What a worker does, from its start to the value that it ends with.
 pub trait Task<E> {
+    /// What is promised of a task and the value that it ends with: nothing, unless a kind of task says so.
+    ghost ends: { Self → E → Type 0 } = { λ _ _. Unit {0} };
+
     /// Runs it to its end.
-    fn run(self) -> E;
+    fn run(self) -> E
+        ensures { ends self result };
 }
 
 /// Why a task was not started.

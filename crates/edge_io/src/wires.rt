@@ -1,44 +1,29 @@
 // The network of a server.
-ghost use Rattle.std.specs.Prelude.{◌≡◌, ◌≤◌, ℕ, List, Option, Err};
+ghost use Rattle.std.specs.Prelude.{◌≡◌, ◌≤◌, ℕ, Option, Err, length};
+ghost use Rattle.std.specs.Option.{option_map};
+ghost use Rattle.ip_prefix.specs.declared.Transport.TheVariants.{Udp};
 ghost use Rattle.edge_io.specs.Edge.{Rose};
-ghost use Rattle.edge_io.specs.Wired.{HandsOut, TakesEndpoint};
-ghost use Rattle.edge_io.specs.declared.endpoint.Endpoint.{Endpoint};
-ghost use Rattle.edge_io.specs.declared.wires.Arrival.{Arrival};
+ghost use Rattle.edge_io.specs.Wired.{BlamesOrder, GivesNext, IsNextOrder, PlainWires, after_call, after_send, plain_order, with_bound, with_later_wakes, with_linked, with_ordered, with_turns};
+ghost use Rattle.edge_io.specs.declared.frame.TheConstants.{FRAME_MAX};
 
-use crate::{Endpoint, Link, Replies, Sink, Source};
-use dns_name::Octets;
+use crate::{Endpoint, Inlet, Link, Order, Replies, SendError, Sink, Source, Wake};
 
 /// Why a call of the wires gave nothing.
 #[derive(Clone, Copy, Debug, PartialEq, Eq)]
 pub enum WireError {
     /// There was no room. That is no fault: both counts of faults stand still.
     OutOfMemory,
-    /// A fault of the wires. In `fetch` the count of fetches that failed has risen in this call, and in any other call
+    /// A fault of the wires. In `order` the count of orders that failed has risen in this call, and in any other call
     /// the other count.
     Failed,
 }
 
-/// What comes to a server.
-#[derive(Drop)]
-pub enum Arrival<S: Source + Drop, K: Sink + Drop> {
-    /// A datagram, and who sent it.
-    Datagram {
-        peer: Endpoint,
-        bytes: Octets,
-    },
-    /// A connection that a client has opened.
-    Connection {
-        source: S,
-        sink: K,
-        client: Endpoint,
-    },
-}
-
-/// The network of a server: the endpoint that it serves, the primary servers of its policy zones, and the upstream.
+/// The network of a server: the endpoints that it serves, the primary servers of its policy zones, and the upstream.
 ///
-/// Of wires in memory contracts know what is still to come and which endpoints they were given, and not of those over sockets.
+/// The threads that answer clients take arrivals from inlets. One thread has the wires: it binds, links and orders transfers,
+/// and waits for what comes of them. No call waits for a client, a primary server or the upstream.
 pub trait Wires {
-    /// The reading side of a connection, whether a client opened it or `fetch` did.
+    /// The reading side of a connection that a client has opened.
     type In: Source + Drop + Send + 'static;
 
     /// The writing side of such a connection.
@@ -50,89 +35,117 @@ pub trait Wires {
     /// Where replies go.
     type Back: Replies<Self::In, Self::Out> + Drop + Send + 'static;
 
-    /// The arrivals that are still to come, in order, where known. `None` is one that fails, and behind the last
-    /// all fail.
-    ghost arrivals: { Self → Option (List (Option (Arrival Self.In Self.Out))) };
+    /// Where datagrams are taken from.
+    type Datagrams: Inlet<Self::In, Self::Out> + Drop + Send + 'static;
 
-    /// The connections that `fetch` is still to give, in order, where known. `None` is a fetch that fails, and
-    /// behind the last all fail.
-    ghost fetches: { Self → Option (List (Option (Self.In × Self.Out))) };
+    /// Where connections are taken from.
+    type Connections: Inlet<Self::In, Self::Out> + Drop + Send + 'static;
 
-    /// The endpoints that `bind` was given, in order, where known. A call that ran out of memory is not among
-    /// them; one that failed is.
-    ghost bound: { Self → Option (List Endpoint) };
+    /// What was asked of them so far, and the wakes that are still to come, where they tell it. Those in memory do, and
+    /// those over sockets don't.
+    ghost told: { Self → Option PlainWires };
 
-    /// The endpoints that `fetch` was given, likewise.
-    ghost fetched: { Self → Option (List Endpoint) };
-
-    /// The endpoints that `link` was given, likewise.
-    ghost linked: { Self → Option (List Endpoint) };
-
-    /// How often a fetch has failed. It never falls, and stands still at 2^64 - 1.
-    ghost fetch_faults: { Self → ℕ };
+    /// How often a connection to a primary server has failed: it could not be had, or a read or a write on it failed. It
+    /// never falls, and stands still at 2^64 - 1.
+    ghost order_faults: { Self → ℕ };
 
     /// How often any other call has failed. It never falls, and stands still at 2^64 - 1.
     ghost faults: { Self → ℕ };
 
+    /// All inlets together give at most so many arrivals, of which a NOTIFY is one, and then end. Without this call there
+    /// is no such limit.
+    fn limit(&mut self, turns: u32)
+        ensures told { told self.new ≡ option_map (with_turns turns) (told self.old) }
+        ensures orders { order_faults self.new ≡ order_faults self.old }
+        ensures count { faults self.new ≡ faults self.old };
+
     /// Opens the endpoint, for datagrams and for connections.
     fn bind(&mut self, at: Endpoint) -> Result<(), WireError>
-        ensures bound { TakesEndpoint (bound self.old) at result (bound self.new) }
-        ensures fetched { fetched self.new ≡ fetched self.old }
-        ensures linked { linked self.new ≡ linked self.old }
-        ensures fetches { fetches self.new ≡ fetches self.old }
-        ensures arrivals { arrivals self.new ≡ arrivals self.old }
-        ensures fetch_count { fetch_faults self.new ≡ fetch_faults self.old }
+        ensures told { told self.new ≡ after_call (with_bound at) result (told self.old) }
+        ensures orders { order_faults self.new ≡ order_faults self.old }
         ensures count { faults self.old ≤ faults self.new }
         ensures failed { result ≡ Err WireError.Failed → Rose (faults self.old) (faults self.new) }
         ensures no_room { result ≡ Err WireError.OutOfMemory → faults self.new ≡ faults self.old };
-
-    /// Waits for the next datagram or connection.
-    fn next(&mut self) -> Result<Arrival<Self::In, Self::Out>, WireError>
-        ensures bound { bound self.new ≡ bound self.old }
-        ensures fetched { fetched self.new ≡ fetched self.old }
-        ensures linked { linked self.new ≡ linked self.old }
-        ensures fetches { fetches self.new ≡ fetches self.old }
-        ensures arrivals { HandsOut (arrivals self.old) result (arrivals self.new) }
-        ensures fetch_count { fetch_faults self.new ≡ fetch_faults self.old }
-        ensures count { faults self.old ≤ faults self.new }
-        ensures failed { result ≡ Err WireError.Failed → Rose (faults self.old) (faults self.new) }
-        ensures no_room { result ≡ Err WireError.OutOfMemory → faults self.new ≡ faults self.old };
-
-    /// Opens a connection to the primary server of a zone.
-    fn fetch(&mut self, primary: Endpoint) -> Result<(Self::In, Self::Out), WireError>
-        ensures bound { bound self.new ≡ bound self.old }
-        ensures fetched { TakesEndpoint (fetched self.old) primary result (fetched self.new) }
-        ensures linked { linked self.new ≡ linked self.old }
-        ensures fetches { HandsOut (fetches self.old) result (fetches self.new) }
-        ensures arrivals { arrivals self.new ≡ arrivals self.old }
-        ensures fetch_count { fetch_faults self.old ≤ fetch_faults self.new }
-        ensures fetch_failed { result ≡ Err WireError.Failed →
-            Rose (fetch_faults self.old) (fetch_faults self.new) }
-        ensures no_room { result ≡ Err WireError.OutOfMemory →
-            fetch_faults self.new ≡ fetch_faults self.old }
-        ensures count { faults self.new ≡ faults self.old };
 
     /// Makes a link to the upstream.
     fn link(&mut self, upstream: Endpoint) -> Result<Self::Up, WireError>
-        ensures bound { bound self.new ≡ bound self.old }
-        ensures fetched { fetched self.new ≡ fetched self.old }
-        ensures linked { TakesEndpoint (linked self.old) upstream result (linked self.new) }
-        ensures fetches { fetches self.new ≡ fetches self.old }
-        ensures arrivals { arrivals self.new ≡ arrivals self.old }
-        ensures fetch_count { fetch_faults self.new ≡ fetch_faults self.old }
+        ensures told { told self.new ≡ after_call (with_linked upstream) result (told self.old) }
+        ensures orders { order_faults self.new ≡ order_faults self.old }
         ensures count { faults self.old ≤ faults self.new }
         ensures failed { result ≡ Err WireError.Failed → Rose (faults self.old) (faults self.new) }
         ensures no_room { result ≡ Err WireError.OutOfMemory → faults self.new ≡ faults self.old };
 
     /// Makes a place where replies go, from the endpoint that was opened.
     fn replies(&mut self) -> Result<Self::Back, WireError>
-        ensures bound { bound self.new ≡ bound self.old }
-        ensures fetched { fetched self.new ≡ fetched self.old }
-        ensures linked { linked self.new ≡ linked self.old }
-        ensures fetches { fetches self.new ≡ fetches self.old }
-        ensures arrivals { arrivals self.new ≡ arrivals self.old }
-        ensures fetch_count { fetch_faults self.new ≡ fetch_faults self.old }
+        ensures told { told self.new ≡ told self.old }
+        ensures orders { order_faults self.new ≡ order_faults self.old }
         ensures count { faults self.old ≤ faults self.new }
         ensures failed { result ≡ Err WireError.Failed → Rose (faults self.old) (faults self.new) }
         ensures no_room { result ≡ Err WireError.OutOfMemory → faults self.new ≡ faults self.old };
+
+    /// Makes an inlet for datagrams. Each thread that takes some has one of its own.
+    fn datagrams(&mut self) -> Result<Self::Datagrams, WireError>
+        ensures told { told self.new ≡ told self.old }
+        ensures orders { order_faults self.new ≡ order_faults self.old }
+        ensures count { faults self.old ≤ faults self.new }
+        ensures failed { result ≡ Err WireError.Failed → Rose (faults self.old) (faults self.new) }
+        ensures no_room { result ≡ Err WireError.OutOfMemory → faults self.new ≡ faults self.old };
+
+    /// Makes an inlet for connections of clients. Each thread that takes some has one of its own.
+    fn connections(&mut self) -> Result<Self::Connections, WireError>
+        ensures told { told self.new ≡ told self.old }
+        ensures orders { order_faults self.new ≡ order_faults self.old }
+        ensures count { faults self.old ≤ faults self.new }
+        ensures failed { result ≡ Err WireError.Failed → Rose (faults self.old) (faults self.new) }
+        ensures no_room { result ≡ Err WireError.OutOfMemory → faults self.new ≡ faults self.old };
+
+    /// Orders a transfer of a primary server: begins to open a connection to it, over which this request is written. What
+    /// comes of that are wakes. Where it fails, none comes.
+    fn order(&mut self, primary: Endpoint, request: &[u8]) -> Result<Order, WireError>
+        requires { length request.now ≤ FRAME_MAX }
+        ensures told { told self.new ≡
+            after_call (with_ordered (plain_order primary request.now result)) result
+            (told self.old) }
+        ensures numbered { IsNextOrder (told self.old) result }
+        ensures count { faults self.new ≡ faults self.old }
+        ensures orders { order_faults self.old ≤ order_faults self.new }
+        ensures failed { result ≡ Err WireError.Failed →
+            Rose (order_faults self.old) (order_faults self.new) }
+        ensures no_room { result ≡ Err WireError.OutOfMemory →
+            order_faults self.new ≡ order_faults self.old };
+
+    /// Lets an order go, and closes its connection. Wakes of it may still come, and are of no use.
+    fn forget(&mut self, order: Order)
+        ensures told { told self.new ≡ told self.old }
+        ensures orders { order_faults self.new ≡ order_faults self.old }
+        ensures count { faults self.new ≡ faults self.old };
+
+    /// Waits for the next wake, a second at most.
+    fn wait(&mut self) -> Result<Wake, WireError>
+        ensures told { told self.new ≡ after_call with_later_wakes result (told self.old) }
+        ensures next { GivesNext (told self.old) result }
+        ensures orders { order_faults self.old ≤ order_faults self.new }
+        ensures order_failed { BlamesOrder result
+            (Rose (order_faults self.old) (order_faults self.new)) }
+        ensures count { faults self.old ≤ faults self.new }
+        ensures failed { result ≡ Err WireError.Failed → Rose (faults self.old) (faults self.new) }
+        ensures no_room { result ≡ Err WireError.OutOfMemory →
+            (order_faults self.new ≡ order_faults self.old) × (faults self.new ≡ faults self.old) };
+
+    /// Sends a reply to a NOTIFY, as one datagram.
+    fn answer(&mut self, peer: Endpoint, bytes: &[u8]) -> Result<(), SendError>
+        ensures told { told self.new ≡
+            after_send (record { peer = peer; transport = Udp; bytes = bytes.now }) result
+            (told self.old) }
+        ensures orders { order_faults self.new ≡ order_faults self.old }
+        ensures count { faults self.old ≤ faults self.new }
+        ensures failed { result ≡ Err SendError.Failed → Rose (faults self.old) (faults self.new) }
+        ensures no_room { result ≡ Err SendError.OutOfMemory → faults self.new ≡ faults self.old };
+
+    /// Takes no more arrivals, and lets all orders go. The inlets give what was taken, and then end. It may be called
+    /// again.
+    fn stop(&mut self)
+        ensures told { told self.new ≡ told self.old }
+        ensures orders { order_faults self.new ≡ order_faults self.old }
+        ensures count { faults self.new ≡ faults self.old };
 }
