@@ -2,3 +2,9 @@ pub mod FitBlocks
 pub mod FitStreams
 pub mod FitZones
 pub mod Written
+pub mod Kept
+pub mod Ended
+pub mod Fed
+pub mod Noticed
+pub mod Begun
+pub mod Woken

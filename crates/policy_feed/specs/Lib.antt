@@ -1,3 +1,9 @@
 pub mod Poll
 pub mod Laws
 pub mod Taking
+pub mod Lines
+pub mod Feed
+pub mod Ordering
+pub mod Ending
+pub mod Reading
+pub mod Waking

@@ -30,8 +30,9 @@ pub enum Polled {
     New(Publication),
 }
 
-// The request of this ID for the zone of a number.
-fn request_message<N: StoreName>(
+/// The request of this ID for the zone of a number: for what is newer than what is loaded, or for all of it where nothing is loaded or
+/// the zone is marked. It is no longer than a frame may be.
+pub(crate) fn request_message<N: StoreName>(
     alloc: Global,
     publisher: &Publisher<N>,
     id: u16,

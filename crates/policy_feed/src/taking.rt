@@ -10,7 +10,7 @@ ghost use Rattle.ixfr_apply.specs.Offer.{request_of};
 ghost use Rattle.ixfr_apply.specs.Stream.{BlamesSource, Reads};
 ghost use Rattle.policy_snapshot.specs.Policy.{zone_at};
 ghost use Rattle.policy_feed.specs.Poll.{after_refusal};
-ghost use Rattle.policy_feed.specs.Taking.{Offers, TakesAnswer};
+ghost use Rattle.policy_feed.specs.Taking.{Ends, Offers, TakesAnswer};
 ghost use Rattle.policy_feed.specs.declared.fault.FeedError.TheVariants as errors;
 ghost use Rattle.policy_feed.specs.declared.fault.FeedFault.TheVariants as faults;
 
@@ -104,7 +104,24 @@ pub(crate) fn take_transfer<N: StoreName, S: Source, R: Wait>(
     ensures steady { S.steady source.old →
         (result ≢ Err (errors.Fault (faults.Transfer AReadFault))) × S.steady source.new }
 {
-    match read_answer(alloc, publisher, source, id, number) {
+    let read = read_answer(alloc, publisher, source, id, number);
+    end_poll(rt, publisher, number, read)
+}
+
+/// Ends a poll of the zone of this number, of whose transfer this was read: publishes what is new, or marks the zone after a refusal of
+/// what is newer. The zone is marked no more where it is current or takes the transfer; out of memory the mark stays. It may wait for
+/// readers that are just entering.
+pub(crate) fn end_poll<N: StoreName, R: Wait>(
+    rt: &R,
+    publisher: &mut Publisher<N>,
+    number: u32,
+    read: Result<Taken, TransferError>,
+) -> Result<Polled, FeedError>
+    requires { IsSome (zone_at publisher.old.version.zones number) }
+    ensures { IfSome (zone_at publisher.old.version.zones number) (λ zone.
+        Ends number zone read result publisher.old publisher.new) }
+{
+    match read {
         Ok(Taken::Current { theirs }) => {
             publisher.unmark(number);
             Ok(Polled::Current { theirs })
