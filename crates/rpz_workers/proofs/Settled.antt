@@ -1,5 +1,5 @@
 -- What becomes of a message, by what its query came to.
-use Rattle.std.proofs.Common.{◌≡◌, ℕ, Bool, List, Option, Result, Ok, Err, refl, sym, ap, ◌∙◌}
+use Rattle.std.proofs.Common.{◌≡◌, ℕ, Bool, List, Option, Result, Ok, Err, sym, ap, ◌∙◌}
 use Rattle.std.specs.declared.alloc.AllocError.{AllocError}
 use Rattle.dns_message.specs.declared.question.Question.{Question}
 use Rattle.reply_build.specs.declared.said.Said.{Said}
@@ -10,7 +10,7 @@ use Rattle.rpz_workers.specs.declared.outcome.Outcome.{Outcome}
 use Rattle.rpz_workers.specs.declared.outcome.Outcome.TheVariants as outcome
 use Rattle.rpz_workers.specs.Answering.{Answers, PlainWorker}
 use Rattle.rpz_workers.specs.Passed.{PlainPassed}
-use Rattle.rpz_workers.specs.Passing.{PassesOnAs, Settles, Tried, outcome_by, passed_after}
+use Rattle.rpz_workers.specs.Passing.{PassesOnAs, Settles, outcome_by, passed_after}
 
 module _ {L : Type 0} (origins : List (List (List ℕ))) (gave : List ℕ → List ℕ → ℕ → Type 0) (passes_on : Bool) (job : Job) (now : ℕ) (came_to : Result Answered AllocError) (old new : PlainWorker L) where
   -- it is answered

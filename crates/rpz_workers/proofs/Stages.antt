@@ -4,19 +4,16 @@ use Rattle.dns_message.specs.declared.question.Question.{Question}
 use Rattle.dns_message.specs.declared.request.Incoming.{Incoming}
 use Rattle.upstream_link.specs.declared.fact.Fact.{Fact}
 use Rattle.upstream_link.specs.Facts.{PlainFacts}
-use Rattle.upstream_link.specs.Vouched.{PlainLearned}
-use Rattle.answer_cache.specs.Keeps.{IsFound, kept, looked_up}
-use Rattle.answer_cache.specs.Recent.{Recent}
 use Rattle.policy_snapshot.specs.Policy.{PlainPolicy}
 use Rattle.query_session.specs.Session.{turn_by}
 use Rattle.reply_build.specs.declared.said.Said.{Said}
 use Rattle.reply_build.specs.declared.turn.Turn.TheVariants as turn
 use Rattle.rpz_workers.specs.declared.obtained.Obtained.{Obtained}
 use Rattle.rpz_workers.specs.declared.obtained.Obtained.TheVariants.{Learned, Failed}
-use Rattle.rpz_workers.specs.Obtaining.{Inquiry, MayKeep, Obtains, ObtainsFor, with_fact}
+use Rattle.rpz_workers.specs.Obtaining.{Inquiry, Obtains, ObtainsFor, with_fact}
 use Rattle.rpz_workers.specs.declared.answered.Answered.{Answered}
 use Rattle.rpz_workers.specs.declared.answered.Answered.TheVariants as answered
-use Rattle.rpz_workers.specs.Turns.{ComesTo, Leads, LooksInVain, Says, TakesTurn, inquiry}
+use Rattle.rpz_workers.specs.Turns.{ComesTo, Leads, Says, TakesTurn}
 
 one_longer : (facts after : PlainFacts) (question : Question) (fact : Fact) → after ≡ with_fact facts question fact → length after ≡ length facts + 1
 one_longer facts after question fact e = ap length e ∙ length-append facts ((question, fact) ∷ [])

@@ -1,5 +1,6 @@
 -- A run that goes on.
-use Rattle.std.proofs.Common.{◌≡◌, ◌+◌, ◌-◌, ◌≤◌, ◌==◌, ◌^◌, ℕ, min, Bool, true, false, List, ◌∷◌, Option, None, Result, Ok, Err, refl, sym, ap, ◌∙◌, arith, cond, subst}
+use Rattle.std.proofs.Common.{◌≡◌, ◌+◌, ◌-◌, ◌≤◌, ◌==◌, ◌^◌, ℕ, min, Bool, true, false, List, ◌∷◌, Option, None, Result, Ok, Err, refl, sym, ap, arith, cond, subst}
+use Rattle.ip_prefix.specs.declared.Transport.{Transport}
 use Rattle.edge_io.specs.Chain.{Chain, Stage}
 use Rattle.edge_io.specs.Edge.{Rose}
 use Rattle.edge_io.specs.Told.{PlainReply}
@@ -20,21 +21,21 @@ use Rattle.rpz_workers.specs.Reporting.{Counts, counted, one_more_counted}
 use Rattle.rpz_workers.specs.Working.{Handled, RunState, TakesItem, Works, tally}
 
 -- nothing goes back to what is not answered at all
-pub nothing_sent : (peer : Endpoint) (message : List ℕ) (what : Outcome) (sent : Option (List PlainReply)) → what ≡ outcome.NoMemory → bare_reply message ≡ None → Sends peer message what took.Memory sent sent
-nothing_sent peer message what sent is none =
-    let P : Outcome → Type 0 = λ w. Sends peer message w took.Memory sent sent in
-    subst P (sym is) (record { tried = Ok tt; sent_is = sym (ap (λ (b : Option (List ℕ)). sent_after sent peer b (Ok tt)) none); took_is = refl })
+pub nothing_sent : (peer : Endpoint) (transport : Transport) (message : List ℕ) (what : Outcome) (sent : Option (List PlainReply)) → what ≡ outcome.NoMemory → bare_reply message ≡ None → Sends peer transport message what took.Memory sent sent
+nothing_sent peer transport message what sent is none =
+    let P : Outcome → Type 0 = λ w. Sends peer transport message w took.Memory sent sent in
+    subst P (sym is) (record { tried = Ok tt; sent_is = sym (ap (λ (b : Option (List ℕ)). sent_after sent peer transport b (Ok tt)) none); took_is = refl })
 
 -- where nothing is said, nothing is sent
-pub silent_sends : (peer : Endpoint) (message : List ℕ) (what : Outcome) (sent : Option (List PlainReply)) → what ≡ outcome.Said said.Silent → Sends peer message what took.Silent sent sent
-silent_sends peer message what sent is =
-    let P : Outcome → Type 0 = λ w. Sends peer message w took.Silent sent sent in
+pub silent_sends : (peer : Endpoint) (transport : Transport) (message : List ℕ) (what : Outcome) (sent : Option (List PlainReply)) → what ≡ outcome.Said said.Silent → Sends peer transport message what took.Silent sent sent
+silent_sends peer transport message what sent is =
+    let P : Outcome → Type 0 = λ w. Sends peer transport message w took.Silent sent sent in
     subst P (sym is) (record { tried = Ok tt; sent_is = refl; took_is = refl })
 
 -- where a message is passed on, nothing is sent
-pub passed_sends : (peer : Endpoint) (message : List ℕ) (what : Outcome) (sent : Option (List PlainReply)) → what ≡ outcome.PassedOn → Sends peer message what took.PassedOn sent sent
-passed_sends peer message what sent is =
-    let P : Outcome → Type 0 = λ w. Sends peer message w took.PassedOn sent sent in
+pub passed_sends : (peer : Endpoint) (transport : Transport) (message : List ℕ) (what : Outcome) (sent : Option (List PlainReply)) → what ≡ outcome.PassedOn → Sends peer transport message what took.PassedOn sent sent
+passed_sends peer transport message what sent is =
+    let P : Outcome → Type 0 = λ w. Sends peer transport message w took.PassedOn sent sent in
     subst P (sym is) (record { tried = Ok tt; sent_is = refl; took_is = refl })
 
 no_stop : (what : Outcome) (tried : Result (Unit {0}) SendError) → took.Stop ≡ took_of what tried → ⊥

@@ -1,6 +1,7 @@
 -- What a worker does with its items.
 use Rattle.std.specs.Prelude.{◌≡◌, ◌≤◌, ℕ, Bool, List, Option, Some, None, Result, Ok, Err}
 use Rattle.dns_name.specs.Labels.{Name}
+use Rattle.ip_prefix.specs.declared.Transport.{Transport}
 use Rattle.edge_io.specs.Edge.{Rose}
 use Rattle.edge_io.specs.Told.{Closings, ComesNext, Ended, PlainReply, closed_more, more_if_ok}
 use Rattle.edge_io.specs.declared.endpoint.Endpoint.{Endpoint}
@@ -58,11 +59,11 @@ stream_views left source_faults held sink_faults =
     record { left = left; source_faults = source_faults; held = held; sink_faults = sink_faults }
 
 -- what was sent after a try to send this
-abbrev pub sent_after : Option (List PlainReply) → Endpoint → Option (List ℕ) →
+abbrev pub sent_after : Option (List PlainReply) → Endpoint → Transport → Option (List ℕ) →
     Result (Unit {0}) SendError → Option (List PlainReply)
-sent_after sent peer None tried = sent
-sent_after sent peer (Some bytes) tried =
-    more_if_ok sent tried (record { peer = peer; bytes = bytes })
+sent_after sent peer transport None tried = sent
+sent_after sent peer transport (Some bytes) tried =
+    more_if_ok sent tried (record { peer = peer; transport = transport; bytes = bytes })
 
 -- what became of a job whose reply was to be sent; without a fault it is what is given
 abbrev pub took_by_send : Took → Result (Unit {0}) SendError → Took
@@ -78,14 +79,15 @@ took_of (outcome.Said (said.Reply bytes)) tried = took_by_send took.Reply tried
 took_of outcome.NoMemory tried = took_by_send took.Memory tried
 took_of outcome.PassedOn tried = took.PassedOn
 
--- How a reply went out, and what that makes of the job.
-pub record Sends (peer : Endpoint) (message : List ℕ) (what : Outcome) (t : Took)
-    (sent sent_then : Option (List PlainReply)) : Type 0 where
+-- How a reply went out over this transport, and what that makes of the job.
+pub record Sends (peer : Endpoint) (transport : Transport) (message : List ℕ) (what : Outcome)
+    (t : Took) (sent sent_then : Option (List PlainReply)) : Type 0 where
   pub tried : Result (Unit {0}) SendError
-  pub sent_is : sent_then ≡ sent_after sent peer (to_send message what) tried
+  pub sent_is : sent_then ≡ sent_after sent peer transport (to_send message what) tried
   pub took_is : t ≡ took_of what tried
 
--- A job is answered at the second that the clock gives next, and the reply is sent to its peer; or it is passed on.
+-- A job is answered at the second that the clock gives next, and the reply is sent to its peer over its transport; or it is passed
+-- on.
 pub record HandlesJob {L S K : Type 0} (origins : List Name)
     (gave : List ℕ → List ℕ → ℕ → Type 0) (passes_on : Bool) (job : Job)
     (before : WorkerState L S K) (t : Took) (after : WorkerState L S K) : Type 0 where
@@ -94,7 +96,7 @@ pub record HandlesJob {L S K : Type 0} (origins : List Name)
   pub second : ComesNext before.moments now after.moments
   pub settles : Settles origins gave passes_on job now what before.worker after.worker
       before.passed after.passed
-  pub sends : Sends job.peer job.message what t before.sent after.sent
+  pub sends : Sends job.peer job.transport job.message what t before.sent after.sent
   pub closings : after.closings ≡ before.closings
   pub count : before.send_faults ≤ after.send_faults
   pub failed : t ≡ took.Failed → Rose before.send_faults after.send_faults

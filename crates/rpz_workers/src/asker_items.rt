@@ -2,10 +2,10 @@
 
 ghost use Rattle.std.specs.Prelude.{None};
 
-use crate::channel_items::ChannelItems;
+use crate::inlet_items::InletItems;
 use crate::item::{Item, Items};
 use crate::passed_items::PassedItems;
-use edge_io::{Sink, Source};
+use edge_io::{Inlet, Sink, Source};
 use policy_publish::StoreName;
 use std::sync::Wait;
 use std::time;
@@ -16,17 +16,20 @@ pub enum AskerItems<
     N: StoreName,
     S: Source + Drop,
     K: Sink + Drop,
+    Q: Inlet<S, K> + Drop,
     R: Wait + time::Clock + Copy + Drop,
 > {
-    Connections(ChannelItems<N, S, K, R>),
+    Connections(InletItems<N, S, K, Q, R>),
     Passed(PassedItems<N, R>),
 }
 
-impl<N: StoreName, S: Source + Drop, K: Sink + Drop, R: Wait + time::Clock + Copy + Drop> Items<
-    N,
-    S,
-    K,
-> for AskerItems<N, S, K, R> {
+impl<
+    N: StoreName,
+    S: Source + Drop,
+    K: Sink + Drop,
+    Q: Inlet<S, K> + Drop,
+    R: Wait + time::Clock + Copy + Drop,
+> Items<N, S, K> for AskerItems<N, S, K, Q, R> {
     ghost coming = { λ _. None };
 
     fn next(&mut self) -> Item<N, S, K> {

@@ -17,18 +17,20 @@ use crate::took::Took;
 use crate::worker::Worker;
 use answer_cache::Keeps;
 use edge_io::{Clock, Endpoint, Link, Replies, SendError, Sink, Source};
+use ip_prefix::Transport;
 use policy_publish::StoreName;
 use reply_build::Said;
 use std::sync::Wait;
 
-// Sends the reply to a message, where there is one here, and says what became of the job.
+// Sends the reply to a message over its transport, where there is one here, and says what became of the job.
 fn send_reply<S: Source, K: Sink, P: Replies<S, K>>(
     replies: &mut P,
     peer: Endpoint,
+    transport: Transport,
     message: &[u8],
     what: &Outcome,
 ) -> Took
-    ensures sends { Sends peer message.now what.now result (P.sent replies.old)
+    ensures sends { Sends peer transport message.now what.now result (P.sent replies.old)
         (P.sent replies.new) }
     ensures closings { P.closings replies.new ≡ P.closings replies.old }
     ensures count { P.faults replies.old ≤ P.faults replies.new }
@@ -38,7 +40,7 @@ fn send_reply<S: Source, K: Sink, P: Replies<S, K>>(
         Outcome::PassedOn => Took::PassedOn,
         Outcome::Said(said) => match said {
             Said::Silent => Took::Silent,
-            Said::Reply(bytes) => match replies.send(peer, bytes.as_slice()) {
+            Said::Reply(bytes) => match replies.send(peer, transport, bytes.as_slice()) {
                 Ok(()) => Took::Reply,
                 Err(SendError::Failed) => Took::Failed,
                 Err(SendError::OutOfMemory) => Took::Memory,
@@ -46,7 +48,7 @@ fn send_reply<S: Source, K: Sink, P: Replies<S, K>>(
         },
         Outcome::NoMemory => match bare_reply(message) {
             None => Took::Memory,
-            Some(bytes) => match replies.send(peer, &bytes) {
+            Some(bytes) => match replies.send(peer, transport, &bytes) {
                 Err(SendError::Failed) => Took::Failed,
                 Ok(()) | Err(SendError::OutOfMemory) => Took::Memory,
             },
@@ -72,7 +74,13 @@ impl<N: StoreName, L: Link + Drop, A: Keeps<L> + Drop, B: Asks<L> + Drop> Worker
     {
         let now = clock.now();
         let what = self.settle(job, now, onward);
-        send_reply(replies, job.peer, job.message.as_slice(), &what)
+        send_reply(
+            replies,
+            job.peer,
+            job.transport,
+            job.message.as_slice(),
+            &what,
+        )
     }
 
     /// Handles an item: answers a job or passes it on, serves and closes a connection, learns what is told. A job or a message of a

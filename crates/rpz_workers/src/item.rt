@@ -20,7 +20,7 @@ pub struct Job {
 /// What a worker takes. Versions are those of the store that `N` names.
 #[derive(Drop)]
 pub enum Item<N: StoreName, S: Source + Drop, K: Sink + Drop> {
-    /// A message, whose reply goes out as one datagram.
+    /// A message, whose reply goes out over the transport over which it came.
     Job(Job),
     /// A connection of a client, with its messages.
     Connection {
@@ -36,7 +36,7 @@ pub enum Item<N: StoreName, S: Source + Drop, K: Sink + Drop> {
 
 /// Where items come from.
 ///
-/// Of a list in memory contracts know which items are still to come, and not of a channel.
+/// Of a list in memory contracts know which items are still to come, and not of an inlet or a channel.
 pub trait Items<N: StoreName, S: Source + Drop, K: Sink + Drop> {
     /// The items that `next` is still to give, in order, where they are known. After the last comes `Stop`.
     ghost coming: { Self → Option (List (items.Item N S K)) };

@@ -2,7 +2,6 @@
 
 ghost use Rattle.std.specs.Prelude.{None};
 
-use crate::channel_items::IDLE_SECONDS;
 use crate::item::{Item, Items, Job};
 use crate::list_onward::Passed;
 use crossbeam_channel::{Receiver, RecvTimeoutError};
@@ -11,6 +10,10 @@ use policy_publish::{Latest, StoreName};
 use std::sync::Wait;
 use std::time;
 use std::time::Duration;
+
+/// For how many seconds a thread waits for a message before it looks at what was published meanwhile, so that one that has nothing to do
+/// holds no old version of the policy for longer.
+const IDLE_SECONDS: u64 = 5;
 
 /// Messages out of a channel to which they were passed on, of which contracts know nothing. Before a message comes the list of
 /// transfers that the worker had seen which passed it on. Where nothing comes, the list that was published last comes, unless the

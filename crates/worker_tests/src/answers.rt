@@ -32,15 +32,21 @@ pub const FRESH: &[u8] =
 const AGED: &[u8] =
     b"\x12\x35\x81\x80\0\x01\0\x01\0\0\0\0\x01x\x07example\0\0\x01\0\x01\x01x\x07example\0\0\x01\0\x01\0\0\0\x01\0\x04\xc0\0\x02\x09";
 
-// The bytes of the worker's reply to the query at a given second.
-fn said<N: StoreName, A: Keeps<ListLink> + Drop>(
+// The denial by the rule of the last publication: rcode 3, and in the additional section the SOA of the policy zone, of the serial 1000.
+const BY_RULE: &[u8] = b"\x12\x35\x81\x83\0\x01\0\0\0\0\0\x01\x01x\x07example\0\0\x01\0\x01\
+    \x03rpz\x07example\0\0\x06\0\x01\0\0\0<\0\x16\0\0\0\0\x03\xe8\0\0\x0e\x10\0\0\x02X\0\x01Q\x80\0\0\0<";
+
+// Whether the worker's reply to the query at a given second is this.
+fn says<N: StoreName, A: Keeps<ListLink> + Drop>(
     alloc: Global,
     worker: &mut WorkerOver<N, A, NoGate>,
     now: u32,
-) -> Result<Octets, Fail> {
-    match worker.answer(&job(alloc, 53_000, QUERY)?, now)? {
-        Answered::Said(Said::Reply(bytes)) => Ok(bytes),
-        _ => Err("a reply".into()),
+    reply: &[u8],
+) -> Result<bool, Fail> {
+    let job = job(alloc, 53_000, QUERY)?;
+    match worker.answer(&job, now)? {
+        Answered::Said(Said::Reply(bytes)) => Ok(bytes.as_slice() == reply),
+        _ => Ok(false),
     }
 }
 
@@ -59,7 +65,9 @@ pub fn answer_all<N: StoreName, R: Wait + RandomSource + Abort + Copy + Drop>(
 ) -> Result<(), Fail> {
     answer_over_common(rt, alloc, readers)?;
     let mut worker = list_worker(alloc, readers, messages(alloc)?, NoGate)?;
-    answer_by_turns(rt, alloc, publisher, &mut worker)
+    let done = answer_by_turns(rt, alloc, publisher, &mut worker);
+    drop(worker);
+    done
 }
 
 fn answer_over_common<N: StoreName, R: Wait + RandomSource + Abort + Copy + Drop>(
@@ -67,9 +75,12 @@ fn answer_over_common<N: StoreName, R: Wait + RandomSource + Abort + Copy + Drop
     alloc: Global,
     readers: &mut Vec<PolicyReader<N>>,
 ) -> Result<(), Fail> {
+    let messages = messages(alloc)?;
     let hold = lone_hold(*rt, alloc)?;
-    let mut worker = worker_over(alloc, readers, hold, messages(alloc)?, NoGate)?;
-    answer_by_link_and_cache(rt, alloc, &mut worker)
+    let mut worker = worker_over(alloc, readers, hold, messages, NoGate)?;
+    let done = answer_by_link_and_cache(rt, alloc, &mut worker);
+    drop(worker);
+    done
 }
 
 // What the link gives.
@@ -90,7 +101,8 @@ fn answer_by_turns<N: StoreName, R: Wait + Abort>(
     answer_by_link_and_cache(rt, alloc, worker)?;
     publish_rule(rt, alloc, publisher)?;
     worker.learn(publisher.tell());
-    answer_by_rule(rt, alloc, worker)
+    assert!(rt; says(alloc, worker, 161, BY_RULE)?);
+    Ok(())
 }
 
 fn answer_by_link_and_cache<N: StoreName, A: Keeps<ListLink> + Drop, R: Abort>(
@@ -99,8 +111,7 @@ fn answer_by_link_and_cache<N: StoreName, A: Keeps<ListLink> + Drop, R: Abort>(
     worker: &mut WorkerOver<N, A, NoGate>,
 ) -> Result<(), Fail> {
     for (now, reply) in [(100, FRESH), (159, AGED), (160, FRESH)] {
-        let said = said(alloc, worker, now)?;
-        assert_eq!(rt; said.as_slice(), reply, "at {now}");
+        assert!(rt; says(alloc, worker, now, reply)?, "at {now}");
     }
     Ok(())
 }
@@ -112,15 +123,5 @@ fn publish_rule<N: StoreName, R: Wait + Abort>(
 ) -> Result<(), Fail> {
     let transfer = transfer(alloc, PUBLICATIONS).ok_or("a transfer")?;
     assert!(rt; publish(rt, publisher, transfer));
-    Ok(())
-}
-
-fn answer_by_rule<N: StoreName, R: Abort>(
-    rt: &R,
-    alloc: Global,
-    worker: &mut ListWorker<N, NoGate>,
-) -> Result<(), Fail> {
-    let denied = said(alloc, worker, 161)?;
-    assert!(rt; denied.as_slice().starts_with(b"\x12\x35\x81\x83"));
     Ok(())
 }

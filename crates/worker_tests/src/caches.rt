@@ -240,77 +240,69 @@ fn keeps<R: Wait + Drop>(
     }
 }
 
-// Whether a thread of its own could keep an address.
-fn keeps_there<R: Threads + Wait + Copy + Drop + Send + Sync + 'static>(
-    rt: R,
-    alloc: Global,
-    mut hold: Hold<R>,
-) -> Result<bool, Fail> {
-    let asked = question(alloc, ABC, rtype::A)?;
+// A question, and the bytes that answer it with one address.
+fn asked_and_given(alloc: Global, name: &[u8]) -> Result<(Question, Octets), Fail> {
+    let asked = question(alloc, name, rtype::A)?;
     let bytes = response(alloc, &asked.name, 1)?;
-    let thread = thread::spawn(&rt, move || keeps(alloc, &mut hold, &asked, &bytes))?;
-    Ok(thread.join(&rt))
+    Ok((asked, bytes))
 }
 
-// One hold finds at the second 159 what another one kept in a thread.
-fn read_back<R: Threads + Wait + RandomSource + Abort + Copy + Drop + Send + Sync + 'static>(
-    rt: R,
-    alloc: Global,
-) -> Result<(), Fail> {
-    let cache = common_cache(&rt, alloc)?;
-    let mut hold = Shared::new(rt, Arc::try_clone(&cache)?);
-    assert!(rt; keeps_there(rt, alloc, Shared::new(rt, cache))?);
-    assert!(rt; is_found(alloc, &mut hold, ABC, rtype::A, 159)?);
-    Ok(())
-}
-
-#[test]
-fn a_worker_reads_what_another_one_kept(rt: HostRuntime) -> Result<(), Fail> {
-    read_back(rt, rt.alloc())
-}
-
-// Whether this hold keeps an address while another one keeps it in a thread.
+// Whether this hold keeps an address while another one, in a thread, keeps it and that of another name.
 fn keep_at_once<R: Threads + Wait + Copy + Drop + Send + Sync + 'static>(
     rt: R,
     alloc: Global,
     own: &mut Hold<R>,
     mut other: Hold<R>,
 ) -> Result<bool, Fail> {
-    let asked = question(alloc, ABC, rtype::A)?;
-    let bytes = response(alloc, &asked.name, 1)?;
-    let same = question(alloc, ABC, rtype::A)?;
-    let same_bytes = response(alloc, &same.name, 1)?;
-    let thread = thread::spawn(&rt, move || keeps(alloc, &mut other, &same, &same_bytes))?;
+    let (asked, bytes) = asked_and_given(alloc, ABC)?;
+    let (same, same_bytes) = asked_and_given(alloc, ABC)?;
+    let (more, more_bytes) = asked_and_given(alloc, ACB)?;
+    let thread = thread::spawn(&rt, move || {
+        keeps(alloc, &mut other, &same, &same_bytes) && keeps(alloc, &mut other, &more, &more_bytes)
+    })?;
     let kept = keeps(alloc, own, &asked, &bytes);
     Ok(thread.join(&rt) && kept)
 }
 
-fn kept_at_once<R: Threads + Wait + RandomSource + Abort + Copy + Drop + Send + Sync + 'static>(
+// Whether this hold finds both at the second 159.
+fn finds_both<R: Wait + Drop>(alloc: Global, hold: &mut Hold<R>) -> Result<bool, Fail> {
+    for name in [ABC, ACB] {
+        if !is_found(alloc, hold, name, rtype::A, 159)? {
+            return Ok(false);
+        }
+    }
+    Ok(true)
+}
+
+fn kept_at_once<R: Threads + Wait + RandomSource + Copy + Drop + Send + Sync + 'static>(
     rt: R,
     alloc: Global,
-) -> Result<(), Fail> {
+) -> Result<bool, Fail> {
     let cache = common_cache(&rt, alloc)?;
     let mut own = Shared::new(rt, Arc::try_clone(&cache)?);
-    assert!(rt; keep_at_once(rt, alloc, &mut own, Shared::new(rt, cache))?);
-    assert!(rt; is_found(alloc, &mut own, ABC, rtype::A, 159)?);
-    Ok(())
+    let kept = keep_at_once(rt, alloc, &mut own, Shared::new(rt, cache))?;
+    Ok(kept && finds_both(alloc, &mut own)?)
 }
 
 #[test]
 fn two_workers_keep_one_question_at_once(rt: HostRuntime) -> Result<(), Fail> {
     for _turn in 0..20 {
-        kept_at_once(rt, rt.alloc())?;
+        assert!(rt; kept_at_once(rt, rt.alloc())?);
     }
     Ok(())
 }
 
 // Whether an answer of so many addresses is there once it was to be kept.
 fn is_kept<R: Wait + RandomSource + Drop>(rt: R, alloc: Global, count: u8) -> Result<bool, Fail> {
-    let mut hold = lone_hold(rt, alloc)?;
     let asked = question(alloc, ABC, rtype::A)?;
     let entry = learned(alloc, &asked, count, 100)?;
-    hold.keep(alloc, &asked, &entry)?;
-    is_found(alloc, &mut hold, ABC, rtype::A, 100)
+    let mut hold = lone_hold(rt, alloc)?;
+    let found = match hold.keep(alloc, &asked, &entry) {
+        Ok(()) => is_found(alloc, &mut hold, ABC, rtype::A, 100),
+        Err(error) => Err(error.into()),
+    };
+    drop(hold);
+    found
 }
 
 // But for its TTL each record has 23 octets: 89 have 2,047, and 90 have 2,070, more than 2 KiB.

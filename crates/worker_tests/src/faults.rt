@@ -12,7 +12,6 @@ use std::alloc::Global;
 use std::process::Abort;
 use std::sync::Wait;
 use std::test::Fail;
-use std::time::Clock;
 
 // A connection with two messages, a byte a call.
 const BYTEWISE: Stream = Stream {
@@ -22,7 +21,7 @@ const BYTEWISE: Stream = Stream {
 };
 
 // Each read fails in turn, that at the end too: the messages that were whole by then are answered.
-fn fail_reads<N: StoreName, R: Wait + Abort + Clock + Copy + Drop>(
+fn fail_reads<N: StoreName, R: Wait + Abort + Copy + Drop>(
     rt: &R,
     alloc: Global,
     publisher: &Publisher<N>,
@@ -53,7 +52,7 @@ fn fail_reads<N: StoreName, R: Wait + Abort + Clock + Copy + Drop>(
 }
 
 // Each write fails in turn: what was written before it stays.
-fn fail_writes<N: StoreName, R: Wait + Abort + Clock + Copy + Drop>(
+fn fail_writes<N: StoreName, R: Wait + Abort + Copy + Drop>(
     rt: &R,
     alloc: Global,
     publisher: &Publisher<N>,
@@ -84,7 +83,7 @@ fn a_connection_fails_at_each_call(rt: HostRuntime) -> Result<(), Fail> {
 }
 
 /// Each read and each write of a connection fails in turn.
-pub fn fail_all<N: StoreName, R: Wait + Abort + Clock + Copy + Drop>(
+pub fn fail_all<N: StoreName, R: Wait + Abort + Copy + Drop>(
     rt: &R,
     alloc: Global,
     publisher: &mut Publisher<N>,
@@ -92,10 +91,12 @@ pub fn fail_all<N: StoreName, R: Wait + Abort + Clock + Copy + Drop>(
 ) -> Result<(), Fail> {
     load(rt, alloc, publisher)?;
     let mut worker = list_worker(alloc, readers, Vec::new(alloc), NoGate)?;
-    fail_calls(rt, alloc, publisher, &mut worker)
+    let done = fail_calls(rt, alloc, publisher, &mut worker);
+    drop(worker);
+    done
 }
 
-fn fail_calls<N: StoreName, R: Wait + Abort + Clock + Copy + Drop>(
+fn fail_calls<N: StoreName, R: Wait + Abort + Copy + Drop>(
     rt: &R,
     alloc: Global,
     publisher: &Publisher<N>,

@@ -9,11 +9,9 @@ mod caches;
 #[cfg(test)]
 mod cases;
 #[cfg(test)]
-mod channels;
-#[cfg(test)]
 mod faults;
 #[cfg(test)]
-mod meetings;
+mod items;
 #[cfg(test)]
 mod messages;
 #[cfg(test)]
@@ -27,6 +25,6 @@ mod runs;
 #[cfg(test)]
 mod stores;
 #[cfg(test)]
-mod tasks;
+mod test_inlet;
 #[cfg(test)]
 mod workers;

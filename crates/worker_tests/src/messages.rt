@@ -1,12 +1,11 @@
 //! Messages of clients and their replies (RFC 1035, section 4.1), by the policy of [`POLICY`]. Each question to the upstream fails.
 
-/// A transfer of the zone `rpz.example` in one message behind its length (RFC 5936, section 2.2): the serial 1, and the rows
-/// `bad.example` CNAME `.`, by which the name doesn't exist, and `gone.example` CNAME `rpz-drop.`, by which there is no reply.
-pub const POLICY: &[u8] = b"\0\xc9\0\0\x84\0\0\x01\0\x04\0\0\0\0\x03rpz\x07example\0\0\xfc\0\x01\
-    \x03rpz\x07example\0\0\x06\0\x01\0\0\0<\0\x16\0\0\0\0\0\x01\0\0\x0e\x10\0\0\x02X\0\x01Q\x80\0\0\0<\
-    \x03bad\x07example\x03rpz\x07example\0\0\x05\0\x01\0\0\0<\0\x01\0\
-    \x04gone\x07example\x03rpz\x07example\0\0\x05\0\x01\0\0\0<\0\x0a\x08rpz-drop\0\
-    \x03rpz\x07example\0\0\x06\0\x01\0\0\0<\0\x16\0\0\0\0\0\x01\0\0\x0e\x10\0\0\x02X\0\x01Q\x80\0\0\0<";
+/// The rows of the zone `rpz.example`, as they stand in a message: `bad.example` CNAME `.`, by which the name doesn't exist, and
+/// `gone.example` CNAME `rpz-drop.`, by which there is no reply.
+pub const POLICY: [&[u8]; 2] = [
+    b"\x03bad\x07example\x03rpz\x07example\0\0\x05\0\x01\0\0\0<\0\x01\0",
+    b"\x04gone\x07example\x03rpz\x07example\0\0\x05\0\x01\0\0\0<\0\x0a\x08rpz-drop\0",
+];
 
 /// A query of the ID 1111 for the address of `bad.example`.
 pub const DENIED: &[u8] = b"\x11\x11\x01\0\0\x01\0\0\0\0\0\0\x03bad\x07example\0\0\x01\0\x01";

@@ -25,8 +25,8 @@ const STREAM: &[u8] =
 const CURRENT: &[u8] =
     b"\0\x4a\0\0\x84\0\0\x01\0\x01\0\0\0\0\x03rpz\x07example\0\0\xfb\0\x01\x03rpz\x07example\0\0\x06\0\x01\0\0\0<\0\x16\0\0\0\0\0\x01\0\0\x0e\x10\0\0\x02X\0\x01Q\x80\0\0\0<";
 
-/// What a poll gives over this stream, three bytes a call, and what it writes. The writes of the numbers in `failing` fail.
-pub fn polled<N: StoreName, R: Wait>(
+// What a poll gives over this stream, three bytes a call, and what it writes. The writes of the numbers in `failing` fail.
+fn polled<N: StoreName, R: Wait>(
     rt: &R,
     alloc: Global,
     publisher: &mut Publisher<N>,

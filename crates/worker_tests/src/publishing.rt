@@ -27,9 +27,9 @@ struct News<N: StoreName> {
 // `x.example.rpz.example` CNAME `.`: the name `x.example` doesn't exist.
 const RULE: &[u8] = b"\x01x\x07example\x03rpz\x07example\0\0\x05\0\x01\0\0\0<\0\x01\0";
 
-// The row of the rule.
-fn rule(alloc: Global) -> Option<Row> {
-    let (rr, _) = read_record(alloc, RULE, 0).ok()?;
+// The row that a record is, as it stands in a message (RFC 1035, section 3.2.1).
+fn row(alloc: Global, record: &[u8]) -> Option<Row> {
+    let (rr, _) = read_record(alloc, record, 0).ok()?;
     if rr.class() != class::IN {
         return None;
     }
@@ -44,23 +44,42 @@ fn has_rule(alloc: Global, version: &Snapshot) -> Option<bool> {
     Some(rule.is_some())
 }
 
-/// A whole transfer of this serial: the last one has the rule, the others no row.
-pub fn transfer(alloc: Global, serial: u32) -> Option<Transfer> {
-    let mut rows = Rows::new(alloc);
-    if serial == PUBLICATIONS {
-        rows.push(rule(alloc)?).ok()?;
-    }
-    let soa = Soa {
-        mname: Name::from_text(alloc, b"ns.example").ok()?,
-        rname: Name::from_text(alloc, b"root.example").ok()?,
+fn soa(alloc: Global, serial: u32) -> Option<Soa> {
+    Some(Soa {
+        mname: Name::root(alloc).ok()?,
+        rname: Name::root(alloc).ok()?,
         serial,
         refresh: 3_600,
         retry: 600,
         expire: 86_400,
         minimum: 60,
         ttl: 60,
-    };
+    })
+}
+
+// The rows that these records are.
+fn rows(alloc: Global, records: &[&'static [u8]]) -> Option<Rows> {
+    let mut rows = Rows::new(alloc);
+    for record in records {
+        rows.push(row(alloc, record)?).ok()?;
+    }
+    Some(rows)
+}
+
+/// A whole transfer of this serial with the rows that these records are.
+pub fn whole(alloc: Global, serial: u32, records: &[&'static [u8]]) -> Option<Transfer> {
+    let soa = soa(alloc, serial)?;
+    let rows = rows(alloc, records)?;
     Some(Transfer::Whole { soa, rows })
+}
+
+/// A whole transfer of this serial: the last one has the rule, the others no row.
+pub fn transfer(alloc: Global, serial: u32) -> Option<Transfer> {
+    if serial == PUBLICATIONS {
+        whole(alloc, serial, &[RULE])
+    } else {
+        whole(alloc, serial, &[])
+    }
 }
 
 // The version that is published: for how many publications it stands, and whether it has the rule.
@@ -210,9 +229,9 @@ fn start_all<
     threads: &mut Vec<Following>,
 ) -> Result<(), Fail> {
     for _ in 0..readers.len() {
-        let reader = readers.pop().ok_or("a reader")?;
         let (sender, receiver) = unbounded(alloc)?;
         to.push(sender)?;
+        let reader = readers.pop().ok_or("a reader")?;
         threads.push(start(rt, alloc, reader, receiver)?)?;
     }
     Ok(())

@@ -1,29 +1,34 @@
-//! Runs of a worker over items in a list and in a channel.
+//! Runs of a worker over items in a list and out of an inlet.
 
 use crate::cases::{Case, Input, Stream, all_cases};
 use crate::messages::POLICY;
-use crate::polls::polled;
+use crate::publishing::{publish, whole};
 use crate::stores::{Trial, attempt};
+use crate::test_inlet::{InletStage, TestItems, items_of};
 use crate::workers::{ListWorker, client, job, list_worker};
-use crossbeam_channel::unbounded;
-use edge_io::{ListClock, ListReplies, ListSink, ListSource, SentReply, StreamEnd, read_full};
-use policy_feed::Polled;
-use policy_publish::{Latest, PolicyReader, Publication, Publisher, StoreName};
-use rpz_workers::{ChannelItems, Item, Items, ListItems, NoGate, NoOnward, Report};
+use dns_name::Octets;
+use edge_io::{
+    Arrival, ListClock, ListReplies, ListSink, ListSource, Received, SentReply, StreamEnd,
+    read_full,
+};
+use ip_prefix::Transport;
+use policy_publish::{Latest, PolicyReader, Publisher, StoreName};
+use rpz_workers::{Item, Items, ListItems, NoGate, NoOnward};
 use std::alloc::Global;
 use std::collections::VecDeque;
 use std::process::Abort;
 use std::sync::Wait;
 use std::test::Fail;
-use std::time::Clock;
 
 type ListItem<N> = Item<N, ListSource, ListSink>;
+
+type ListReceived = Received<ListSource, ListSink>;
 
 /// Replies in memory.
 pub type Kept = ListReplies<ListSource, ListSink>;
 
-// The two sides of a connection.
-fn sides(alloc: Global, stream: &Stream) -> Result<(ListSource, ListSink), Fail> {
+/// The two sides of a connection.
+pub fn sides(alloc: Global, stream: &Stream) -> Result<(ListSource, ListSink), Fail> {
     let mut bytes = Vec::new(alloc);
     for _ in 0..stream.times {
         bytes.extend_from_slice(stream.bytes)?;
@@ -76,32 +81,59 @@ fn listed<N: StoreName>(
     Ok(ListItems::new(items))
 }
 
-/// The items of a case in a channel without a sender. What is published comes before the first of them.
-pub fn sent<N: StoreName, R: Wait + Clock + Copy + Drop>(
+// What an inlet does for an item of a case. Where a list is told, it publishes that, and nothing comes.
+fn stage<N: StoreName>(
+    alloc: Global,
+    publisher: &Publisher<N>,
+    input: &Input,
+) -> Result<InletStage<N>, Fail> {
+    let (told, received) = match input {
+        Input::Job(port, message) => (None, datagram(alloc, *port, message)?),
+        Input::Connection(stream) => (None, opened(alloc, stream)?),
+        Input::Told => (Some(publisher.tell()), Received::Nothing),
+        Input::Stop => (None, Received::End),
+    };
+    Ok(InletStage { told, received })
+}
+
+fn datagram(alloc: Global, port: u16, message: &[u8]) -> Result<ListReceived, Fail> {
+    Ok(Received::Arrival(Arrival::Datagram {
+        peer: client(port),
+        bytes: Octets::from_slice(alloc, message)?,
+    }))
+}
+
+fn opened(alloc: Global, stream: &Stream) -> Result<ListReceived, Fail> {
+    let (source, sink) = sides(alloc, stream)?;
+    Ok(Received::Arrival(Arrival::Connection {
+        source,
+        sink,
+        client: client(1),
+    }))
+}
+
+fn stages<N: StoreName>(
+    alloc: Global,
+    publisher: &Publisher<N>,
+    inputs: &[Input],
+) -> Result<VecDeque<InletStage<N>>, Fail> {
+    let mut stages = VecDeque::new(alloc);
+    for input in inputs {
+        stages.push_back(stage(alloc, publisher, input)?)?;
+    }
+    Ok(stages)
+}
+
+// The items of a case out of an inlet. What is published comes before the first of them.
+fn received<N: StoreName, R: Wait + Copy + Drop>(
     rt: &R,
     alloc: Global,
     publisher: &Publisher<N>,
     inputs: &[Input],
-) -> Result<ChannelItems<N, ListSource, ListSink, R>, Fail> {
-    let (sender, receiver) = unbounded(alloc)?;
-    for input in inputs {
-        if sender.send(rt, item(alloc, publisher, input)?).is_err() {
-            return Err("a message".into());
-        }
-    }
+) -> Result<TestItems<N, R>, Fail> {
     let latest = Latest::start(alloc, publisher.tell())?;
-    Ok(ChannelItems::new(*rt, receiver, latest))
-}
-
-/// The numbers of a report, as those of a case.
-pub fn numbers(report: &Report) -> [u64; 5] {
-    [
-        report.jobs,
-        report.replies,
-        report.silent,
-        report.memory,
-        report.failed,
-    ]
+    let stages = stages(alloc, publisher, inputs)?;
+    items_of(*rt, &latest, stages)
 }
 
 // How a connection ended, and what was written to it and left of it, is what is expected.
@@ -119,13 +151,45 @@ fn assert_ended<R: Abort>(
     Ok(())
 }
 
-// The replies that were sent are those that are expected.
+// The replies that were sent are those that are expected, over UDP.
 fn assert_sent<R: Abort>(rt: &R, sent: &[SentReply], case: &Case) {
     assert_eq!(rt; sent.len(), case.sent.len(), "{}", case.name);
     for (reply, (port, bytes)) in sent.iter().zip(case.sent) {
         assert_eq!(rt; reply.peer, client(*port), "{}", case.name);
+        assert_eq!(rt; reply.transport, Transport::Udp, "{}", case.name);
         assert_eq!(rt; reply.bytes.as_slice(), *bytes, "{}", case.name);
     }
+}
+
+// The connections that were closed, and what came of the last of them, are what is expected.
+fn assert_closed<R: Abort>(rt: &R, replies: &mut Kept, case: &Case) -> Result<(), Fail> {
+    assert_eq!(rt; replies.closed, case.closed, "{}", case.name);
+    match &mut replies.last {
+        Some((source, sink, end)) => assert_ended(rt, source, sink, *end, case),
+        None => {
+            assert!(rt; case.end.is_none(), "{}", case.name);
+            Ok(())
+        }
+    }
+}
+
+// Runs a worker over items, and says what became of the jobs.
+fn work_over<N: StoreName, Q: Items<N, ListSource, ListSink>, R: Wait>(
+    rt: &R,
+    alloc: Global,
+    worker: &mut ListWorker<N, NoGate>,
+    items: &mut Q,
+    replies: &mut Kept,
+) -> [u64; 5] {
+    let mut clock = ListClock::new(alloc, VecDeque::new(alloc));
+    let report = worker.work(rt, items, replies, &mut clock, &mut NoOnward);
+    [
+        report.jobs,
+        report.replies,
+        report.silent,
+        report.memory,
+        report.failed,
+    ]
 }
 
 // Runs a worker over items, and looks at all that came of it.
@@ -137,18 +201,14 @@ fn run_over<N: StoreName, Q: Items<N, ListSource, ListSink>, R: Wait + Abort>(
     case: &Case,
 ) -> Result<(), Fail> {
     let mut replies: Kept = ListReplies::new(alloc, vec![in alloc; case.failing_send]?);
-    let mut clock = ListClock::new(alloc, VecDeque::new(alloc));
-    let report = worker.work(rt, items, &mut replies, &mut clock, &mut NoOnward);
-    assert_eq!(rt; numbers(&report), case.report, "{}", case.name);
-    assert_sent(rt, &replies.sent, case);
-    assert_eq!(rt; replies.closed, case.closed, "{}", case.name);
-    match replies.last.take() {
-        Some((mut source, sink, end)) => assert_ended(rt, &mut source, &sink, end, case),
-        None => {
-            assert!(rt; case.end.is_none(), "{}", case.name);
-            Ok(())
-        }
-    }
+    let report = work_over(rt, alloc, worker, items, &mut replies);
+    assert_report(rt, report, &replies.sent, case);
+    assert_closed(rt, &mut replies, case)
+}
+
+fn assert_report<R: Abort>(rt: &R, report: [u64; 5], sent: &[SentReply], case: &Case) {
+    assert_eq!(rt; report, case.report, "{}", case.name);
+    assert_sent(rt, sent, case);
 }
 
 // Serves the first connection of a case by itself.
@@ -170,39 +230,49 @@ fn serve_alone<N: StoreName, R: Abort>(
     assert_ended(rt, &mut source, &sink, end, case)
 }
 
-/// Runs a case over a list and over a channel.
-pub fn run_case<N: StoreName, R: Wait + Abort + Clock + Copy + Drop>(
+fn run_listed<N: StoreName, R: Wait + Abort>(
     rt: &R,
     alloc: Global,
     publisher: &Publisher<N>,
     worker: &mut ListWorker<N, NoGate>,
     case: &Case,
 ) -> Result<(), Fail> {
-    run_over(
-        rt,
-        alloc,
-        worker,
-        &mut listed(alloc, publisher, case.items)?,
-        case,
-    )?;
-    run_over(
-        rt,
-        alloc,
-        worker,
-        &mut sent(rt, alloc, publisher, case.items)?,
-        case,
-    )?;
+    let mut items = listed(alloc, publisher, case.items)?;
+    run_over(rt, alloc, worker, &mut items, case)
+}
+
+fn run_received<N: StoreName, R: Wait + Abort + Copy + Drop>(
+    rt: &R,
+    alloc: Global,
+    publisher: &Publisher<N>,
+    worker: &mut ListWorker<N, NoGate>,
+    case: &Case,
+) -> Result<(), Fail> {
+    let mut items = received(rt, alloc, publisher, case.items)?;
+    run_over(rt, alloc, worker, &mut items, case)
+}
+
+/// Runs a case over a list and over an inlet.
+pub fn run_case<N: StoreName, R: Wait + Abort + Copy + Drop>(
+    rt: &R,
+    alloc: Global,
+    publisher: &Publisher<N>,
+    worker: &mut ListWorker<N, NoGate>,
+    case: &Case,
+) -> Result<(), Fail> {
+    run_listed(rt, alloc, publisher, worker, case)?;
+    run_received(rt, alloc, publisher, worker, case)?;
     serve_alone(rt, alloc, worker, case)
 }
 
-/// Publishes the policy of the cases.
+/// Publishes the policy of the cases, with the serial 1.
 pub fn load<N: StoreName, R: Wait + Abort>(
     rt: &R,
     alloc: Global,
     publisher: &mut Publisher<N>,
 ) -> Result<(), Fail> {
-    let (loaded, _) = polled(rt, alloc, publisher, POLICY, Vec::new(alloc))?;
-    assert_eq!(rt; loaded, Ok(Polled::New(Publication { serial: 1, rows: 2 })));
+    let transfer = whole(alloc, 1, &POLICY).ok_or("a transfer")?;
+    assert!(rt; publish(rt, publisher, transfer));
     Ok(())
 }
 
@@ -212,7 +282,7 @@ fn a_worker_runs_over_items(rt: HostRuntime) -> Result<(), Fail> {
 }
 
 /// Each case is run.
-pub fn run_all<N: StoreName, R: Wait + Abort + Clock + Copy + Drop>(
+pub fn run_all<N: StoreName, R: Wait + Abort + Copy + Drop>(
     rt: &R,
     alloc: Global,
     publisher: &mut Publisher<N>,
@@ -220,10 +290,12 @@ pub fn run_all<N: StoreName, R: Wait + Abort + Clock + Copy + Drop>(
 ) -> Result<(), Fail> {
     load(rt, alloc, publisher)?;
     let mut worker = list_worker(alloc, readers, Vec::new(alloc), NoGate)?;
-    run_cases(rt, alloc, publisher, &mut worker)
+    let done = run_cases(rt, alloc, publisher, &mut worker);
+    drop(worker);
+    done
 }
 
-fn run_cases<N: StoreName, R: Wait + Abort + Clock + Copy + Drop>(
+fn run_cases<N: StoreName, R: Wait + Abort + Copy + Drop>(
     rt: &R,
     alloc: Global,
     publisher: &Publisher<N>,

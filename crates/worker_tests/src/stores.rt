@@ -3,14 +3,12 @@
 ghost use Rattle.std.specs.Prelude.{◌≡◌};
 
 use crate::answers::answer_all;
-use crate::channels::{pass_two, take_all};
 use crate::faults::fail_all;
-use crate::meetings::meet_all;
+use crate::items::{pass_two, take_all};
 use crate::passing::{pass_all, pass_one_of_two, refuse_one};
 use crate::polls::poll_all;
 use crate::publishing::follow_all;
 use crate::runs::run_all;
-use crate::tasks::start_one;
 use dns_name::Name;
 use policy_publish::{Parts, PolicyReader, Publisher, StoreName, start_store};
 use std::alloc::Global;
@@ -30,12 +28,10 @@ pub enum Trial {
     Publishing,
     Runs,
     Faults,
-    Tasks,
-    Meetings,
     Passing,
     NoRoom,
     PassingStream,
-    Channels,
+    Inlets,
     Passed,
 }
 
@@ -76,12 +72,10 @@ fn attempt_over<
         Trial::Publishing => follow_all(rt, alloc, publisher, readers),
         Trial::Runs => run_all(rt, alloc, publisher, readers),
         Trial::Faults => fail_all(rt, alloc, publisher, readers),
-        Trial::Tasks => start_one(rt, alloc, publisher, readers),
-        Trial::Meetings => meet_all(rt, alloc, publisher, readers),
         Trial::Passing => pass_all(rt, alloc, publisher, readers),
         Trial::NoRoom => refuse_one(rt, alloc, readers),
         Trial::PassingStream => pass_one_of_two(rt, alloc, readers),
-        Trial::Channels => take_all(rt, alloc, publisher),
+        Trial::Inlets => take_all(rt, alloc, publisher),
         Trial::Passed => pass_two(rt, alloc, publisher, readers),
     }
 }

@@ -87,11 +87,21 @@ pub fn client(port: u16) -> Endpoint {
     }
 }
 
-/// A message of the client over UDP.
-pub fn job(alloc: Global, port: u16, message: &[u8]) -> Result<Job, Fail> {
+/// A message of the client.
+pub fn job_over(
+    alloc: Global,
+    transport: Transport,
+    port: u16,
+    message: &[u8],
+) -> Result<Job, Fail> {
     Ok(Job {
         peer: client(port),
-        transport: Transport::Udp,
+        transport,
         message: Octets::from_slice(alloc, message)?,
     })
+}
+
+/// A message of the client over UDP.
+pub fn job(alloc: Global, port: u16, message: &[u8]) -> Result<Job, Fail> {
+    job_over(alloc, Transport::Udp, port, message)
 }
