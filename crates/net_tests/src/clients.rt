@@ -3,38 +3,32 @@
 ghost use Rattle.std.specs.Prelude.{◌≤◌, length};
 
 use crate::loopback::at;
-use edge_io::{Arrival, FRAME_MAX, FrameError, FrameFault, Sink, Wires, read_frame, write_frame};
+use edge_io::{
+    Arrival, FRAME_MAX, FrameError, FrameFault, Inlet, Received, Sink, Wires, read_frame,
+    write_frame,
+};
 use rpz_net::limits::{CLIENT_BUFFER, FRAME_SECONDS};
 use rpz_net::{NetWires, TcpSink, TcpSource, address_of};
 use std::alloc::Global;
 use std::io::{Read, Write};
 use std::net::{Net, TcpListener, TcpStream};
-use std::sync::Wait;
 use std::test::Fail;
 use std::time::{Duration, Instant};
 use std::{io, thread, time};
 
 // A client that sends these bytes to the wires, which serve this port from then on, and both sides of its connection, as it comes.
-fn arrive<
-    R: Net<Listener = TcpListener, Stream = TcpStream>
-        + time::Clock
-        + Wait
-        + Copy
-        + Drop
-        + Send
-        + 'static,
->(
+fn arrive<R: Net<Listener = TcpListener, Stream = TcpStream>, W: Wires>(
     rt: &R,
-    wires: &mut NetWires<R>,
+    wires: &mut W,
     port: u16,
     bytes: &[u8],
-) -> Result<(TcpStream, TcpSource<R>, TcpSink<R>), Fail> {
+) -> Result<(TcpStream, W::In, W::Out), Fail> {
     wires.bind(at(port))?;
     let mut client = rt.connect(address_of(at(port)))?;
     client.write_all(bytes)?;
-    match wires.next()? {
-        Arrival::Connection { source, sink, .. } => Ok((client, source, sink)),
-        Arrival::Datagram { .. } => Err("a connection".into()),
+    match wires.connections()?.next() {
+        Received::Arrival(Arrival::Connection { source, sink, .. }) => Ok((client, source, sink)),
+        _ => Err("a connection".into()),
     }
 }
 

@@ -3,11 +3,17 @@
 #![tactic(auto)]
 
 #[cfg(test)]
-mod arrivals;
-#[cfg(test)]
 mod clients;
 #[cfg(test)]
+mod connections;
+#[cfg(test)]
+mod datagrams;
+#[cfg(test)]
+mod ends;
+#[cfg(test)]
 mod loopback;
+#[cfg(test)]
+mod notifies;
 #[cfg(test)]
 mod primaries;
 #[cfg(test)]

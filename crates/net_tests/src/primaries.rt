@@ -1,67 +1,106 @@
-//! Connections to primary servers, and calls where nobody is.
+//! Transfers that are ordered of primary servers.
 
 use crate::loopback::at;
-use edge_io::{Link, LinkError, WireError, Wires};
-use rpz_net::limits::{BACKOFF_MOST, BACKOFF_SECONDS};
+use edge_io::{Order, OrderEnd, Wake, WireError, Wires};
 use rpz_net::{NetWires, address_of};
-use std::net::{Net, TcpListener, TcpStream};
+use std::io::{Read, Write};
+use std::net::{Net, TcpListener};
+use std::process::Abort;
 use std::test::Fail;
-use std::time::Duration;
-use std::{io, thread};
+use std::time::{Duration, Instant};
+use std::{io, thread, time};
 
-// Calls of wires that aren't bound, an upstream and a primary server that aren't there; and that server once it is.
+// The next wake that says more than that a second has passed.
+fn next<W: Wires>(wires: &mut W) -> Option<Wake> {
+    for _ in 0..10u32 {
+        match wires.wait() {
+            Ok(Wake::Due) => {}
+            Ok(wake) => return Some(wake),
+            Err(_) => return None,
+        }
+    }
+    None
+}
+
+// How the next order ends of which nothing else comes.
+fn next_end<W: Wires>(wires: &mut W) -> Option<(u64, OrderEnd)> {
+    match next(wires)? {
+        Wake::Over { order, why } => Some((order.number, why)),
+        _ => None,
+    }
+}
+
+// A primary server that reads the request of nine bytes, with its length, and sends two messages.
+fn serve_two(listener: &TcpListener) -> io::Result<[u8; 9]> {
+    let (mut stream, _) = listener.accept()?;
+    let mut request = [0; 9];
+    stream.read_exact(&mut request)?;
+    stream.write_all(b"\0\x02hi\0\x05there")?;
+    Ok(request)
+}
+
+// The messages come, and then the end.
+fn take_two<W: Wires>(rt: &impl Abort, wires: &mut W) -> bool {
+    for message in [b"hi".as_slice(), b"there"] {
+        match next(wires) {
+            Some(Wake::Frame { order, bytes }) => {
+                assert_eq!(rt; (order.number, bytes.as_slice() == message), (0, true));
+            }
+            _ => return false,
+        }
+    }
+    next_end(wires) == Some((0, OrderEnd::End))
+}
+
 #[test]
-fn calls_fail_where_nobody_is(rt: HostRuntime) -> Result<(), Fail> {
+fn the_messages_of_a_primary_come(rt: HostRuntime) -> Result<(), Fail> {
+    let primary = rt.bind(address_of(at(29167)))?;
     let mut wires = NetWires::new(rt, rt.alloc());
-    assert!(rt; matches!(wires.next(), Err(WireError::Failed)));
-    assert!(rt; matches!(wires.replies(), Err(WireError::Failed)));
-    assert!(rt; matches!(wires.fetch(at(29158)), Err(WireError::Failed)));
-    let mut link = wires.link(at(29158))?;
-    assert!(rt;
-        matches!(
-            link.exchange(rt.alloc(), b"question", 7),
-            Err(LinkError::Failed)
-        )
+    assert_eq!(rt; begin(&mut wires, 29166, 29167)?, Order { number: 0 });
+    let (request, is_whole) = thread::join(
+        &rt,
+        || serve_two(&primary),
+        || take_two(&rt, &mut wires),
     );
-    drop(link);
-    let _primary = rt.bind(address_of(at(29158)))?;
-    assert!(rt; matches!(wires.fetch(at(29158)), Err(WireError::Failed)));
-    assert!(rt; NetWires::new(rt, rt.alloc()).fetch(at(29158)).is_ok());
+    assert_eq!(rt; request?, *b"\0\x07request");
+    assert!(rt; is_whole);
     Ok(())
 }
 
-// The ports of one server more than can be left alone at a time.
-const FIRST: u16 = 29_200;
-
-const LAST: u16 = FIRST + BACKOFF_MOST as u16;
-
-// Each server is left alone from its first failure on. The last one takes the place of the one that was noted first, which is asked
-// again; the others are once `BACKOFF_SECONDS` are over.
 #[test]
-fn servers_are_left_alone(rt: HostRuntime) -> Result<(), Fail> {
+fn an_order_ends_where_nobody_is(rt: HostRuntime) -> Result<(), Fail> {
     let mut wires = NetWires::new(rt, rt.alloc());
-    for port in FIRST..=LAST {
-        assert!(rt;
-            matches!(wires.fetch(at(port)), Err(WireError::Failed)),
-            "port {port}"
-        );
-    }
-    let primaries = listen(&rt)?;
-    for (port, is_asked) in [(FIRST, true), (FIRST + 1, false), (LAST, false)] {
-        assert_eq!(rt; wires.fetch(at(port)).is_ok(), is_asked, "port {port}");
-    }
-    thread::sleep(&rt, Duration::from_secs(BACKOFF_SECONDS));
-    assert!(rt; wires.fetch(at(FIRST + 1)).is_ok());
-    drop(primaries);
+    begin(&mut wires, 29168, 29169)?;
+    assert_eq!(rt; next_end(&mut wires), Some((0, OrderEnd::FetchFault)));
     Ok(())
 }
 
-// Three of the servers take connections.
-fn listen<R: Net<Listener = TcpListener, Stream = TcpStream>>(
+// Serves a port, and orders a transfer of the primary server at another one.
+fn begin<W: Wires>(wires: &mut W, port: u16, primary: u16) -> Result<Order, WireError> {
+    wires.bind(at(port))?;
+    wires.order(at(primary), b"request")
+}
+
+// The primary server takes the connection, by its system alone, and says nothing.
+#[test]
+fn a_silent_primary_holds_nobody(rt: HostRuntime) -> Result<(), Fail> {
+    let _primary = rt.bind(address_of(at(29201)))?;
+    let mut wires = NetWires::new(rt, rt.alloc());
+    let order = begin(&mut wires, 29200, 29201)?;
+    assert!(rt; matches!(wires.wait(), Ok(Wake::Due)));
+    assert!(rt; lets_go(&rt, &mut wires, order)? < Duration::from_millis(500));
+    Ok(())
+}
+
+// How long it takes to let one order go, and then another by `stop`.
+fn lets_go<R: time::Clock, W: Wires>(
     rt: &R,
-) -> io::Result<[TcpListener; 3]> {
-    let first = rt.bind(address_of(at(FIRST)))?;
-    let second = rt.bind(address_of(at(FIRST + 1)))?;
-    let last = rt.bind(address_of(at(LAST)))?;
-    Ok([first, second, last])
+    wires: &mut W,
+    order: Order,
+) -> Result<Duration, Fail> {
+    wires.order(at(29201), b"request")?;
+    let start = Instant::now(rt)?;
+    wires.forget(order);
+    wires.stop();
+    Ok(start.elapsed(rt)?)
 }

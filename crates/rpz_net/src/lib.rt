@@ -1,30 +1,44 @@
 //! The edge of a server over the system's sockets, clock and random numbers: the wires of `edge_io` over a UDP socket and a TCP
 //! listener, the two sides of a TCP connection, a link to the upstream, a place for replies, a clock and IDs.
 //!
-//! Each counts its faults, and tells nothing of what the network gives or takes. Every wait for a peer has a limit, in `limits`; only
-//! the wait for the next arrival has none.
+//! Each counts its faults, and tells nothing of what the network gives or takes. Every wait has a limit, in `limits`. No thread that
+//! answers clients waits for one of them, nor does the thread that has the wires.
 #![tactic(auto)]
 
 mod address;
-mod backoff;
 mod connection;
+mod connection_inlet;
+mod datagram;
+mod datagram_inlet;
 mod frame_gauge;
 pub mod limits;
 mod net_wires;
-mod pace;
+mod notices;
+mod notifiers;
+mod order_line;
+mod orders;
 mod random_ids;
 mod read_buffer;
+mod reception;
 mod server_replies;
-mod server_sockets;
+mod service;
+mod service_state;
+mod shortage;
 mod socket_option;
 mod system_clock;
 mod tcp_link;
 mod tcp_sink;
 mod tcp_source;
+mod thread_starter;
 mod time_limit;
+mod transfer;
 mod waiting;
+mod wake_signal;
+mod wire_state;
 
 pub use address::{address_of, endpoint_of};
+pub use connection_inlet::ConnectionInlet;
+pub use datagram_inlet::DatagramInlet;
 pub use net_wires::NetWires;
 pub use random_ids::RandomIds;
 pub use server_replies::ServerReplies;

@@ -1,32 +1,35 @@
 //! The network of a server, over the system's sockets.
 
-ghost use Rattle.std.specs.Prelude.{◌≡◌, ◌≤◌, None};
+ghost use Rattle.std.specs.Prelude.{◌≡◌, ◌≤◌, None, Ok, length};
 ghost use Rattle.edge_io.specs.Edge.{Rose};
+ghost use Rattle.edge_io.specs.Wired.{BlamesOrder};
+ghost use Rattle.edge_io.specs.declared.frame.TheConstants.{FRAME_MAX};
 
-use crate::address::address_of;
-use crate::backoff::Backoff;
-use crate::connection::sides_of;
-use crate::limits::{
-    BACKOFF_SECONDS, CONNECT_SECONDS, FRAME_SECONDS, TRANSFER_BUFFER, TRANSFER_SECONDS,
-    UPSTREAM_ANSWER_SECONDS, UPSTREAM_CONNECT_SECONDS,
-};
+use crate::connection_inlet::ConnectionInlet;
+use crate::datagram::send_datagram;
+use crate::datagram_inlet::DatagramInlet;
+use crate::limits::{UPSTREAM_ANSWER_SECONDS, UPSTREAM_CONNECT_SECONDS};
+use crate::orders::Orders;
 use crate::server_replies::ServerReplies;
-use crate::server_sockets::{NetArrival, ServerSockets};
+use crate::service::Service;
 use crate::tcp_link::TcpLink;
 use crate::tcp_sink::TcpSink;
 use crate::tcp_source::TcpSource;
-use crate::time_limit::{Span, moment_after};
-use edge_io::{Endpoint, WireError, Wires};
+use crate::thread_starter::{ThreadStarter, thread_starter};
+use edge_io::{Endpoint, Order, SendError, Wake, WireError, Wires};
 use std::alloc::Global;
 use std::net::{Net, TcpListener, TcpStream};
 use std::sync::Wait;
-use std::time::{Duration, Instant};
-use std::{io, time};
+use std::thread::Threads;
+use std::time;
+use std::time::Duration;
 
 /// The network of a server: a UDP socket and a TCP listener at the endpoint that it serves, TCP connections to the primary servers
 /// of its zones, and TCP connections to its upstream.
 ///
-/// It tells nothing of what comes and goes. The limits of time are those of `limits`.
+/// It tells nothing of what comes and goes. The limits of time are those of `limits`. It has a thread for the connections of clients, one
+/// for each transfer that is under way, and one that starts these. No call waits for any of them, but for `stop`, which joins the first
+/// and the last.
 ///
 /// Where the host has several addresses, each is bound by wires of its own: from the unspecified address (0.0.0.0 or ::) the system
 /// sends a reply from the address that it would choose, and not from the one that was asked.
@@ -36,91 +39,61 @@ pub struct NetWires<
 > {
     rt: R,
     alloc: Global,
-    sockets: Option<ServerSockets<R>>,
-    backoff: Backoff,
-    fetch_faults: u64,
+    turns: Option<u32>,
+    // Missing where the system had no room for it, and once these wires have stopped.
+    starter: Option<ThreadStarter<R>>,
+    service: Option<Service<R>>,
+    orders: Orders,
+    order_faults: u64,
     faults: u64,
-    // Errors of a call that then ran out of memory. The next call that doesn't counts them.
-    uncounted: u64,
 }
 
 impl<
     R: Net<Listener = TcpListener, Stream = TcpStream>
         + time::Clock
         + Wait
+        + Threads
         + Copy
         + Drop
         + Send
         + 'static,
 > NetWires<R> {
-    /// No endpoint is open yet, and no call has failed.
+    /// No endpoint is open yet, and no call has failed. Where there is no room for the thread that starts others, each `bind` and each
+    /// `order` fails.
     pub fn new(rt: R, alloc: Global) -> Self
         ensures no_fault { ⟦<NetWires<R> as Wires>⟧.faults result ≡ 0 }
-        ensures no_fetch_fault { ⟦<NetWires<R> as Wires>⟧.fetch_faults result ≡ 0 }
+        ensures no_order_fault { ⟦<NetWires<R> as Wires>⟧.order_faults result ≡ 0 }
     {
         NetWires {
             rt,
             alloc,
-            sockets: None,
-            backoff: Backoff::new(alloc),
-            fetch_faults: 0,
+            turns: None,
+            starter: thread_starter(rt, alloc).ok(),
+            service: None,
+            orders: Orders::new(alloc),
+            order_faults: 0,
             faults: 0,
-            uncounted: 0,
         }
     }
 }
 
-impl<
-    R: Net<Listener = TcpListener, Stream = TcpStream> + time::Clock + Wait + Copy + Drop,
-> NetWires<R> {
-    // Counts a call that has failed.
-    fn count_fault(&mut self)
-        ensures fault { Rose self.old.faults self.new.faults }
-        ensures count { self.old.faults ≤ self.new.faults }
-        ensures kept { self.new.fetch_faults ≡ self.old.fetch_faults }
-    {
-        self.faults = self.faults.saturating_add(1);
-    }
-
-    // Counts the errors that passed.
-    fn count_passed(&mut self)
-        ensures count { self.old.faults ≤ self.new.faults }
-        ensures kept { self.new.fetch_faults ≡ self.old.fetch_faults }
-    {
-        self.faults = self.faults.saturating_add(self.uncounted);
-        self.uncounted = 0;
-    }
+// Counts a call that has failed.
+fn count_fault(faults: &mut u64)
+    ensures fault { Rose faults.old faults.new }
+    ensures count { faults.old ≤ faults.new }
+{
+    *faults = faults.saturating_add(1);
 }
 
-// A connection to a primary server, unless it is left alone. One that can't be had leaves the server alone from then on.
-fn connect<R: Net<Stream = TcpStream> + time::Clock>(
-    rt: &R,
-    backoff: &mut Backoff,
-    primary: Endpoint,
-) -> io::Result<TcpStream> {
-    if backoff.is_left_alone(primary, Instant::now(rt)?) {
-        return Err(io::Error::from(io::ErrorKind::ConnectionRefused));
-    }
-    let within = Duration::from_secs(CONNECT_SECONDS);
-    let connected = rt.connect_timeout(address_of(primary), within);
-    if connected.is_err() {
-        let until = moment_after(rt, Duration::from_secs(BACKOFF_SECONDS))?;
-        backoff.leave_alone(primary, until);
-    }
-    connected
-}
-
-// Both sides of a connection to a primary server.
-fn open<R: Net<Stream = TcpStream> + time::Clock + Copy + Drop>(
-    rt: R,
-    alloc: Global,
-    backoff: &mut Backoff,
-    primary: Endpoint,
-) -> Result<(TcpSource<R>, TcpSink<R>), WireError> {
-    let limit = Duration::from_secs(TRANSFER_SECONDS);
-    match connect(&rt, backoff, primary) {
-        Ok(stream) => sides_of(rt, alloc, stream, TRANSFER_BUFFER, Span::Call, limit),
-        Err(_) => Err(WireError::Failed),
+// Counts the end of an order that is a fault of its connection.
+fn count_end(order_faults: &mut u64, wake: &Wake)
+    ensures fault { BlamesOrder (Ok wake.now) (Rose order_faults.old order_faults.new) }
+    ensures count { order_faults.old ≤ order_faults.new }
+{
+    if let Wake::Over { why, .. } = wake {
+        if why.is_fault() {
+            count_fault(order_faults);
+        }
     }
 }
 
@@ -128,6 +101,7 @@ impl<
     R: Net<Listener = TcpListener, Stream = TcpStream>
         + time::Clock
         + Wait
+        + Threads
         + Copy
         + Drop
         + Send
@@ -141,60 +115,38 @@ impl<
 
     type Back = ServerReplies<R>;
 
-    ghost arrivals = { λ _. None };
+    type Datagrams = DatagramInlet<R>;
 
-    ghost fetches = { λ _. None };
+    type Connections = ConnectionInlet<R>;
 
-    ghost bound = { λ _. None };
+    ghost told = { λ _. None };
 
-    ghost fetched = { λ _. None };
-
-    ghost linked = { λ _. None };
-
-    ghost fetch_faults = { λ w. w.fetch_faults };
+    ghost order_faults = { λ w. w.order_faults };
 
     ghost faults = { λ w. w.faults };
 
+    fn limit(&mut self, turns: u32) {
+        self.turns = Some(turns);
+        if let Some(service) = &self.service {
+            service.state.limit(turns);
+        }
+    }
+
     fn bind(&mut self, at: Endpoint) -> Result<(), WireError> {
-        let limit = Duration::from_secs(FRAME_SECONDS);
-        match ServerSockets::open(&self.rt, self.alloc, at, limit) {
-            Ok(sockets) => {
-                self.sockets = Some(sockets);
+        let opened = match &self.starter {
+            Some(starter) => Service::open(self.rt, self.alloc, at, self.turns, starter),
+            None => Err(WireError::Failed),
+        };
+        match opened {
+            Ok(service) => {
+                if let Some(before) = self.service.replace(service) {
+                    before.state.stop();
+                }
                 Ok(())
             }
             Err(WireError::OutOfMemory) => Err(WireError::OutOfMemory),
             Err(WireError::Failed) => {
-                self.count_fault();
-                Err(WireError::Failed)
-            }
-        }
-    }
-
-    fn next(&mut self) -> Result<NetArrival<R>, WireError> {
-        let found = match &mut self.sockets {
-            Some(sockets) => sockets.next(self.rt, self.alloc, &mut self.uncounted),
-            None => Err(WireError::Failed),
-        };
-        match found {
-            Ok(arrival) => {
-                self.count_passed();
-                Ok(arrival)
-            }
-            Err(WireError::OutOfMemory) => Err(WireError::OutOfMemory),
-            Err(WireError::Failed) => {
-                self.count_passed();
-                self.count_fault();
-                Err(WireError::Failed)
-            }
-        }
-    }
-
-    fn fetch(&mut self, primary: Endpoint) -> Result<(TcpSource<R>, TcpSink<R>), WireError> {
-        match open(self.rt, self.alloc, &mut self.backoff, primary) {
-            Ok(sides) => Ok(sides),
-            Err(WireError::OutOfMemory) => Err(WireError::OutOfMemory),
-            Err(WireError::Failed) => {
-                self.fetch_faults = self.fetch_faults.saturating_add(1);
+                count_fault(&mut self.faults);
                 Err(WireError::Failed)
             }
         }
@@ -210,17 +162,96 @@ impl<
     }
 
     fn replies(&mut self) -> Result<ServerReplies<R>, WireError> {
-        let replies = match &self.sockets {
-            Some(sockets) => sockets.replies(self.rt),
+        let Some(service) = &self.service else {
+            count_fault(&mut self.faults);
+            return Err(WireError::Failed);
+        };
+        match service.replies(self.rt) {
+            Ok(replies) => Ok(replies),
+            Err(_) => Err(WireError::OutOfMemory),
+        }
+    }
+
+    fn datagrams(&mut self) -> Result<DatagramInlet<R>, WireError> {
+        let Some(service) = &self.service else {
+            count_fault(&mut self.faults);
+            return Err(WireError::Failed);
+        };
+        match service.datagrams(self.rt, self.alloc) {
+            Ok(inlet) => Ok(inlet),
+            Err(_) => Err(WireError::OutOfMemory),
+        }
+    }
+
+    fn connections(&mut self) -> Result<ConnectionInlet<R>, WireError> {
+        let Some(service) = &self.service else {
+            count_fault(&mut self.faults);
+            return Err(WireError::Failed);
+        };
+        match service.connections(self.rt) {
+            Ok(inlet) => Ok(inlet),
+            Err(_) => Err(WireError::OutOfMemory),
+        }
+    }
+
+    fn order(&mut self, primary: Endpoint, request: &[u8]) -> Result<Order, WireError> {
+        let begun = match &self.starter {
+            Some(starter) => {
+                let orders = &mut self.orders;
+                orders.order(self.rt, self.alloc, starter, primary, request)
+            }
             None => Err(WireError::Failed),
         };
-        match replies {
-            Ok(replies) => Ok(replies),
+        match begun {
+            Ok(order) => Ok(order),
             Err(WireError::OutOfMemory) => Err(WireError::OutOfMemory),
             Err(WireError::Failed) => {
-                self.count_fault();
+                count_fault(&mut self.order_faults);
                 Err(WireError::Failed)
             }
+        }
+    }
+
+    fn forget(&mut self, order: Order) {
+        self.orders.forget(&self.rt, order);
+    }
+
+    fn wait(&mut self) -> Result<Wake, WireError> {
+        let next = match &mut self.service {
+            Some(service) => service.next_wake(&self.rt, &mut self.orders),
+            None => None,
+        };
+        match next {
+            Some(wake) => {
+                count_end(&mut self.order_faults, &wake);
+                Ok(wake)
+            }
+            None => {
+                count_fault(&mut self.faults);
+                Err(WireError::Failed)
+            }
+        }
+    }
+
+    fn answer(&mut self, peer: Endpoint, bytes: &[u8]) -> Result<(), SendError> {
+        let is_sent = match &self.service {
+            Some(service) => send_datagram(&service.state.socket, peer, bytes),
+            None => false,
+        };
+        if !is_sent {
+            count_fault(&mut self.faults);
+            return Err(SendError::Failed);
+        }
+        Ok(())
+    }
+
+    fn stop(&mut self) {
+        if let Some(service) = &self.service {
+            service.state.stop();
+        }
+        self.orders.forget_all(&self.rt);
+        if let Some(starter) = self.starter.take() {
+            starter.end(&self.rt);
         }
     }
 }

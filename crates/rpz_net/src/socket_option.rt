@@ -1,13 +1,31 @@
-//! An option of sockets that std doesn't set.
+//! Options of sockets that std doesn't set.
 
 use libc::net as c;
 use std::net::UdpSocket;
 use std::os::fd::AsRawFd;
 
+// The value of an option that is a number.
+fn option_value(number: i32) -> [u8; 16] {
+    let mut value = [0u8; 16];
+    value[..4].copy_from_slice(&number.to_ne_bytes());
+    value
+}
+
 /// Asks the system to keep so many bytes of datagrams that wait (SO_RCVBUF). It gives no more than its own limit, and whatever it
 /// gives will do.
 pub(crate) fn ask_receive_buffer(socket: &UdpSocket, bytes: i32) {
-    let mut value = [0u8; 16];
-    value[..4].copy_from_slice(&bytes.to_ne_bytes());
+    let value = option_value(bytes);
     let _ = unsafe { c::setsockopt(socket.as_raw_fd(), c::SOL_SOCKET, c::SO_RCVBUF, &value, 4) };
+}
+
+/// Asks the system to keep so many bytes of datagrams that have not gone out (SO_SNDBUF), likewise.
+pub(crate) fn ask_send_buffer(socket: &UdpSocket, bytes: i32) {
+    let value = option_value(bytes);
+    let _ = unsafe { c::setsockopt(socket.as_raw_fd(), c::SOL_SOCKET, c::SO_SNDBUF, &value, 4) };
+}
+
+/// Ends all waits for datagrams on the socket, those that are under way and those that begin later (SHUT_RD). Datagrams still go out.
+/// Linux answers that the socket isn't connected (ENOTCONN), and does it all the same.
+pub(crate) fn end_receiving(socket: &UdpSocket) {
+    let _ = c::shutdown(socket.as_raw_fd(), c::SHUT_RD);
 }

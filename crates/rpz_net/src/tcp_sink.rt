@@ -16,7 +16,7 @@ use std::{io, time};
 /// frame has sent all of it.
 ///
 /// Each error of the socket is a fault, and so is a wait that runs into a limit. A client may take `FRAME_SECONDS` for a frame that the
-/// system doesn't take at once, a primary server `TRANSFER_SECONDS` for each write, and the upstream the time of the exchange.
+/// system doesn't take at once, a primary server `TRANSFER_IDLE_SECONDS` for each write, and the upstream the time of the exchange.
 #[derive(Drop)]
 pub struct TcpSink<R: time::Clock + Drop> {
     // In a place of its own, as the reading side has it.

@@ -27,8 +27,8 @@ pub(crate) enum Coming {
 ///
 /// Each error of the socket is a fault, and so is a wait that runs into a limit. A connection of a client ends where no whole message
 /// is there, so that nobody waits for the next one; it may go on later. Only a message that is longer than what is read ahead is
-/// waited for, `FRAME_SECONDS` for all of it. From a primary server each wait may take `TRANSFER_SECONDS`. From the upstream
-/// everything must come within the limit of the exchange.
+/// waited for, `FRAME_SECONDS` for all of it. From a primary server each wait may take `TRANSFER_IDLE_SECONDS`, and all together
+/// `TRANSFER_SECONDS`. From the upstream everything must come within the limit of the exchange.
 #[derive(Drop)]
 pub struct TcpSource<R: time::Clock + Drop> {
     // In a place of its own, since arrivals are moved several times on their way to a worker, and most of them are datagrams.
@@ -107,6 +107,11 @@ impl<R: time::Clock + Drop> TcpSource<R> {
     /// The socket.
     pub(crate) fn stream(&self) -> &TcpStream {
         &self.reading.stream
+    }
+
+    /// Another handle to the socket.
+    pub(crate) fn handle(&self) -> Result<Arc<TcpStream>, AllocError> {
+        Arc::try_clone(&self.reading.stream)
     }
 
     /// Looks at what comes next on a connection of a client, between two messages. It doesn't wait.

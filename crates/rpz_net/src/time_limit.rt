@@ -10,8 +10,8 @@ const SLACK: u32 = 8;
 /// What has to be done within a limit.
 #[derive(Clone, Copy, Debug, PartialEq, Eq)]
 pub(crate) enum Span {
-    /// Each call by itself.
-    Call,
+    /// Each call by itself, and all together up to a moment.
+    Call(Instant),
     /// Each frame, from the first wait inside it to its last byte.
     Frame,
     /// All calls together, up to a moment.
@@ -69,7 +69,7 @@ impl TimeLimit {
     // What is left for the next call. A frame's time begins with the first call inside it.
     fn left<R: time::Clock>(&mut self, rt: &R) -> io::Result<Duration> {
         match self.span {
-            Span::Call => Ok(self.limit),
+            Span::Call(end) => Ok(self.limit.min(time_until(rt, end)?)),
             Span::Whole(end) => time_until(rt, end),
             Span::Frame => match self.frame_end {
                 Some(end) => time_until(rt, end),

@@ -19,6 +19,8 @@ struct Waiting<R: time::Clock + Drop> {
     until: Instant,
     // A part of its next message has come.
     has_begun: bool,
+    // It has come whole.
+    is_ready: bool,
 }
 
 impl<R: time::Clock + Drop> Waiting<R> {
@@ -38,7 +40,7 @@ impl<R: time::Clock + Drop> Waiting<R> {
 #[derive(Drop)]
 pub(crate) struct WaitingConnections<R: time::Clock + Drop> {
     places: Vec<Option<Waiting<R>>>,
-    // The places of those on which a message has come, in order, each maybe more than once.
+    // The places of those on which a message has come, in order, and of some that were closed since.
     ready: VecDeque<usize>,
     // The token of the first place.
     first: usize,
@@ -68,14 +70,15 @@ impl<R: time::Clock + Drop> WaitingConnections<R> {
         self.count == 0
     }
 
-    /// Whether a message has come on one of them.
-    pub(crate) fn has_ready(&self) -> bool {
-        !self.ready.is_empty()
-    }
-
-    /// Takes in a connection that has no message for now. Where there is no place, the one that would be closed first is closed. It
-    /// is closed itself where the system doesn't register it.
-    pub(crate) fn put(&mut self, registry: &Registry, sides: Sides<R>, now: Instant) {
+    /// Takes in a connection that has no message for now, or one that is ready. Where there is no place, the one that would be closed
+    /// first is closed. It is closed itself where the system doesn't register it.
+    pub(crate) fn put(
+        &mut self,
+        registry: &Registry,
+        sides: Sides<R>,
+        now: Instant,
+        is_ready: bool,
+    ) {
         let Some(until) = now.checked_add(self.limit) else {
             return;
         };
@@ -89,8 +92,21 @@ impl<R: time::Clock + Drop> WaitingConnections<R> {
                 sides,
                 until,
                 has_begun,
+                is_ready: false,
             });
             self.count = self.count.saturating_add(1);
+        }
+        if is_ready {
+            self.make_ready(place);
+        }
+    }
+
+    fn make_ready(&mut self, place: usize) {
+        if let Some(Some(waiting)) = self.places.get_mut(place)
+            && !waiting.is_ready
+        {
+            waiting.is_ready = true;
+            let _ = self.ready.push_back(place);
         }
     }
 
@@ -136,9 +152,7 @@ impl<R: time::Clock + Drop> WaitingConnections<R> {
             _ => Coming::Nothing,
         };
         match coming {
-            Coming::Message => {
-                let _ = self.ready.push_back(place);
-            }
+            Coming::Message => self.make_ready(place),
             Coming::Nothing => {}
             Coming::End => self.close(place),
         }
@@ -148,13 +162,21 @@ impl<R: time::Clock + Drop> WaitingConnections<R> {
     pub(crate) fn take_ready(&mut self, registry: &Registry) -> Option<Sides<R>> {
         for _ in 0..self.ready.len() {
             let place = self.ready.pop_front()?;
-            if let Some(waiting) = self.take(place)
+            if self.is_ready(place)
+                && let Some(waiting) = self.take(place)
                 && deregister(registry, waiting.sides.0.stream()).is_ok()
             {
                 return Some(waiting.sides);
             }
         }
         None
+    }
+
+    fn is_ready(&self, place: usize) -> bool {
+        match self.places.get(place) {
+            Some(Some(waiting)) => waiting.is_ready,
+            _ => false,
+        }
     }
 
     fn take(&mut self, place: usize) -> Option<Waiting<R>> {

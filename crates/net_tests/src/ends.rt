@@ -1,0 +1,101 @@
+//! How inlets and waits end.
+
+use crate::loopback::at;
+use edge_io::{Arrival, Inlet, Received, Sink, Source, Wake, Wires};
+use rpz_net::{NetWires, address_of};
+use std::net::{Net, UdpSocket};
+use std::process::Abort;
+use std::test::Fail;
+use std::time::{Duration, Instant};
+use std::{io, thread, time};
+
+// What an inlet gives: a datagram, the end, or anything else.
+#[derive(Clone, Copy, Debug, PartialEq, Eq)]
+enum Given {
+    Datagram,
+    End,
+    Other,
+}
+
+fn next_of<S: Source + Drop, K: Sink + Drop>(inlet: &mut impl Inlet<S, K>) -> Given {
+    match inlet.next() {
+        Received::Arrival(Arrival::Datagram { .. }) => Given::Datagram,
+        Received::End => Given::End,
+        _ => Given::Other,
+    }
+}
+
+#[test]
+fn the_last_turn_ends_all_inlets(rt: HostRuntime) -> Result<(), Fail> {
+    let mut wires = NetWires::new(rt, rt.alloc());
+    takes_two(&rt, &mut wires)?;
+    ends(&rt, &mut wires);
+    Ok(())
+}
+
+fn takes_two<R: Net + Abort, W: Wires>(rt: &R, wires: &mut W) -> Result<(), Fail> {
+    wires.limit(2);
+    wires.bind(at(29160))?;
+    let mut first = wires.datagrams()?;
+    let mut second = wires.datagrams()?;
+    send_three(rt)?;
+    assert_eq!(rt; next_of(&mut first), Given::Datagram);
+    assert_eq!(rt; next_of(&mut second), Given::Datagram);
+    assert_eq!(rt; next_of(&mut first), Given::End);
+    assert_eq!(rt; next_of(&mut second), Given::End);
+    assert_eq!(rt; next_of(&mut wires.connections()?), Given::End);
+    Ok(())
+}
+
+fn send_three<R: Net>(rt: &R) -> io::Result<()> {
+    let client = UdpSocket::bind(rt, address_of(at(29161)))?;
+    for _ in 0..3u32 {
+        client.send_to(b"query", address_of(at(29160)))?;
+    }
+    Ok(())
+}
+
+// The wires have ended, and stay so.
+fn ends<W: Wires>(rt: &impl Abort, wires: &mut W) {
+    for _ in 0..2u32 {
+        assert!(rt; matches!(wires.wait(), Ok(Wake::Ended { dropped: 0 })));
+    }
+    wires.stop();
+    assert!(rt; matches!(wires.wait(), Ok(Wake::Ended { dropped: 0 })));
+}
+
+// How long an inlet waits until it gives its end.
+fn waits<R: time::Clock, S: Source + Drop, K: Sink + Drop>(
+    rt: &R,
+    inlet: &mut impl Inlet<S, K>,
+) -> io::Result<Duration> {
+    let start = Instant::now(rt)?;
+    for _ in 0..2u32 {
+        if next_of(inlet) == Given::End {
+            break;
+        }
+    }
+    start.elapsed(rt)
+}
+
+fn stop_later<R: time::Clock, W: Wires>(rt: &R, wires: &mut W) {
+    thread::sleep(rt, Duration::from_millis(100));
+    wires.stop();
+}
+
+#[test]
+fn stop_ends_the_waits_of_inlets(rt: HostRuntime) -> Result<(), Fail> {
+    let mut wires = NetWires::new(rt, rt.alloc());
+    wires.bind(at(29162))?;
+    let mut datagrams = wires.datagrams()?;
+    let mut connections = wires.connections()?;
+    let (waited, ((), again)) = thread::join(
+        &rt,
+        || waits(&rt, &mut datagrams),
+        || (stop_later(&rt, &mut wires), waits(&rt, &mut connections)),
+    );
+    assert!(rt; waited? < Duration::from_secs(1));
+    assert!(rt; again? < Duration::from_secs(1));
+    ends(&rt, &mut wires);
+    Ok(())
+}

@@ -1,0 +1,239 @@
+//! The endpoint that is served.
+
+use crate::address::address_of;
+use crate::connection::Sides;
+use crate::connection_inlet::ConnectionInlet;
+use crate::datagram_inlet::DatagramInlet;
+use crate::limits::{
+    ARRIVAL_SECONDS, CONNECTION_QUEUE, EVENTS, FRAME_SECONDS, RECEIVE_BUFFER, SEND_BUFFER,
+    WAKE_SECONDS,
+};
+use crate::notices::{Notice, NoticeReceiver, NoticeSender, Noticed, notices};
+use crate::orders::Orders;
+use crate::reception::{CONNECTIONS, FIRST_WAITING, Reception, WAKES};
+use crate::server_replies::ServerReplies;
+use crate::service_state::ServiceState;
+use crate::socket_option::{ask_receive_buffer, ask_send_buffer};
+use crate::thread_starter::{Job, ThreadStarter};
+use crate::time_limit::{moment_after, time_until};
+use crate::waiting::WaitingConnections;
+use crate::wire_state::WireState;
+use crossbeam_channel::{Receiver, Sender, bounded, unbounded};
+use edge_io::{Endpoint, Wake, WireError};
+use mio::unix::SourceFd;
+use mio::{Events, Interest, Poll, Waker};
+use std::alloc::{AllocError, Global};
+use std::net::{Net, TcpListener, TcpStream, UdpSocket};
+use std::os::fd::AsRawFd;
+use std::sync::{Arc, Wait};
+use std::time::Duration;
+use std::{io, time};
+
+/// The endpoint that is served, as the thread has it that has the wires.
+#[derive(Drop)]
+pub(crate) struct Service<R: time::Clock + Drop> {
+    pub(crate) state: Arc<ServiceState>,
+    wires: Arc<WireState>,
+    // To the workers, and back from them.
+    queue: Receiver<Sides<R>>,
+    back: Sender<Sides<R>>,
+    notices: NoticeReceiver,
+    // Kept until the service stops, since more inlets may be wanted till then.
+    own: Option<NoticeSender>,
+}
+
+// The room that a service needs, for both of its threads.
+#[derive(Drop)]
+struct Rooms<R: time::Clock + Drop> {
+    events: Events,
+    waiting: WaitingConnections<R>,
+    queue: (Sender<Sides<R>>, Receiver<Sides<R>>),
+    back: (Sender<Sides<R>>, Receiver<Sides<R>>),
+    notices: (NoticeSender, NoticeReceiver),
+}
+
+impl<R: time::Clock + Drop> Rooms<R> {
+    fn new(alloc: Global, wires: &Arc<WireState>) -> Result<Self, AllocError> {
+        let events = Events::with_capacity(alloc, EVENTS)?;
+        let limit = Duration::from_secs(FRAME_SECONDS);
+        let waiting = WaitingConnections::new(alloc, FIRST_WAITING, limit)?;
+        let queue = bounded(alloc, CONNECTION_QUEUE)?;
+        let back = unbounded(alloc)?;
+        Ok(Rooms {
+            events,
+            waiting,
+            queue,
+            back,
+            notices: notices(alloc, Arc::try_clone(wires)?)?,
+        })
+    }
+}
+
+// Both sockets, and what waits for connections.
+fn open_sockets<R: Net<Listener = TcpListener, Stream = TcpStream>>(
+    rt: &R,
+    at: Endpoint,
+) -> io::Result<(UdpSocket, TcpListener, Poll, Waker)> {
+    let udp = UdpSocket::bind(rt, address_of(at))?;
+    let listener = rt.bind(address_of(at))?;
+    udp.set_read_timeout(Some(Duration::from_secs(ARRIVAL_SECONDS)))?;
+    listener.set_nonblocking(true)?;
+    ask_receive_buffer(&udp, RECEIVE_BUFFER);
+    ask_send_buffer(&udp, SEND_BUFFER);
+    let poll = Poll::new(rt)?;
+    let fd = listener.as_raw_fd();
+    poll.registry()
+        .register(&mut SourceFd(&fd), CONNECTIONS, Interest::READABLE)?;
+    let waker = Waker::new(poll.registry(), WAKES)?;
+    Ok((udp, listener, poll, waker))
+}
+
+// What the threads of a service share, and another handle to it.
+fn shared(
+    alloc: Global,
+    udp: UdpSocket,
+    waker: Waker,
+    wires: &Arc<WireState>,
+) -> Result<(Arc<ServiceState>, Arc<ServiceState>), AllocError> {
+    let state = ServiceState::new(udp, waker, Arc::try_clone(wires)?);
+    let Ok(state) = Arc::new(alloc, state) else {
+        return Err(AllocError);
+    };
+    let again = Arc::try_clone(&state)?;
+    Ok((state, again))
+}
+
+impl<R: Net<Listener = TcpListener, Stream = TcpStream> + time::Clock + Wait + Copy + Drop> Service<
+    R,
+> {
+    /// Opens the endpoint for datagrams and for connections, whose inlets give so many arrivals in all, and starts the thread for the
+    /// connections. `Failed` comes where it can't be opened.
+    pub(crate) fn open(
+        rt: R,
+        alloc: Global,
+        at: Endpoint,
+        turns: Option<u32>,
+        starter: &ThreadStarter<R>,
+    ) -> Result<Self, WireError> {
+        let Ok(wires) = Arc::try_clone(&starter.state) else {
+            return Err(WireError::OutOfMemory);
+        };
+        let (service, reception) = Service::parts(rt, alloc, at, wires)?;
+        if let Some(turns) = turns {
+            service.state.limit(turns);
+        }
+        if !starter.start(&rt, Job::Serve(reception)) {
+            return Err(WireError::Failed);
+        }
+        Ok(service)
+    }
+
+    // The service, and what its thread for connections has to run.
+    fn parts(
+        rt: R,
+        alloc: Global,
+        at: Endpoint,
+        wires: Arc<WireState>,
+    ) -> Result<(Self, Reception<R>), WireError> {
+        let Ok((udp, listener, poll, waker)) = open_sockets(&rt, at) else {
+            return Err(WireError::Failed);
+        };
+        let Ok((state, again)) = shared(alloc, udp, waker, &wires) else {
+            return Err(WireError::OutOfMemory);
+        };
+        let Ok(rooms) = Rooms::new(alloc, &wires) else {
+            return Err(WireError::OutOfMemory);
+        };
+        let Rooms {
+            events,
+            waiting,
+            queue: (to_workers, queue),
+            back: (back, returned),
+            notices: (own, notices),
+        } = rooms;
+        let service = Service {
+            state,
+            wires,
+            queue,
+            back,
+            notices,
+            own: Some(own),
+        };
+        let reception = Reception {
+            rt,
+            alloc,
+            service: again,
+            listener,
+            poll,
+            events,
+            waiting,
+            queue: to_workers,
+            returned,
+            connections_wait: false,
+            next_look: None,
+        };
+        Ok((service, reception))
+    }
+}
+
+impl<R: time::Clock + Wait + Copy + Drop> Service<R> {
+    // What an inlet has for NOTIFYs; none once the service has stopped.
+    fn notice_sender(&self) -> Result<Option<NoticeSender>, AllocError> {
+        match &self.own {
+            Some(own) => Ok(Some(own.another()?)),
+            None => Ok(None),
+        }
+    }
+
+    /// An inlet for datagrams.
+    pub(crate) fn datagrams(&self, rt: R, alloc: Global) -> Result<DatagramInlet<R>, AllocError> {
+        let state = Arc::try_clone(&self.state)?;
+        DatagramInlet::new(rt, alloc, state, self.notice_sender()?)
+    }
+
+    /// An inlet for connections.
+    pub(crate) fn connections(&self, rt: R) -> Result<ConnectionInlet<R>, AllocError> {
+        let state = Arc::try_clone(&self.state)?;
+        let queue = self.queue.clone()?;
+        Ok(ConnectionInlet::new(rt, state, queue, self.notice_sender()?))
+    }
+
+    /// A place for replies.
+    pub(crate) fn replies(&self, rt: R) -> Result<ServerReplies<R>, AllocError> {
+        let state = Arc::try_clone(&self.state)?;
+        Ok(ServerReplies::new(rt, state, self.back.clone()?))
+    }
+
+    /// Waits for the next wake, `WAKE_SECONDS` at most. `None` says that the service has failed, or that the clock can't be read.
+    pub(crate) fn next_wake(&mut self, rt: &R, orders: &mut Orders) -> Option<Wake> {
+        let end = moment_after(rt, Duration::from_secs(WAKE_SECONDS)).ok()?;
+        for _ in 0..u64::MAX {
+            let count = self.wires.signal.count();
+            if self.state.has_failed() {
+                return None;
+            }
+            if let Some(wake) = self.look(rt, orders) {
+                return Some(wake);
+            }
+            match time_until(rt, end) {
+                Ok(left) => self.wires.signal.wait(rt, count, left),
+                Err(_) => return Some(Wake::Due),
+            }
+        }
+        Some(Wake::Due)
+    }
+
+    // What is there by now: a NOTIFY, the end of all inlets, or what has come of orders.
+    fn look(&mut self, rt: &R, orders: &mut Orders) -> Option<Wake> {
+        if self.state.is_stopped() {
+            self.own = None;
+        }
+        match self.notices.take(rt) {
+            Noticed::Notice(Notice { peer, bytes }) => Some(Wake::Notify { peer, bytes }),
+            Noticed::End => Some(Wake::Ended {
+                dropped: self.state.dropped(),
+            }),
+            Noticed::Nothing => orders.take(rt),
+        }
+    }
+}

@@ -1,0 +1,164 @@
+//! What starts the threads of wires.
+
+use crate::limits::THREAD_QUEUE;
+use crate::reception::Reception;
+use crate::service_state::ServiceState;
+use crate::transfer::Transfer;
+use crate::wire_state::WireState;
+use crossbeam_channel::{Receiver, Sender, bounded};
+use std::alloc::{AllocError, Global};
+use std::net::{Net, TcpListener, TcpStream};
+use std::sync::{Arc, Wait};
+use std::thread::{JoinHandle, Threads};
+use std::{thread, time};
+
+/// What a thread is started for.
+#[derive(Drop)]
+pub(crate) enum Job<
+    R: Net<Listener = TcpListener, Stream = TcpStream> + time::Clock + Copy + Drop,
+> {
+    /// To have the connections of clients.
+    Serve(Reception<R>),
+    /// To run a transfer.
+    Transfer(Transfer<R>),
+}
+
+/// A thread that starts the others, and what they share. It is there from the start of the wires on, since the prover covers no thread
+/// that is started in a method of a trait.
+#[derive(Drop)]
+pub(crate) struct ThreadStarter<
+    R: Net<Listener = TcpListener, Stream = TcpStream> + time::Clock + Copy + Drop,
+> {
+    pub(crate) state: Arc<WireState>,
+    jobs: Sender<Job<R>>,
+    thread: JoinHandle<()>,
+}
+
+impl<
+    R: Net<Listener = TcpListener, Stream = TcpStream> + time::Clock + Wait + Copy + Drop,
+> ThreadStarter<R> {
+    /// Starts a thread for a job, soon. `false` says that too many wait, or that it has ended; then the job is dropped. It doesn't wait.
+    pub(crate) fn start(&self, rt: &R, job: Job<R>) -> bool {
+        self.jobs.try_send(rt, job).is_ok()
+    }
+
+    /// Ends it, and with it the thread that has the connections of clients. Transfers go on.
+    pub(crate) fn end(self, rt: &R)
+    where
+        R: Threads,
+    {
+        let ThreadStarter {
+            state: _,
+            jobs,
+            thread,
+        } = self;
+        drop(jobs);
+        thread.join(rt);
+    }
+}
+
+/// Starts the thread that starts others.
+pub(crate) fn thread_starter<
+    R: Net<Listener = TcpListener, Stream = TcpStream>
+        + time::Clock
+        + Wait
+        + Threads
+        + Copy
+        + Drop
+        + Send
+        + 'static,
+>(rt: R, alloc: Global) -> Result<ThreadStarter<R>, AllocError> {
+    let state = WireState::new(alloc)?;
+    let (jobs, receiver) = bounded(alloc, THREAD_QUEUE)?;
+    match thread::spawn(&rt, move || start_threads(rt, receiver)) {
+        Ok(thread) => Ok(ThreadStarter {
+            state,
+            jobs,
+            thread,
+        }),
+        Err(_) => Err(AllocError),
+    }
+}
+
+// The thread that has the connections of clients.
+#[derive(Drop)]
+struct Serving {
+    service: Arc<ServiceState>,
+    thread: JoinHandle<()>,
+}
+
+impl Serving {
+    // Ends it. It waits for nobody else, so that this is soon.
+    fn end<R: Threads>(self, rt: &R) {
+        let Serving { service, thread } = self;
+        service.stop();
+        thread.join(rt);
+    }
+}
+
+// Starts a thread for each job, until no more come.
+fn start_threads<
+    R: Net<Listener = TcpListener, Stream = TcpStream>
+        + time::Clock
+        + Wait
+        + Threads
+        + Copy
+        + Drop
+        + Send
+        + 'static,
+>(rt: R, jobs: Receiver<Job<R>>) {
+    let mut serving: Option<Serving> = None;
+    for _ in 0..u64::MAX {
+        match jobs.recv(&rt) {
+            Ok(Job::Serve(reception)) => {
+                if let Some(before) = serving.take() {
+                    before.end(&rt);
+                }
+                serving = serve(rt, reception);
+            }
+            Ok(Job::Transfer(transfer)) => run_transfer(rt, transfer),
+            Err(_) => break,
+        }
+    }
+    if let Some(serving) = serving {
+        serving.end(&rt);
+    }
+}
+
+// Starts the thread that has the connections. Without it the service fails.
+fn serve<
+    R: Net<Listener = TcpListener, Stream = TcpStream>
+        + time::Clock
+        + Wait
+        + Threads
+        + Copy
+        + Drop
+        + Send
+        + 'static,
+>(rt: R, reception: Reception<R>) -> Option<Serving> {
+    let Ok(service) = Arc::try_clone(&reception.service) else {
+        reception.service.fail();
+        return None;
+    };
+    match thread::spawn(&rt, move || reception.run()) {
+        Ok(thread) => Some(Serving { service, thread }),
+        Err(_) => {
+            service.fail();
+            None
+        }
+    }
+}
+
+// Starts the thread of a transfer. Without it the order ends.
+fn run_transfer<
+    R: Net<Listener = TcpListener, Stream = TcpStream>
+        + time::Clock
+        + Wait
+        + Threads
+        + Copy
+        + Drop
+        + Send
+        + 'static,
+>(rt: R, transfer: Transfer<R>) {
+    let _ = thread::spawn(&rt, move || transfer.run());
+}
