@@ -10,9 +10,10 @@ static SERVE: &str =
     "serve 127.0.0.1:5300 9.9.9.9:53 2 16 rpz.example@127.0.0.1:5301 b@127.0.0.2:65535";
 
 // Lines that ask for a server.
-static TAKEN: [&str; 6] = [
+static TAKEN: [&str; 7] = [
     "serve 127.0.0.1:1 9.9.9.9:53 1 1 a@127.0.0.1:5301",
     "serve 127.0.0.1:65535 9.9.9.9:53 4294967295 16 a@127.0.0.1:5301",
+    "serve 127.0.0.1:1 9.9.9.9:53 forever 1 a@127.0.0.1:5301",
     "serve 127.000.0.01:00053 9.9.9.9:53 0000000002 01 a.b.@127.0.0.1:5301",
     "serve -- 127.0.0.1:5300 9.9.9.9:53 2 1 a@127.0.0.1:5301",
     "serve --cache 16 127.0.0.1:1 9.9.9.9:53 1 1 a@127.0.0.1:5301",
@@ -160,7 +161,7 @@ fn a_server_gets_its_settings(rt: HostRuntime) -> Result<(), Fail> {
     };
     assert_eq!(rt; settings.listen, listen);
     assert_eq!(rt; settings.upstream, upstream);
-    assert_eq!(rt; settings.turns, 2);
+    assert_eq!(rt; settings.turns, Some(2));
     assert_eq!(rt; settings.workers, 16);
     assert_eq!(rt; settings.cache, 65_536);
     Ok(())
@@ -183,7 +184,9 @@ fn a_server_gets_its_zones(rt: HostRuntime) -> Result<(), Fail> {
         addr: Addr::V4(0x7f00_0002),
         port: 65_535,
     };
-    assert_eq!(rt; settings.zones.primary(2), second);
+    let primaries = settings.zones.primaries(rt.alloc())?;
+    assert_eq!(rt; primaries.len(), 2);
+    assert_eq!(rt; primaries[1], second);
     let origins = settings.zones.origins(rt.alloc())?;
     assert_eq!(rt; origins.len(), 2);
     assert_eq!(rt; origins[0].octets(), b"\x03rpz\x07example\x00".as_slice());

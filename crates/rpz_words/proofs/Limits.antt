@@ -1,6 +1,7 @@
 -- What words ask for is within its limits.
 use Rattle.std.proofs.Common.{◌≡◌, ◌≢◌, ℕ, suc, ◌≤◌, true, false, ◌||◌, List, [], ◌∷◌, length, Option, Some, None, Result, Ok, Err, eqb, ltb, refl, sym, ◌∙◌, ap, arith, subst, codes}
-use Rattle.std.specs.Prelude.{IfOk}
+use Rattle.std.specs.Prelude.{Bool, IfOk, IfSome, if◌then◌else◌}
+use Rattle.std.specs.Option.{option_map}
 use Rattle.std.specs.List.{All}
 use Rattle.std.specs.Str.{bytes_eq}
 use Rattle.std.proofs.lemmas.Bool.{cond_both, or_parts, eqb-false, ltb-false, both_ways}
@@ -20,7 +21,7 @@ use Rattle.rpz_words.specs.declared.settings.TheConstants.{TURN_LIMIT, USUAL_ASK
 use Rattle.rpz_words.specs.declared.words_error.WordsError.{WordsError}
 use Rattle.rpz_words.specs.declared.zones.ZoneSetting.{ZoneSetting}
 use Rattle.rpz_words.specs.Outcome.{Gives, none_if}
-use Rattle.rpz_words.specs.Values.{askers_of, cache_of, endpoint_of, load_workers_of, queries_of, rules_of, seed_of, turns_of, workers_of, zone_setting_of, zone_settings_of, zones_of}
+use Rattle.rpz_words.specs.Values.{askers_of, cache_of, endpoint_of, load_workers_of, number_to, queries_of, rules_of, seed_of, turns_of, workers_of, zone_setting_of, zone_settings_of, zones_of}
 use Rattle.rpz_words.specs.Limits.{IsLoadable, IsServable, IsWithinLimits}
 use Rattle.rpz_words.specs.Words.{command_of, load_settings_of, named_command, settings_of, value_at, zones_at}
 use Rattle.rpz_words.specs.Zones.{HasDistinctOrigins, has_origin, has_repeated}
@@ -103,6 +104,19 @@ askers_within (Some digits) askers e =
     let bounds = number_within 1 ASKER_LIMIT digits askers e in
     record { some = bounds.0; few = bounds.1 }
 
+-- a number of arrivals is 1 at least
+number_of_turns : (digits : Text) (found : Option ℕ) (turns : Option ℕ) → number_to TURN_LIMIT digits ≡ found → option_map (λ (n : ℕ). Some n) found ≡ Some turns → IfSome turns (λ n. 1 ≤ n)
+number_of_turns digits None turns at e = cc
+number_of_turns digits (Some n) turns at e =
+    let P : Option ℕ → Type 0 = λ t. IfSome t (λ n. 1 ≤ n) in subst P (some_is (Some n) turns e) (number_within 1 TURN_LIMIT digits n at).0
+
+turns_by : (forever : Bool) (digits : Text) (turns : Option ℕ) → (if forever then Some None else option_map (λ (n : ℕ). Some n) (number_to TURN_LIMIT digits)) ≡ Some turns → IfSome turns (λ n. 1 ≤ n)
+turns_by true digits turns e = let P : Option ℕ → Type 0 = λ t. IfSome t (λ n. 1 ≤ n) in subst P (some_is None turns e) tt
+turns_by false digits turns e = number_of_turns digits (number_to TURN_LIMIT digits) turns refl e
+
+turns_within : (text : Text) (turns : Option ℕ) → turns_of text ≡ Some turns → IfSome turns (λ n. 1 ≤ n)
+turns_within text turns e = turns_by (bytes_eq text (codes "forever")) text turns e
+
 settings_within : (rows : List Row) (settings : Settings) → settings_of rows ≡ Some settings → IsServable settings
 unfolding settings_of
 settings_within rows settings e =
@@ -120,7 +134,7 @@ settings_within rows settings e =
     let cache = cache_within (first_of (codes "ENTRIES") rows) g.0 g.1 in
     let zones = zones_within texts.0 f.0 texts.2 in
     subst IsServable (some_is _ settings f.2) (record {
-      some_turns = (number_within 1 TURN_LIMIT turns.0 c.0 turns.2).0;
+      some_turns = turns_within turns.0 c.0 turns.2;
       some_workers = (number_within 1 WORKER_LIMIT workers.0 d.0 workers.2).0;
       few_workers = (number_within 1 WORKER_LIMIT workers.0 d.0 workers.2).1;
       some_askers = askers.some;

@@ -1,5 +1,5 @@
 -- What holds of what words ask for.
-use Rattle.std.specs.Prelude.{◌≤◌, length}
+use Rattle.std.specs.Prelude.{◌≤◌, length, IfSome}
 use Rattle.zone_rows.specs.declared.zone.TheConstants.{ZONE_LIMIT}
 use Rattle.rpz_words.specs.declared.command.Command.{Command}
 use Rattle.rpz_words.specs.declared.command.Command.TheVariants.{Load, Replay, Serve, Show}
@@ -10,7 +10,7 @@ use Rattle.rpz_words.specs.Zones.{HasDistinctOrigins}
 
 -- what a server is to do is within its limits
 pub record IsServable (settings : Settings) : Type 0 where
-  pub some_turns : 1 ≤ settings.turns
+  pub some_turns : IfSome settings.turns (λ turns. 1 ≤ turns)
   pub some_workers : 1 ≤ settings.workers
   pub few_workers : settings.workers ≤ WORKER_LIMIT
   pub some_askers : 1 ≤ settings.askers

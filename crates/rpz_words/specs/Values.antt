@@ -1,7 +1,9 @@
 -- What the value of an argument says, if it has the form.
-use Rattle.std.specs.Prelude.{ℕ, ◌==◌, ◌||◌, Bool, nat_lt, List, [], ◌∷◌, length, Option, Some, None}
+use Rattle.std.specs.Prelude.{ℕ, ◌==◌, ◌||◌, Bool, if◌then◌else◌, nat_lt, List, [], ◌∷◌, length, Option, Some, None, codes}
 use Rattle.std.specs.List.{before_first, after_first}
+use Rattle.std.specs.Option.{option_map}
 use Rattle.std.specs.Result.{result_ok}
+use Rattle.std.specs.Str.{bytes_eq}
 use Rattle.dns_name.specs.Labels.{Name}
 use Rattle.dns_name.specs.Text.{text_name}
 use Rattle.edge_io.specs.declared.endpoint.Endpoint.{Endpoint}
@@ -47,9 +49,11 @@ queries_of digits = count_to QUERY_LIMIT digits
 abbrev pub load_workers_of : List ℕ → Option ℕ
 load_workers_of digits = number_to LOAD_WORKER_LIMIT digits
 
--- how many arrivals are taken: 1 to 4,294,967,295
-abbrev pub turns_of : List ℕ → Option ℕ
-turns_of digits = number_to TURN_LIMIT digits
+-- how many arrivals are taken: 1 to 4,294,967,295; or as many as come, which is None
+abbrev pub turns_of : List ℕ → Option (Option ℕ)
+turns_of text =
+    if bytes_eq text (codes "forever") then Some None
+    else option_map (λ turns. Some turns) (number_to TURN_LIMIT text)
 
 -- how many workers answer datagrams: 1 to 16
 abbrev pub workers_of : List ℕ → Option ℕ

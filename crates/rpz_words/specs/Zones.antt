@@ -1,14 +1,9 @@
 -- The policy zones of a server.
-use Rattle.std.specs.Prelude.{◌≢◌, ℕ, ◌-◌, ◌||◌, Bool, false, List, [], ◌∷◌, AllPairs, Option, option_map, slice_get}
+use Rattle.std.specs.Prelude.{◌≢◌, ◌||◌, Bool, false, List, [], ◌∷◌, AllPairs}
 use Rattle.std.specs.List.{list_any}
 use Rattle.dns_name.specs.Alike.{same_name}
 use Rattle.dns_name.specs.Labels.{lowered, Name}
-use Rattle.edge_io.specs.declared.endpoint.Endpoint.{Endpoint}
 use Rattle.rpz_words.specs.declared.zones.ZoneSetting.{ZoneSetting}
-
--- the primary of the zone of this number; zone 1 is the first
-abbrev pub primary_at : List ZoneSetting → ℕ → Option Endpoint
-primary_at zones number = option_map (λ zone. zone.primary) (slice_get zones (number - 1))
 
 -- a zone has this name; ASCII letters compare without case (RFC 1035, section 2.3.3)
 abbrev pub has_origin : Name → List ZoneSetting → Bool

@@ -38,7 +38,7 @@ what the rules don't decide.
 
   LISTEN            where clients are answered: A.B.C.D:PORT
   UPSTREAM          the recursive resolver, asked over TCP: A.B.C.D:PORT
-  TURNS             after how many arrivals it ends: 1 to 4294967295
+  TURNS             after how many arrivals it ends, 1 to 4294967295; or `forever`
   WORKERS           how many threads answer datagrams: 1 to 16
   ZONE@PRIMARY      a policy zone, and the primary that it is transferred from,
                     A.B.C.D:PORT; 1 to 32 zones, in order of precedence
@@ -50,7 +50,7 @@ Options, anywhere behind `serve`:
                     16 to 1048576, and 65536 if it isn't given
 
 Example:
-  rpz serve 192.0.2.53:53 127.0.0.1:5353 4294967295 4 rpz.example@127.0.0.1:5301
+  rpz serve 192.0.2.53:53 127.0.0.1:5353 forever 4 rpz.example@127.0.0.1:5301
 ";
 
 const REPLAY_PAGE: &str = "\

@@ -4,7 +4,7 @@ ghost use Rattle.std.specs.Prelude.{◌≡◌, [], IfOk, OnOk, Ok, Err, None, So
 ghost use Rattle.clap.specs.Words.{all_of, first_of, found_of, rows_of, subcommand_of, subcommand_rows_of, takes};
 ghost use Rattle.clap.specs.Faults.{fault_of};
 ghost use Rattle.rpz_words.specs.Outcome.{Gives};
-ghost use Rattle.rpz_words.specs.Values.{askers_of, cache_of, endpoint_of};
+ghost use Rattle.rpz_words.specs.Values.{askers_of, cache_of, endpoint_of, turns_of};
 ghost use Rattle.rpz_words.specs.Values as values_form;
 ghost use Rattle.rpz_words.specs.Limits.{IsWithinLimits};
 ghost use Rattle.rpz_words.specs.Words as words_form;
@@ -16,9 +16,9 @@ use crate::command_set::rpz_command;
 use crate::pages;
 use crate::settings::{
     ASKER_LIMIT, LEAST_CACHE, LOAD_WORKER_LIMIT, LoadSettings, MOST_CACHE, QUERY_LIMIT, RULE_LIMIT,
-    SEED_LIMIT, Settings, TURN_LIMIT, USUAL_ASKERS, USUAL_CACHE, WORKER_LIMIT,
+    SEED_LIMIT, Settings, USUAL_ASKERS, USUAL_CACHE, WORKER_LIMIT,
 };
-use crate::values::{count_to, number_between, number_to, read_endpoint, read_zones};
+use crate::values::{count_to, number_between, number_to, read_endpoint, read_turns, read_zones};
 use crate::words_error::WordsError;
 use crate::zones::Zones;
 use clap::ArgMatches;
@@ -105,7 +105,7 @@ fn read_settings(alloc: Global, matches: &ArgMatches) -> Result<Settings, WordsE
 {
     let listen = endpoint_at(matches, "LISTEN").ok_or(WordsError::Usage)?;
     let upstream = endpoint_at(matches, "UPSTREAM").ok_or(WordsError::Usage)?;
-    let turns = number_at(matches, "TURNS", TURN_LIMIT).ok_or(WordsError::Usage)?;
+    let turns = turns_at(matches, "TURNS").ok_or(WordsError::Usage)?;
     let workers = number_at(matches, "WORKERS", WORKER_LIMIT as u32).ok_or(WordsError::Usage)?;
     let askers = askers_at(matches, "N").ok_or(WordsError::Usage)?;
     let cache = cache_at(matches, "ENTRIES").ok_or(WordsError::Usage)?;
@@ -159,6 +159,13 @@ fn count_at(matches: &ArgMatches, id: &str, most: u32) -> Option<u32>
         ≡ value_at (values_form.count_to most) id.now (rows_of (found_of matches.now)) }
 {
     count_to(text_at(matches, id)?.as_bytes(), most)
+}
+
+// How many arrivals are taken, that an argument has as its value.
+fn turns_at(matches: &ArgMatches, id: &str) -> Option<Option<u32>>
+    ensures { result ≡ value_at turns_of id.now (rows_of (found_of matches.now)) }
+{
+    read_turns(text_at(matches, id)?)
 }
 
 // How many workers ask the upstream: the value of an option, or the usual number where it isn't given.

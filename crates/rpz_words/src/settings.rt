@@ -18,7 +18,7 @@ pub const LOAD_WORKER_LIMIT: u32 = edge_io::WORKER_LIMIT as u32;
 /// The greatest seed of a load run.
 pub(crate) const SEED_LIMIT: u32 = u32::MAX;
 
-/// The most arrivals that a server takes.
+/// The most arrivals that a server takes, where it is to end after so many.
 pub(crate) const TURN_LIMIT: u32 = u32::MAX;
 
 /// The fewest answers that a server's cache may be limited to.
@@ -43,8 +43,8 @@ pub struct Settings {
     pub listen: Endpoint,
     /// The upstream, which is asked for what the policy doesn't decide.
     pub upstream: Endpoint,
-    /// How many arrivals are taken: 1 to 4,294,967,295.
-    pub turns: u32,
+    /// How many arrivals are taken, 1 to 4,294,967,295; `None` where there is no limit.
+    pub turns: Option<u32>,
     /// How many workers answer datagrams by the rules and the cache: 1 to 16.
     pub workers: usize,
     /// How many workers ask the upstream for what those pass on: 1 to 512.

@@ -3,8 +3,9 @@
 ghost use Rattle.std.specs.Prelude.{◌≡◌, ◌≤◌, IfSome, map};
 ghost use Rattle.rpz_words.specs.Outcome.{Gives};
 ghost use Rattle.rpz_words.specs.Values as values_form;
-ghost use Rattle.rpz_words.specs.Values.{endpoint_of, origin_of, port_of, zone_setting_of, zone_settings_of, zones_of};
+ghost use Rattle.rpz_words.specs.Values.{endpoint_of, origin_of, port_of, turns_of, zone_setting_of, zone_settings_of, zones_of};
 
+use crate::settings::TURN_LIMIT;
 use crate::words_error::WordsError;
 use crate::zones::{ZoneSetting, Zones};
 use dns_name::{Name, TextError};
@@ -50,6 +51,19 @@ pub(crate) fn count_to(digits: &[u8], most: u32) -> Option<u32>
         return None;
     }
     Some(number)
+}
+
+/// How many arrivals a text says: 1 to 4,294,967,295; or `forever`, which is `None`.
+pub(crate) fn read_turns(text: &str) -> Option<Option<u32>>
+    ensures { result ≡ turns_of text.now }
+{
+    if text == "forever" {
+        return Some(None);
+    }
+    match number_to(text.as_bytes(), TURN_LIMIT) {
+        Some(turns) => Some(Some(turns)),
+        None => None,
+    }
 }
 
 // The port that 1 to 5 decimal digits write.

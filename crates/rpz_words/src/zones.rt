@@ -1,8 +1,7 @@
 //! The policy zones of a server.
 
-ghost use Rattle.std.specs.Prelude.{◌≡◌, ◌≤◌, [], ◌∷◌, ◌++◌, Some, length, map, IfOk, OnOk, OnErr};
+ghost use Rattle.std.specs.Prelude.{◌≡◌, [], ◌∷◌, ◌++◌, length, map, IfOk, OnOk, OnErr};
 ghost use Rattle.rpz_words.specs.Zones as zones_form;
-ghost use Rattle.rpz_words.specs.Zones.{primary_at};
 
 use dns_name::Name;
 use edge_io::Endpoint;
@@ -50,15 +49,6 @@ impl Zones {
         self.zones.len()
     }
 
-    /// Where the zone of this number is transferred from. Zone 1 is the first.
-    pub fn primary(&self, number: u32) -> Endpoint
-        requires some { 1 ≤ number }
-        requires within { number ≤ length self.now }
-        ensures { primary_at self.now number ≡ Some result }
-    {
-        self.zones[number as usize - 1].primary
-    }
-
     /// Copies of the zones' names, in order.
     pub fn origins(&self, alloc: Global) -> Result<Vec<Name>, AllocError>
         ensures { IfOk result (λ names. names.items ≡ map (λ setting. setting.origin) self.now) }
@@ -68,6 +58,16 @@ impl Zones {
             names.push(copied(&setting.origin)?)?;
         }
         Ok(names)
+    }
+
+    /// Where the zones are transferred from, in order.
+    pub fn primaries(&self, alloc: Global) -> Result<Vec<Endpoint>, AllocError>
+        ensures { IfOk result (λ found. found.items ≡ map (λ setting. setting.primary) self.now) }
+    {
+        self.zones
+            .iter()
+            .map(|setting| setting.primary)
+            .collect(alloc)
     }
 
     // Whether two zones have one name. ASCII letters compare without case.
