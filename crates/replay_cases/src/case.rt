@@ -16,7 +16,7 @@ use std::thread::Threads;
 use std::time::Clock;
 
 // Wires on which nothing comes.
-type NoWires = ListWires<ListSource, ListSink, ListLink, ListReplies<ListSource, ListSink>>;
+type NoWires<R> = ListWires<ListSource, ListSink, ListLink, ListReplies<ListSource, ListSink>, R>;
 
 /// What the line before a script says of it.
 #[derive(Drop)]
@@ -69,14 +69,15 @@ impl Case {
     ) -> Result<Vec<u8>, AllocError> {
         let mut source = ListSource::new(script, self.piece, Vec::new(alloc));
         let mut sink = ListSink::new(Vec::new(alloc), self.piece, Vec::new(alloc));
-        let mut wires: NoWires = ListWires::new(
+        let mut wires: NoWires<R> = ListWires::new(
+            rt,
             alloc,
             VecDeque::new(alloc),
             VecDeque::new(alloc),
             VecDeque::new(alloc),
-            VecDeque::new(alloc),
             Vec::new(alloc),
-        );
+            Vec::new(alloc),
+        )?;
         let mut spawner: TaskSpawner<Report, R> = TaskSpawner::new(
             rt,
             alloc,

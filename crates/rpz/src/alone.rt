@@ -16,7 +16,7 @@ use std::sync::Wait;
 use std::thread::Threads;
 use std::time::Clock;
 
-type NoWires = ListWires<ListSource, ListSink, ListLink, ListReplies<ListSource, ListSink>>;
+type NoWires<R> = ListWires<ListSource, ListSink, ListLink, ListReplies<ListSource, ListSink>, R>;
 
 /// The one word `replay`.
 pub fn replay_words(alloc: Global) -> Result<Vec<String>, AllocError> {
@@ -32,14 +32,15 @@ pub fn run_alone<
     K: Sink,
 >(rt: R, alloc: Global, words: &[String], script: &mut S, out: &mut K) -> io::Result<Status> {
     let hashers = RandomState::new(&rt)?;
-    let mut wires: NoWires = ListWires::new(
+    let mut wires: NoWires<R> = ListWires::new(
+        rt,
         alloc,
         VecDeque::new(alloc),
         VecDeque::new(alloc),
         VecDeque::new(alloc),
-        VecDeque::new(alloc),
         Vec::new(alloc),
-    );
+        Vec::new(alloc),
+    )?;
     let mut spawner: TaskSpawner<Report, R> = TaskSpawner::new(rt, alloc, true, Vec::new(alloc));
     let mut clock = ListClock::new(alloc, VecDeque::new(alloc));
     let mut ids = ListIds::new(alloc, VecDeque::new(alloc));

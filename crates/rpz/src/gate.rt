@@ -1,11 +1,11 @@
 //! Workers of a server whose questions hold until another reply was sent.
 
-use crate::cases::{CASES, DENIAL, DENIED, NEVER};
+use crate::cases::{DENIAL, DENIED, Moment, NEVER, TRANSFER, Woken};
 use crate::outside::{Flag, Meeting, Upstream};
-use crate::runs::{Memory, datagram, fetches, flag, posts, run_line};
+use crate::runs::{Memory, datagram, flag, posts, run_line, stages};
 use crossbeam_channel::{Receiver, Sender, unbounded};
 use dns_name::Octets;
-use edge_io::ListWires;
+use edge_io::{ListWires, Wake, WireStage};
 use rpz_program::status::Status;
 use std::alloc::Global;
 use std::collections::VecDeque;
@@ -22,6 +22,13 @@ const TWO_ASKERS: &str =
 
 const ONE_ASKER: &str =
     "serve --askers 1 127.0.0.1:5300 127.0.0.1:53 2 1 rpz.example@127.0.0.1:5301";
+
+// The zone is taken before the workers are started.
+static FIRST_PASS: [Moment; 1] = [Moment {
+    datagrams: &[],
+    times: 0,
+    wake: Woken::Frame(0, TRANSFER),
+}];
 
 // Queries of the IDs 1 and 2 for the address of `x.example`.
 const FIRST: &[u8] = b"\0\x01\x01\0\0\x01\0\0\0\0\0\0\x01x\x07example\0\0\x01\0\x01";
@@ -66,12 +73,22 @@ fn wires<R: Threads + Wait + Clock + Copy + Drop + Send + Sync + 'static>(
         links.push_back(upstream(rt, &asked, &replied)?)?;
         backs.push_back(posts(rt, alloc, sender, &replied)?)?;
     }
-    let mut arrivals = VecDeque::new(alloc);
+    let mut stages = stages(alloc, &FIRST_PASS)?;
+    let mut stage = WireStage::new(alloc, Some(Wake::Due));
     for query in queries {
-        arrivals.push_back(datagram(alloc, query)?)?;
+        stage.datagrams.push(datagram(alloc, query)?)?;
     }
-    let fetched = fetches(alloc, CASES[0].streams)?;
-    Ok(ListWires::new(alloc, arrivals, fetched, links, backs, Vec::new(alloc)))
+    stages.push_back(stage)?;
+    let wires = ListWires::new(
+        rt,
+        alloc,
+        stages,
+        links,
+        backs,
+        Vec::new(alloc),
+        Vec::new(alloc),
+    )?;
+    Ok(wires)
 }
 
 // Both replies were sent, in either order.

@@ -9,6 +9,7 @@ mod cases;
 mod gate;
 #[cfg(test)]
 mod loopback;
+mod output;
 #[cfg(test)]
 mod outside;
 #[cfg(test)]
@@ -18,19 +19,30 @@ mod replays;
 #[cfg(test)]
 mod runs;
 
-use edge_io::{ReaderSource, TaskSpawner, WriterSink};
+use edge_io::{ReaderSource, TaskSpawner};
+use output::Output;
 use rpz_net::{NetWires, RandomIds, SystemClock};
 use rpz_program::run::run;
+use rpz_program::status::Status;
 use rpz_workers::Report;
+use std::alloc::Global;
 use std::hash::RandomState;
 use std::process::ExitCode;
 use std::{env, io};
 
+// The words of the command line behind the program's name; `None` where one is no UTF-8.
+fn words_of(rt: &HostRuntime, alloc: Global) -> io::Result<Option<Vec<String>>> {
+    match env::args(rt) {
+        Ok(args) => Ok(Some(args.skip(1).collect(alloc)?)),
+        Err(error) if error.kind() == io::ErrorKind::InvalidData => Ok(None),
+        Err(error) => Err(error),
+    }
+}
+
 fn main(rt: HostRuntime) -> io::Result<ExitCode> {
     let alloc = rt.alloc();
-    let words: Vec<String> = env::args(&rt)?.skip(1).collect(alloc)?;
     let mut script = ReaderSource::new(rt.reader());
-    let mut out = WriterSink::new(io::writer(&rt));
+    let mut out = Output::new(io::writer(&rt), rt.stderr());
     let mut wires = NetWires::new(rt, alloc);
     let mut spawner: TaskSpawner<Report, HostRuntime> = TaskSpawner::new(
         rt,
@@ -41,19 +53,23 @@ fn main(rt: HostRuntime) -> io::Result<ExitCode> {
     let mut clock = SystemClock::new(rt);
     let mut ids = RandomIds::new(rt);
     let hashers = RandomState::new(&rt)?;
-    let status = run(
-        &rt,
-        alloc,
-        &words,
-        &mut script,
-        &mut out,
-        &mut wires,
-        &mut spawner,
-        &mut clock,
-        &mut ids,
-        hashers,
-    );
-    if let Some(text) = status.text(alloc)? {
+    let status = match words_of(&rt, alloc)? {
+        Some(words) => run(
+            &rt,
+            alloc,
+            &words,
+            &mut script,
+            &mut out,
+            &mut wires,
+            &mut spawner,
+            &mut clock,
+            &mut ids,
+            hashers,
+        ),
+        None => Status::Usage,
+    };
+    let is_told = out.is_told && status == Status::WriteFault;
+    if !is_told && let Some(text) = status.text(alloc)? {
         eprintln!(rt; "{text}")?;
     }
     Ok(ExitCode::from(status.code()))

@@ -5,6 +5,7 @@ ghost use Rattle.std.specs.Prelude.{◌≡◌, None, ⊤};
 use crossbeam_channel::Sender;
 use dns_name::Octets;
 use edge_io::{Endpoint, Link, LinkError, ListSink, ListSource, Replies, SendError, StreamEnd};
+use ip_prefix::Transport;
 use std::alloc::Global;
 use std::sync::atomic::{AtomicBool, Ordering};
 use std::sync::{Arc, Wait};
@@ -34,7 +35,12 @@ impl<R: Wait + Drop> Replies<ListSource, ListSink> for Posts<R> {
 
     ghost faults = { λ r. r.faults };
 
-    fn send(&mut self, _peer: Endpoint, bytes: &[u8]) -> Result<(), SendError> {
+    fn send(
+        &mut self,
+        _peer: Endpoint,
+        _transport: Transport,
+        bytes: &[u8],
+    ) -> Result<(), SendError> {
         let reply = Octets::from_slice(self.alloc, bytes)?;
         let sent = self.sender.send(&self.rt, reply);
         self.replied.store(true, Ordering::SeqCst);

@@ -1,18 +1,18 @@
 //! Whole runs of a server over wires in memory, with workers in threads.
 
-use crate::cases::{CASES, Case, NEVER, SERVED, Stream};
+use crate::cases::{CASES, Case, Moment, NEVER, SERVED, Woken};
 use crate::outside::{Flag, Posts, Upstream};
 use crossbeam_channel::{Receiver, Sender, unbounded};
 use dns_name::Octets;
 use edge_io::{
-    Arrival, Bytes, Endpoint, ListClock, ListIds, ListSink, ListSource, ListWires, TaskSpawner,
-    Wires,
+    Arrival, Bytes, Endpoint, ListClock, ListIds, ListSink, ListSource, ListWires, Order,
+    SentOrder, SentReply, TaskSpawner, Wake, WireStage, Wires,
 };
 use ip_prefix::Addr;
 use rpz_program::run::run;
 use rpz_program::status::Status;
 use rpz_workers::Report;
-use std::alloc::Global;
+use std::alloc::{AllocError, Global};
 use std::collections::VecDeque;
 use std::hash::RandomState;
 use std::process::Abort;
@@ -24,9 +24,9 @@ use std::thread::Threads;
 use std::time::Clock;
 
 /// The wires of a run.
-pub type Memory<R> = ListWires<ListSource, ListSink, Upstream<R>, Posts<R>>;
+pub type Memory<R> = ListWires<ListSource, ListSink, Upstream<R>, Posts<R>, R>;
 
-type Side = Option<Arrival<ListSource, ListSink>>;
+type Stage = WireStage<ListSource, ListSink>;
 
 /// The words that a line has.
 pub fn words_of(alloc: Global, line: &str) -> Result<Vec<String>, Fail> {
@@ -43,51 +43,63 @@ pub fn flag(alloc: Global) -> Result<Flag, Fail> {
 }
 
 /// A datagram of 192.0.2.7.
-pub fn datagram(alloc: Global, bytes: &[u8]) -> Result<Side, Fail> {
-    Ok(Some(Arrival::Datagram {
+pub fn datagram(alloc: Global, bytes: &[u8]) -> Result<Arrival<ListSource, ListSink>, AllocError> {
+    Ok(Arrival::Datagram {
         peer: Endpoint {
             addr: Addr::V4(0xc000_0207),
             port: 53_000,
         },
         bytes: Octets::from_slice(alloc, bytes)?,
-    }))
+    })
 }
 
-fn sides(alloc: Global, stream: &Stream) -> Result<(ListSource, ListSink), Fail> {
-    let source = ListSource::new(
-        stream.bytes.to_vec(alloc)?,
-        4_096,
-        vec![in alloc; stream.failing_read]?,
-    );
-    let sink = ListSink::new(
-        Vec::new(alloc),
-        4_096,
-        vec![in alloc; stream.failing_write]?,
-    );
-    Ok((source, sink))
+// The message of a frame.
+fn message_in(frame: &'static [u8]) -> &'static [u8] {
+    match frame {
+        [_, _, message @ ..] => message,
+        _ => frame,
+    }
 }
 
-/// Connections to primaries, in order.
-pub fn fetches(
-    alloc: Global,
-    streams: &[Option<Stream>],
-) -> Result<VecDeque<Option<(ListSource, ListSink)>>, Fail> {
-    let mut all = VecDeque::new(alloc);
-    for stream in streams {
-        match stream {
-            Some(stream) => all.push_back(Some(sides(alloc, stream)?))?,
-            None => all.push_back(None)?,
+fn wake_of(alloc: Global, woken: &Woken) -> Result<Option<Wake>, AllocError> {
+    let wake = match woken {
+        Woken::Due => Wake::Due,
+        Woken::Frame(number, frame) => Wake::Frame {
+            order: Order { number: *number },
+            bytes: Octets::from_slice(alloc, message_in(frame))?,
+        },
+        Woken::Over(number, why) => Wake::Over {
+            order: Order { number: *number },
+            why: *why,
+        },
+        Woken::Notify(last, bytes) => Wake::Notify {
+            peer: Endpoint {
+                addr: Addr::V4(0x7f00_0000 + u32::from(*last)),
+                port: 53_001,
+            },
+            bytes: Octets::from_slice(alloc, bytes)?,
+        },
+        Woken::Fails => return Ok(None),
+    };
+    Ok(Some(wake))
+}
+
+// What comes at one wait.
+fn stage_of(alloc: Global, moment: &Moment) -> Result<Stage, AllocError> {
+    let mut stage = WireStage::new(alloc, wake_of(alloc, &moment.wake)?);
+    for _ in 0..moment.times {
+        for bytes in moment.datagrams {
+            stage.datagrams.push(datagram(alloc, bytes)?)?;
         }
     }
-    Ok(all)
+    Ok(stage)
 }
 
-fn arrivals(alloc: Global, case: &Case) -> Result<VecDeque<Side>, Fail> {
+/// What comes at each wait.
+pub fn stages(alloc: Global, moments: &[Moment]) -> Result<VecDeque<Stage>, AllocError> {
     let mut all = VecDeque::new(alloc);
-    for _ in 0..case.times {
-        for bytes in case.datagrams {
-            all.push_back(datagram(alloc, bytes)?)?;
-        }
+    for moment in moments {
+        all.push_back(stage_of(alloc, moment)?)?;
     }
     Ok(all)
 }
@@ -127,14 +139,16 @@ fn wires<R: Threads + Wait + Clock + Copy + Drop + Send + Sync + 'static>(
         })?;
         backs.push_back(posts(rt, alloc, sender, &unused)?)?;
     }
-    Ok(ListWires::new(
+    let wires = ListWires::new(
+        rt,
         alloc,
-        arrivals(alloc, case)?,
-        fetches(alloc, case.streams)?,
+        stages(alloc, case.moments)?,
         links,
         backs,
         vec![in alloc; case.failing_bind]?,
-    ))
+        vec![in alloc; case.failing_order]?,
+    )?;
+    Ok(wires)
 }
 
 /// Runs a line of words over wires, with workers in threads: how it ends, and what it writes, one byte a call.
@@ -193,6 +207,22 @@ pub fn assert_replies<R: Wait + Abort>(
     assert!(rt; replies.try_recv(rt).is_err(), "{name}");
 }
 
+// Transfers were ordered of the primaries at these ports.
+fn assert_ordered<R: Abort>(rt: &R, ordered: &[SentOrder], expected: &[u16], name: &str) {
+    assert_eq!(rt; ordered.len(), expected.len(), "{name}");
+    for (order, port) in ordered.iter().zip(expected.iter()) {
+        assert_eq!(rt; order.primary.port, *port, "{name}");
+    }
+}
+
+// These replies to NOTIFYs were sent.
+fn assert_answered<R: Abort>(rt: &R, answered: &[SentReply], expected: &[&[u8]], name: &str) {
+    assert_eq!(rt; answered.len(), expected.len(), "{name}");
+    for (reply, bytes) in answered.iter().zip(expected.iter()) {
+        assert_eq!(rt; reply.bytes.as_slice(), *bytes, "{name}");
+    }
+}
+
 fn run_case<R: Threads + Wait + Abort + Clock + RandomSource + Copy + Drop + Send + Sync + 'static>(
     rt: R,
     alloc: Global,
@@ -204,6 +234,8 @@ fn run_case<R: Threads + Wait + Abort + Clock + RandomSource + Copy + Drop + Sen
     assert_eq!(rt; status, case.status, "{}", case.name);
     assert_eq!(rt; written.as_slice(), case.written, "{}", case.name);
     assert_replies(&rt, &replies, case.replies, case.name);
+    assert_ordered(&rt, &wires.ordered, case.ordered, case.name);
+    assert_answered(&rt, &wires.answered, case.answered, case.name);
     Ok(())
 }
 

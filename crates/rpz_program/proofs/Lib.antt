@@ -1,10 +1,9 @@
 pub mod Simulation
 pub mod RunSteps
 pub mod Reached
-pub mod ZonePolls
+pub mod Outputs
+pub mod Turned
 pub mod Runs
-pub mod Numbers
 pub mod Kept
-pub mod Fetched
 pub mod Statuses
 pub mod Loads

@@ -1,5 +1,5 @@
 -- How load runs and pages end.
-use Rattle.std.proofs.Common.{◌≡◌, ◌≢◌, ℕ, List, length, take, Option, Some, Result, Ok, Err, refl, sym, ap, subst, ◌∙◌, arith}
+use Rattle.std.proofs.Common.{◌≡◌, ◌≢◌, ℕ, List, length, Option, Some, Result, Ok, Err, refl, sym, ap, subst, ◌∙◌, arith}
 use Rattle.std.specs.Prelude.{OnErr, OnOk}
 use Rattle.std.proofs.lemmas.List.{take_all}
 use Rattle.edge_io.specs.Edge.{WritesPrefix, appended}

@@ -1,7 +1,7 @@
 -- In a world that a script reaches, a line of the grammar is done.
-use Rattle.std.proofs.Common.{◌≡◌, ℕ, zero, suc, ◌+◌, ◌-◌, ◌==◌, ◌<◌, ◌≤◌, Bool, true, false, if◌then◌else◌, nat_lt, List, [], ◌∷◌, ◌++◌, Option, Some, None, Result, Ok, Err, length, map, replicate, refl, sym, ap, subst, ◌∙◌, arith}
+use Rattle.std.proofs.Common.{◌≡◌, ℕ, zero, suc, ◌+◌, ◌-◌, ◌==◌, ◌<◌, ◌≤◌, Bool, true, false, if◌then◌else◌, nat_lt, List, [], ◌∷◌, Option, Some, None, Result, Ok, Err, length, map, replicate, refl, sym, ap, subst, ◌∙◌, arith}
 use Rattle.std.proofs.lemmas.Bool.Decides.{nat_tests}
-use Rattle.std.specs.Prelude.{IsOk, is_some, slice_get, slice_index_or, ⊤}
+use Rattle.std.specs.Prelude.{IsOk, is_some, slice_get, slice_index_or}
 use Rattle.ip_prefix.specs.declared.Addr.{Addr}
 use Rattle.script_codec.specs.declared.line.Line.{Line}
 use Rattle.script_codec.specs.declared.line.Line.TheVariants.{Zone, Primary, Transfer, Full, Query, Give, Fail, Notify, Due, Clock}
@@ -28,7 +28,7 @@ use Rattle.rpz_core.specs.World.{World, policy_of, world_step}
 use Rattle.rpz_core.proofs.Outputs.{step_keeps}
 use Rattle.rpz_core.proofs.Refusals.{refused_by_state}
 use Rattle.rpz_program.specs.Opened.{with_origin, with_primary}
-use Rattle.rpz_program.specs.Script.{HasEvents, ScriptWorld, opened, begun, IsReached, at_start, after_line, state_in, world_in, shown_outcome, event_outcome, zone_outcome, primary_outcome, world_after_line, step, text_outcome, too_long, too_many}
+use Rattle.rpz_program.specs.Script.{HasEvents, ScriptWorld, opened, answering, IsReached, at_start, after_line, state_in, world_in, shown_outcome, event_outcome, zone_outcome, primary_outcome, world_after_line, step, text_outcome, too_long, too_many}
 
 -- ---- events lead to a world that is reached, and it has its workers
 
@@ -37,7 +37,7 @@ IsLedTo world = (primaries : List (Option Addr)) × (events : List Event) × Rea
 
 events_in : (w : ScriptWorld) → HasEvents w → IsLedTo (world_in w)
 events_in (opened zones) h = (zones.primaries, [], begins)
-events_in (begun world) h = h
+events_in (answering world) h = h
 
 led_on : (world next : World) (e : Event) (out : Output) → IsLedTo world → world_step world e ≡ Ok (next, out) → IsLedTo next
 led_on world next e out h is = (
@@ -71,8 +71,8 @@ done_is given next octets out e = ap (λ (p : ScriptWorld × List ℕ). p.0) (pa
 abbrev GoesByEvents : ScriptWorld → Outcome → Type 0
 GoesByEvents next outcome = (out : List ℕ) → outcome ≡ Ok (next, out) → HasEvents next
 
-event_if : (world : World) (next : ScriptWorld) (e : Event) (r : Result (World × Output) CoreFault) → IsLedTo world → world_step world e ≡ r → GoesByEvents next (outcome_along begun (shown_outcome r))
-event_if world next e (Ok given) h is out same = subst HasEvents (done_is (begun given.0) next _ out same) (led_on world given.0 e given.1 h is)
+event_if : (world : World) (next : ScriptWorld) (e : Event) (r : Result (World × Output) CoreFault) → IsLedTo world → world_step world e ≡ r → GoesByEvents next (outcome_along answering (shown_outcome r))
+event_if world next e (Ok given) h is out same = subst HasEvents (done_is (answering given.0) next _ out same) (led_on world given.0 e given.1 h is)
 event_if world next e (Err fault) h is out same = absurd cc
 
 event_goes : (w next : ScriptWorld) (e : Event) → HasEvents w → GoesByEvents next (event_outcome w e)
@@ -80,11 +80,11 @@ event_goes w next e h = event_if (world_in w) next e (world_step (world_in w) e)
 
 zone_goes : (w next : ScriptWorld) (origin : List (List ℕ)) → GoesByEvents next (zone_outcome w origin)
 zone_goes (opened zones) next origin out is = subst HasEvents (done_is (opened (with_origin zones origin)) next [] out is) tt
-zone_goes (begun world) next origin out is = absurd cc
+zone_goes (answering world) next origin out is = absurd cc
 
 primary_goes : (w next : ScriptWorld) (zone : ℕ) (address : Addr) → GoesByEvents next (primary_outcome w zone address)
 primary_goes (opened zones) next zone address out is = subst HasEvents (done_is (opened (with_primary zones zone address)) next [] out is) tt
-primary_goes (begun world) next zone address out is = absurd cc
+primary_goes (answering world) next zone address out is = absurd cc
 
 line_goes : (w next : ScriptWorld) (line : Line) → HasEvents w → GoesByEvents next (world_after_line w line)
 unfolding world_after_line
@@ -170,11 +170,11 @@ none_pending (suc count) (suc k) = none_pending count k
 -- which workers are pending, in the world of the core
 pending_in : (w : ScriptWorld) (k : ℕ) → is_pending (state_in w) k ≡ slice_index_or (map is_some (world_in w).sessions.workers) k false
 pending_in (opened zones) k = sym (none_pending WORKERS k)
-pending_in (begun world) k = refl
+pending_in (answering world) k = refl
 
 zones_in : (w : ScriptWorld) → length (policy_of (world_in w)) ≡ zone_count (state_in w)
 zones_in (opened zones) = policy_length zones.origins []
-zones_in (begun world) = policy_length world.origins world.accepted
+zones_in (answering world) = policy_length world.origins world.accepted
 
 zone_found : (w : ScriptWorld) (number : ℕ) → IsZone (state_in w) number → zone_fault (zone_at (policy_of (world_in w)) number) ≡ None
 zone_found w number h = number_there (policy_of (world_in w)) number h.0 (subst (λ (n : ℕ). number ≤ n) (sym (zones_in w)) h.1)
@@ -190,7 +190,7 @@ fact_found w k has h busy = fact_awaited (world_in w).sessions.workers k (worker
 
 -- ---- so it is done
 
-event_done_if : (world : World) (e : Event) (r : Result (World × Output) CoreFault) → fault_of world e ≡ None → world_step world e ≡ r → IsOk (outcome_along begun (shown_outcome r))
+event_done_if : (world : World) (e : Event) (r : Result (World × Output) CoreFault) → fault_of world e ≡ None → world_step world e ≡ r → IsOk (outcome_along answering (shown_outcome r))
 event_done_if world e (Ok next) h is = refl
 event_done_if world e (Err fault) h is = let faulty = (refused_by_state world e fault).0 is in absurd cc
 
@@ -199,11 +199,11 @@ event_done w e h = event_done_if (world_in w) e (world_step (world_in w) e) h re
 
 zone_done : (w : ScriptWorld) (origin : List (List ℕ)) → MayOpen (state_in w) origin → IsOk (zone_outcome w origin)
 zone_done (opened zones) origin h = refl
-zone_done (begun world) origin h = absurd h
+zone_done (answering world) origin h = absurd h
 
 primary_done : (w : ScriptWorld) (zone : ℕ) (address : Addr) → MayHavePrimary (state_in w) zone → IsOk (primary_outcome w zone address)
 primary_done (opened zones) zone address h = refl
-primary_done (begun world) zone address h = absurd h
+primary_done (answering world) zone address h = absurd h
 
 within_done : (w : ScriptWorld) (line : Line) → HasEvents w → IsWithin (state_in w) line → IsOk (world_after_line w line)
 unfolding world_after_line

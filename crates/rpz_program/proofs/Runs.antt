@@ -1,50 +1,202 @@
 -- Parts of a server's run.
-use Rattle.std.proofs.Common.{◌≡◌, ◌≢◌, ◌+◌, ℕ, List, Option, refl, sym, ap, ◌∙◌, subst, add-one, inl, inr, Result, Ok, Err, arith}
-use Rattle.std.specs.Prelude.{IfErr, OnErr}
+use Rattle.std.proofs.Common.{◌≡◌, ℕ, List, [], ◌∷◌, ◌++◌, Bool, true, false, Option, Some, None, Result, Ok, Err, refl, sym, ◌∙◌, ap, subst, arith, inl, inr}
+use Rattle.std.specs.Prelude.{IfOk, OnErr, OnOk, ◌⊎◌}
 use Rattle.std.proofs.lemmas.List.{append-nil}
-use Rattle.edge_io.specs.Told.{one_more}
+use Rattle.edge_io.specs.Chain.{Stage}
+use Rattle.edge_io.specs.Edge.{WritesPrefix, appended}
+use Rattle.edge_io.specs.Told.{ComesNext}
+use Rattle.edge_io.specs.Wired.{PlainWires}
 use Rattle.edge_io.specs.declared.endpoint.Endpoint.{Endpoint}
-use Rattle.rpz_program.specs.Polls.{ConnectionViews, FeedState, PollsZones, rounds}
-use Rattle.rpz_program.specs.Serving.{BeginsServed, StopsServing, StopsTurns, linked_with, round_count}
+use Rattle.edge_io.proofs.Written.{both_written, message_cut}
+use Rattle.policy_publish.specs.Lists.{Published}
+use Rattle.policy_feed.specs.Feed.{Feed, PlainFeeder, first_feeder}
+use Rattle.rpz_workers.specs.declared.report.Report.{Report}
+use Rattle.rpz_program.specs.Serving.{Gathering, IsWhole, ServesBy, StopsIn, Wrote, sums_line}
+use Rattle.rpz_program.specs.Sums.{GathersAll, no_sums}
+use Rattle.rpz_program.specs.Turning.{Advances, OrdersFirst, RunsAll, StopsAdvancing, StopsFirst, StopsRunning}
+use Rattle.rpz_program.specs.Turns.{ServerStart, ServerState, RunTurn, RunsOn, RunsTo, Turns, linked_told, nothing_published, run_lines, server_state, starts, with_turn_notices}
+use Rattle.rpz_program.specs.declared.progress.Progress.{Progress}
 use Rattle.rpz_program.specs.declared.serve_error.ServeError.{ServeError}
-use Rattle.rpz_program.specs.declared.serve_error.ServeError.TheVariants as error
-use Rattle.rpz_program.specs.declared.zone_source.ZoneSource.{ZoneSource}
-use Rattle.rpz_program.proofs.ZonePolls.{none_polled, stopped_before, turn_stopped}
+use Rattle.rpz_program.specs.declared.sums.Sums.{Sums}
+use Rattle.rpz_program.proofs.Outputs.{wrote_prefix}
+use Rattle.rpz_program.proofs.Turned.{chained, end_both, lines_behind, starts_both, sums_both}
 
-pub linked_more : (linked : Option (List Endpoint)) (at : Endpoint) (n : ℕ) → linked_with linked at (n + 1) ≡ one_more (linked_with linked at n) at
-linked_more linked at n = rw add-one refl
+-- behind the first orders
+abbrev pub begun_at : Feed → ServerState → ServerState
+begun_at feed before = record { feed = feed; moments = before.moments }
 
--- one more link behind so many
-pub linked_next : (before now next : Option (List Endpoint)) (at : Endpoint) (n : ℕ) → next ≡ one_more now at → now ≡ linked_with before at n → next ≡ linked_with before at (n + 1)
-linked_next before now next at n e so_far = e ∙ (ap (λ (l : Option (List Endpoint)). one_more l at) so_far ∙ sym (linked_more before at n))
+-- the workers were started
+abbrev pub started_from : Endpoint → ℕ → ServerState → ServerState
+started_from upstream links b = server_state b.feed.feeder (linked_told upstream links b.feed.told) b.feed.faults b.feed.ids b.moments
 
--- a run that ended in its turns
-pub stopped_in_turns : {S K : Type 0} (views : ConnectionViews S K) (why : ServeError) (before : FeedState S K) (turns : ℕ) (zones : List ZoneSource) (after : FeedState S K) → StopsTurns views why before turns zones after → StopsServing views why before turns zones after.held
-stopped_in_turns views why before turns zones after stop = record { whole = stop.whole; at_most = stop.at_most; count = stop.count; middle = stop.middle; polled = stop.polled; after = after; ends = inl stop.ends; held_is = refl }
+abbrev pub start_at : ServerState → Stage ServerState RunTurn
+start_at b = record { turn = starts; before = b }
 
--- one that ended in its last line
-pub stopped_in_line : {S K : Type 0} (views : ConnectionViews S K) (why : ServeError) (before : FeedState S K) (turns : ℕ) (zones : List ZoneSource) (middle : FeedState S K) (held : Option (List ℕ)) → PollsZones views before (rounds (round_count turns) zones) middle → BeginsServed turns middle.held held
-    → StopsServing views why before turns zones held
-stopped_in_line views why before turns zones middle held polled line =
-    let P : List ZoneSource → Type 0 = λ zs. PollsZones views before zs middle in
+-- the lines of turns behind the start of the workers
+lines_from : (lines : List ℕ) (b : ServerState) (first next : List (Stage ServerState RunTurn)) → (lines ++ run_lines first) ++ run_lines next ≡ lines ++ run_lines (next ++ start_at b ∷ first)
+lines_from lines b first next = ap (λ (l : List ℕ). (lines ++ l) ++ run_lines next) (sym (append-nil (run_lines first))) ∙ lines_behind lines (start_at b ∷ first) next
+
+module _ (upstream : Endpoint) (links second : ℕ) (before : ServerState) (held : Option (List ℕ)) where
+  -- all turns of a run
+  pub all_run : (feed : Feed) (b d : ServerState) (p0 p1 p2 : Progress) (h0 h1 h2 : Option (List ℕ)) (dropped : ℕ) → OrdersFirst second before.feed held feed p0 h0 → Advances (begun_at feed before) p0 h0 None b p1 h1
+      → Advances (started_from upstream links b) p1 h1 (Some dropped) d p2 h2 → RunsAll upstream links second before held d p2 dropped h2
+  all_run feed b d p0 p1 p2 h0 h1 h2 dropped first one two =
+      let chain = chained (Turns upstream links) (begun_at feed before) (started_from upstream links b) d (start_at b ∷ one.stages) two.stages (refl, one.chain upstream links) (two.chain upstream links) in
+      record {
+        stages = two.stages ++ start_at b ∷ one.stages;
+        lines = first.lines ++ run_lines (two.stages ++ start_at b ∷ one.stages);
+        runs = record { begun = begun_at feed before; first = first.lines; orders = first.orders; moments = refl; chain = chain; lines_are = refl };
+        started = let both = starts_both (start_at b ∷ one.stages) two.stages in let x = one.starts in let y = two.starts in omega (arith, both, x, y);
+        ended = end_both (Some dropped) (start_at b ∷ one.stages) two.stages two.ends;
+        notices = two.notices ∙ ap (λ (s : Sums). with_turn_notices s two.stages) (one.notices ∙ ap (λ (s : Sums). with_turn_notices s one.stages) first.notices) ∙ sym (sums_both no_sums (start_at b ∷ one.stages) two.stages);
+        wrote = subst (λ (l : List ℕ). Wrote p2.is_cut l held h2) (lines_from first.lines b one.stages two.stages) (two.wrote (first.lines ++ run_lines one.stages) held (one.wrote first.lines held first.wrote));
+      }
+
+  -- a run that ended in the first orders
+  pub stopped_first : (h1 : Option (List ℕ)) → StopsFirst second before.feed held h1 → StopsRunning upstream links second before held h1
+  stopped_first h1 (inl same) = inl same
+  stopped_first h1 (inr (lines, after, orders, part)) =
+      inr (record {
+        stages = [];
+        lines = lines;
+        last = begun_at after before;
+        runs = record { begun = begun_at after before; first = lines; orders = orders; moments = refl; chain = refl; lines_are = sym (append-nil lines) };
+        written = part;
+      })
+
+  -- one that ended before the workers were started
+  pub stopped_in_pass : (feed : Feed) (p0 : Progress) (h0 h1 : Option (List ℕ)) → OrdersFirst second before.feed held feed p0 h0 → StopsAdvancing (begun_at feed before) p0 h0 h1 → StopsRunning upstream links second before held h1
+  stopped_in_pass feed p0 h0 h1 first one =
+      inr (record {
+        stages = one.stages;
+        lines = first.lines ++ run_lines one.stages;
+        last = one.last;
+        runs = record { begun = begun_at feed before; first = first.lines; orders = first.orders; moments = refl; chain = one.chain upstream links; lines_are = refl };
+        written = one.written first.lines held first.wrote;
+      })
+
+  -- one that ended where the workers were to be started
+  pub stopped_at_start : (feed : Feed) (b : ServerState) (p0 p1 : Progress) (h0 h1 h2 : Option (List ℕ)) (ended : Option ℕ) → OrdersFirst second before.feed held feed p0 h0 → Advances (begun_at feed before) p0 h0 ended b p1 h1 → h2 ≡ h1 → StopsRunning upstream links second before held h2
+  stopped_at_start feed b p0 p1 h0 h1 h2 ended first one same =
+      inr (record {
+        stages = one.stages;
+        lines = first.lines ++ run_lines one.stages;
+        last = b;
+        runs = record { begun = begun_at feed before; first = first.lines; orders = first.orders; moments = refl; chain = one.chain upstream links; lines_are = refl };
+        written = subst (λ (h : Option (List ℕ)). WritesPrefix (first.lines ++ run_lines one.stages) held h) (sym same) (wrote_prefix p1.is_cut (first.lines ++ run_lines one.stages) held h1 (one.wrote first.lines held first.wrote));
+      })
+
+  -- one that ended behind the start of the workers
+  pub stopped_in_turns : (feed : Feed) (b : ServerState) (p0 p1 : Progress) (h0 h1 h2 : Option (List ℕ)) → OrdersFirst second before.feed held feed p0 h0 → Advances (begun_at feed before) p0 h0 None b p1 h1
+      → StopsAdvancing (started_from upstream links b) p1 h1 h2 → StopsRunning upstream links second before held h2
+  stopped_in_turns feed b p0 p1 h0 h1 h2 first one two =
+      let chain = chained (Turns upstream links) (begun_at feed before) (started_from upstream links b) two.last (start_at b ∷ one.stages) two.stages (refl, one.chain upstream links) (two.chain upstream links) in
+      inr (record {
+        stages = two.stages ++ start_at b ∷ one.stages;
+        lines = first.lines ++ run_lines (two.stages ++ start_at b ∷ one.stages);
+        last = two.last;
+        runs = record { begun = begun_at feed before; first = first.lines; orders = first.orders; moments = refl; chain = chain; lines_are = refl };
+        written = subst (λ (l : List ℕ). WritesPrefix l held h2) (lines_from first.lines b one.stages two.stages) (two.written (first.lines ++ run_lines one.stages) held (one.wrote first.lines held first.wrote));
+      })
+
+  -- the turns behind the start of the workers, however they ended
+  pub all_turns : (result : Result (Progress × ℕ) ServeError) (feed : Feed) (b s d : ServerState) (p0 p1 : Progress) (h0 h1 h2 : Option (List ℕ)) → OrdersFirst second before.feed held feed p0 h0 → Advances (begun_at feed before) p0 h0 None b p1 h1
+      → s ≡ started_from upstream links b → IfOk result (λ done. Advances s p1 h1 (Some done.1) d done.0 h2) → IfOk result (λ done. RunsAll upstream links second before held d done.0 done.1 h2)
+  all_turns (Ok done) feed b s d p0 p1 h0 h1 h2 first one same two =
+      all_run feed b d p0 p1 done.0 h0 h1 h2 done.1 first one (subst (λ (x : ServerState). Advances x p1 h1 (Some done.1) d done.0 h2) same two)
+  all_turns (Err why) feed b s d p0 p1 h0 h1 h2 first one same two = tt
+
+  pub some_turns : (result : Result (Progress × ℕ) ServeError) (feed : Feed) (b s : ServerState) (p0 p1 : Progress) (h0 h1 h2 : Option (List ℕ)) → OrdersFirst second before.feed held feed p0 h0 → Advances (begun_at feed before) p0 h0 None b p1 h1
+      → s ≡ started_from upstream links b → OnErr result (StopsAdvancing s p1 h1 h2) → OnErr result (StopsRunning upstream links second before held h2)
+  some_turns (Ok done) feed b s p0 p1 h0 h1 h2 first one same two = tt
+  some_turns (Err why) feed b s p0 p1 h0 h1 h2 first one same two =
+      stopped_in_turns feed b p0 p1 h0 h1 h2 first one (subst (λ (x : ServerState). StopsAdvancing x p1 h1 h2) same two)
+
+  -- the last line of a run whose turns were all taken
+  whole_of : (turns : Option ℕ) (gathering : Gathering) (d : ServerState) (p : Progress) (dropped : ℕ) (h1 : Option (List ℕ)) (sums : Sums) (all : RunsAll upstream links second before held d p dropped h1) → GathersAll gathering.waiting gathering.before gathering.after sums
+      → IsWhole turns all.stages gathering (sums_line turns sums p.notices dropped)
+  whole_of turns gathering d p dropped h1 sums all gathers =
+      record { started = all.started; dropped = dropped; ended = all.ended; sums = sums; gathers = gathers; line_is = ap (λ (s : Sums). sums_line turns sums s dropped) all.notices }
+
+  -- a run is done
+  pub run_done : (turns : Option ℕ) (gathering : Gathering) (d : ServerState) (p : Progress) (dropped : ℕ) (h1 h2 : Option (List ℕ)) (sums : Sums) (told : Option PlainWires) → RunsAll upstream links second before held d p dropped h1 → GathersAll gathering.waiting gathering.before gathering.after sums
+      → p.is_cut ≡ false → h2 ≡ appended h1 (sums_line turns sums p.notices dropped) → told ≡ d.feed.told → ServesBy (RunsOn upstream links second before) turns gathering held h2 told
+  run_done turns gathering d p dropped h1 h2 sums told all gathers whole line told_is =
+      let wrote : Wrote false all.lines held h1 = subst (λ (b : Bool). Wrote b all.lines held h1) whole all.wrote in
+      record {
+        stages = all.stages;
+        lines = all.lines;
+        last = d;
+        run = all.runs;
+        line = sums_line turns sums p.notices dropped;
+        whole = whole_of turns gathering d p dropped h1 sums all gathers;
+        written = both_written held h1 h2 all.lines (sums_line turns sums p.notices dropped) wrote line;
+        told_is = told_is;
+      }
+
+  -- a run whose turns were all taken, and whose last line was not written whole
+  pub run_cut : (turns : Option ℕ) (gathering : Gathering) (d : ServerState) (p : Progress) (dropped : ℕ) (h1 h2 : Option (List ℕ)) (sums : Sums) → RunsAll upstream links second before held d p dropped h1 → GathersAll gathering.waiting gathering.before gathering.after sums
+      → ((p.is_cut ≡ true) × (h2 ≡ h1)) ⊎ ((p.is_cut ≡ false) × WritesPrefix (sums_line turns sums p.notices dropped) h1 h2) → StopsIn (RunsOn upstream links second before) turns gathering held h2
+  run_cut turns gathering d p dropped h1 h2 sums all gathers (inl (cut, same)) =
+      inr (record {
+        stages = all.stages;
+        lines = all.lines;
+        last = d;
+        run = all.runs;
+        written = inl (subst (λ (h : Option (List ℕ)). WritesPrefix all.lines held h) (sym same) (wrote_prefix p.is_cut all.lines held h1 all.wrote));
+      })
+  run_cut turns gathering d p dropped h1 h2 sums all gathers (inr (whole, part)) =
+      let wrote : Wrote false all.lines held h1 = subst (λ (b : Bool). Wrote b all.lines held h1) whole all.wrote in
+      inr (record {
+        stages = all.stages;
+        lines = all.lines;
+        last = d;
+        run = all.runs;
+        written = inr (sums_line turns sums p.notices dropped, whole_of turns gathering d p dropped h1 sums all gathers, message_cut held h1 h2 all.lines (sums_line turns sums p.notices dropped) wrote part);
+      })
+
+  -- a run that ended before all turns were taken
+  pub run_stopped : (turns : Option ℕ) (gathering : Gathering) (h1 : Option (List ℕ)) → StopsRunning upstream links second before held h1 → StopsIn (RunsOn upstream links second before) turns gathering held h1
+  run_stopped turns gathering h1 (inl same) = inl same
+  run_stopped turns gathering h1 (inr some) =
+      inr (record { stages = some.stages; lines = some.lines; last = some.last; run = some.runs; written = inl some.written })
+
+-- the state behind the start of the workers
+pub start_is : (upstream : Endpoint) (links : ℕ) (feeder : PlainFeeder) (told told_then : Option PlainWires) (faults faults_then : ℕ) (ids ids_then moments moments_then : Option (List ℕ)) → told_then ≡ linked_told upstream links told → faults_then ≡ faults → ids_then ≡ ids → moments_then ≡ moments
+    → server_state feeder told_then faults_then ids_then moments_then ≡ started_from upstream links (server_state feeder told faults ids moments)
+start_is upstream links feeder told told_then faults faults_then ids ids_then moments moments_then t f i m = rw (t, f, i, m) refl
+
+-- what is gathered of workers that were started before
+pub gathers_from : (waiting waiting_then : ℕ) (before before_then after : Option (List Report)) (sums : Sums) → waiting_then ≡ waiting → before_then ≡ before → GathersAll waiting_then before_then after sums → GathersAll waiting before after sums
+gathers_from waiting waiting_then before before_then after sums w b all =
+    subst (λ (n : ℕ). GathersAll n before after sums) w (subst (λ (x : Option (List Report)). GathersAll waiting_then x after sums) b all)
+
+-- what follows where there is no error
+pub on_ok : {X E P Q : Type 0} (result : Result X E) → (P → Q) → OnOk result P → OnOk result Q
+on_ok (Ok x) more h = more h
+on_ok (Err e) more h = h
+
+-- a run of one kind is one of another
+pub serves_too : (one other : List (Stage ServerState RunTurn) → List ℕ → ServerState → Type 0) (turns : Option ℕ) (gathering : Gathering) (before after : Option (List ℕ)) (told : Option PlainWires)
+    → ((stages : List (Stage ServerState RunTurn)) (lines : List ℕ) (last : ServerState) → one stages lines last → other stages lines last) → ServesBy one turns gathering before after told → ServesBy other turns gathering before after told
+serves_too one other turns gathering before after told each s =
+    record { stages = s.stages; lines = s.lines; last = s.last; run = each s.stages s.lines s.last s.run; line = s.line; whole = s.whole; written = s.written; told_is = s.told_is }
+
+pub stops_too : (one other : List (Stage ServerState RunTurn) → List ℕ → ServerState → Type 0) (turns : Option ℕ) (gathering : Gathering) (before after : Option (List ℕ))
+    → ((stages : List (Stage ServerState RunTurn)) (lines : List ℕ) (last : ServerState) → one stages lines last → other stages lines last) → StopsIn one turns gathering before after → StopsIn other turns gathering before after
+stops_too one other turns gathering before after each (inl same) = inl same
+stops_too one other turns gathering before after each (inr s) =
+    inr (record { stages = s.stages; lines = s.lines; last = s.last; run = each s.stages s.lines s.last s.run; written = s.written })
+
+-- a run from where a server begins
+pub begins_so : (start : ServerStart) (feeder : PlainFeeder) (published : Published) (second : ℕ) (moments : Option (List ℕ)) → feeder ≡ first_feeder start.origins start.primaries published second → published ≡ nothing_published start.origins → ComesNext start.moments second moments
+    → (stages : List (Stage ServerState RunTurn)) (lines : List ℕ) (last : ServerState) → RunsOn start.upstream start.links second (server_state feeder start.told start.faults start.ids moments) stages lines last → RunsTo start stages lines last
+begins_so start feeder published second moments feeder_is published_is moment stages lines last runs =
+    let same : feeder ≡ first_feeder start.origins start.primaries (nothing_published start.origins) second =
+    feeder_is ∙ ap (λ (p : Published). first_feeder start.origins start.primaries p second) published_is in
     record {
-      whole = round_count turns;
-      at_most = omega arith;
-      count = 0;
-      middle = middle;
-      polled = subst P (sym (append-nil (rounds (round_count turns) zones))) polled;
-      after = record middle { held = held };
-      ends = inr line;
-      held_is = refl;
+      second = second;
+      moments = moments;
+      moment = moment;
+      runs = subst (λ (f : PlainFeeder). RunsOn start.upstream start.links second (server_state f start.told start.faults start.ids moments) stages lines last) same runs;
     }
-
--- one that ended before its first poll
-pub stopped_at_start : {S K : Type 0} (views : ConnectionViews S K) (why : ServeError) (before : FeedState S K) (turns : ℕ) (zones : List ZoneSource) → (why ≢ error.WriteFault) → StopsServing views why before turns zones before.held
-stopped_at_start views why before turns zones other =
-    stopped_in_turns views why before turns zones before (turn_stopped views why before before before turns 0 zones (none_polled views before) (stopped_before views why before zones before other refl) (omega arith))
-
--- one whose last line was written in part
-pub line_stopped : {S K : Type 0} (views : ConnectionViews S K) (result : Result (Unit {0}) ServeError) (before : FeedState S K) (turns : ℕ) (zones : List ZoneSource) (middle : FeedState S K) (held : Option (List ℕ)) → PollsZones views before (rounds (round_count turns) zones) middle → OnErr result (BeginsServed turns middle.held held)
-    → IfErr result (λ why. StopsServing views why before turns zones held)
-line_stopped views (Ok done) before turns zones middle held polled line = tt
-line_stopped views (Err why) before turns zones middle held polled line = stopped_in_line views why before turns zones middle held polled line

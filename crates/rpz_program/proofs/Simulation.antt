@@ -19,7 +19,7 @@ use Rattle.rpz_core.specs.State.{CoreState, core_step, new_core, state_of, as_co
 use Rattle.rpz_core.specs.World.{World, world_step}
 use Rattle.rpz_core.proofs.Seen as core
 use Rattle.rpz_program.specs.declared.stage.Stage.TheVariants.{Running}
-use Rattle.rpz_program.specs.Script.{ScriptWorld, opened, begun, start, step, shown_outcome, world_in, event_outcome, zone_outcome, primary_outcome, world_after_line, text_outcome}
+use Rattle.rpz_program.specs.Script.{ScriptWorld, opened, answering, start, step, shown_outcome, world_in, event_outcome, zone_outcome, primary_outcome, world_after_line, text_outcome}
 use Rattle.rpz_program.specs.Script as script
 use Rattle.rpz_program.specs.Stage.{new_stage, stage_of, core_in, stage_zone, stage_primary, stage_event, stage_line, stage_text, stage_step}
 use Rattle.rpz_program.specs.Stage as stage
@@ -30,7 +30,7 @@ start_seen = refl
 -- lines are read by the same
 state_seen : (w : ScriptWorld) → stage.state_in (stage_of w) ≡ script.state_in w
 state_seen (opened zones) = refl
-state_seen (begun world) = ap (λ (n : ℕ). state.running n (map is_some world.sessions.workers)) (policy_length world.origins world.accepted)
+state_seen (answering world) = ap (λ (n : ℕ). state.running n (map is_some world.sessions.workers)) (policy_length world.origins world.accepted)
 
 new_state : List (List (List ℕ)) → List (Option Addr) → PlainPolicy → CoreState
 new_state origins primaries zones = record (new_core origins primaries) { policy = record { zones = zones; accepted = 0 } }
@@ -39,9 +39,9 @@ new_state origins primaries zones = record (new_core origins primaries) { policy
 core_seen : (w : ScriptWorld) → core_in (stage_of w) ≡ state_of (world_in w)
 unfolding new_state
 core_seen (opened zones) = sym (ap (new_state zones.origins zones.primaries) (policy_after-none zones.origins))
-core_seen (begun world) = refl
+core_seen (answering world) = refl
 
-output_seen : (r : Result (World × Output) CoreFault) → outcome_along Running (shown_outcome (as_core_outcome r)) ≡ outcome_along stage_of (outcome_along begun (shown_outcome r))
+output_seen : (r : Result (World × Output) CoreFault) → outcome_along Running (shown_outcome (as_core_outcome r)) ≡ outcome_along stage_of (outcome_along answering (shown_outcome r))
 output_seen (Ok next) = refl
 output_seen (Err fault) = refl
 
@@ -53,11 +53,11 @@ event_seen w e =
 
 zone_seen : (w : ScriptWorld) (origin : List (List ℕ)) → stage_zone (stage_of w) origin ≡ outcome_along stage_of (zone_outcome w origin)
 zone_seen (opened zones) origin = refl
-zone_seen (begun world) origin = refl
+zone_seen (answering world) origin = refl
 
 primary_seen : (w : ScriptWorld) (zone : ℕ) (address : Addr) → stage_primary (stage_of w) zone address ≡ outcome_along stage_of (primary_outcome w zone address)
 primary_seen (opened zones) zone address = refl
-primary_seen (begun world) zone address = refl
+primary_seen (answering world) zone address = refl
 
 line_seen : (w : ScriptWorld) (line : Line) → stage_line (stage_of w) line ≡ outcome_along stage_of (world_after_line w line)
 unfolding stage_line world_after_line

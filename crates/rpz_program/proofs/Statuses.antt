@@ -1,6 +1,6 @@
 -- How runs end, by their statuses.
 use Rattle.std.proofs.Common.{◌≡◌, ◌≢◌, ℕ, List, Option, Some, None, Result, Ok, Err, refl, sym, subst, ◌∙◌, arith}
-use Rattle.std.specs.Prelude.{IfErr, IfSome, IsOk}
+use Rattle.std.specs.Prelude.{IfErr, IfSome, IsOk, OnErr}
 use Rattle.edge_io.specs.Edge.{Rose}
 use Rattle.script_codec.specs.declared.line_fault.LineFault.{LineFault}
 use Rattle.script_loop.specs.Replay.{Blames}
@@ -9,15 +9,14 @@ use Rattle.script_loop.specs.declared.replay.Stop.TheVariants as stop
 use Rattle.rpz_words.specs.declared.command.Command.{Command}
 use Rattle.rpz_words.specs.declared.command.Command.TheVariants.{Serve}
 use Rattle.rpz_words.specs.declared.settings.Settings.{Settings}
-use Rattle.rpz_program.specs.Polls.{ConnectionViews, FeedState}
 use Rattle.rpz_program.specs.Run.{Ends, IsVerdict, StopsBy}
 use Rattle.rpz_program.specs.Script.{ScriptWorld, script_verdict}
-use Rattle.rpz_program.specs.Serving.{StopsServing}
+use Rattle.rpz_program.specs.Serving.{Gathering, StopsServing}
 use Rattle.rpz_program.specs.Status.{status_of_replay, status_of_server, status_of_stop}
+use Rattle.rpz_program.specs.Turns.{ServerStart}
 use Rattle.rpz_program.specs.declared.serve_error.ServeError.{ServeError}
 use Rattle.rpz_program.specs.declared.status.Status.{Status}
 use Rattle.rpz_program.specs.declared.status.Status.TheVariants as status
-use Rattle.rpz_program.specs.declared.zone_source.ZoneSource.{ZoneSource}
 
 -- a bad line comes of the script's stop
 pub bad_line_of : (ended : Result (Unit {0}) (Stop LineFault)) (line : ℕ) (why : LineFault) → status_of_replay ended ≡ status.BadLine line why → ended ≡ Err (stop.BadLine line why)
@@ -56,10 +55,10 @@ verdict_of stopped source script left_after held_before held_after same ends bla
     subst (λ (bytes : List ℕ). IsVerdict (script_verdict bytes) given) same (subst (IsVerdict (script_verdict source)) (sym is) ended)
 
 -- a server that stopped early has the status of why it did
-pub stopped_by : {S K : Type 0} (views : ConnectionViews S K) (ended : Result (Unit {0}) ServeError) (before : FeedState S K) (turns : ℕ) (zones : List ZoneSource) (held : Option (List ℕ)) → IfErr ended (λ why. StopsServing views why before turns zones held) → status_of_server ended ≢ status.Done
-    → StopsBy (status_of_server ended) views before turns zones held
-stopped_by views (Ok done) before turns zones held stops early = absurd (early refl)
-stopped_by views (Err why) before turns zones held stops early = record { why = why; status_is = refl; stops = stops }
+pub stopped_by : (ended : Result (Unit {0}) ServeError) (start : ServerStart) (turns : Option ℕ) (gathering : Gathering) (before after : Option (List ℕ)) → OnErr ended (StopsServing start turns gathering before after) → status_of_server ended ≢ status.Done
+    → StopsBy (status_of_server ended) start turns gathering before after
+stopped_by (Ok done) start turns gathering before after stops early = absurd (early refl)
+stopped_by (Err why) start turns gathering before after stops early = record { why = why; status_is = refl; stops = stops }
 
 -- words ask for one server
 pub same_settings : (asked : Option Command) (one other : Settings) → asked ≡ Some (Serve one) → asked ≡ Some (Serve other) → one ≡ other

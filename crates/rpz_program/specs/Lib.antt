@@ -3,9 +3,9 @@ pub mod Script
 pub mod Stage
 pub mod Run
 pub mod Status
-pub mod PollLines
-pub mod Polls
+pub mod ServedLine
+pub mod Turns
 pub mod Serving
+pub mod Turning
 pub mod Sums
-pub mod Wires
 pub mod Loading

@@ -12,11 +12,10 @@ use Rattle.script_loop.specs.Lines.{whole_lines}
 use Rattle.script_loop.specs.Replay.{IsPrefix, Moves}
 use Rattle.clap.specs.Words.{takes}
 use Rattle.rpz_words.specs.Words.{argv, rpz_app}
-use Rattle.rpz_program.specs.Polls.{ConnectionViews, FeedState}
-use Rattle.rpz_program.specs.Serving.{StopsServing}
+use Rattle.rpz_program.specs.Serving.{Gathering, StopsServing}
 use Rattle.rpz_program.specs.Status.{status_of_error}
+use Rattle.rpz_program.specs.Turns.{ServerStart}
 use Rattle.rpz_program.specs.declared.serve_error.ServeError.{ServeError}
-use Rattle.rpz_program.specs.declared.zone_source.ZoneSource.{ZoneSource}
 use Rattle.rpz_program.specs.Script.{ScriptWorld, start, step, too_many, too_long, script_transcript, script_verdict}
 
 -- the words are those of a command, as the command line's grammar takes them
@@ -24,12 +23,11 @@ abbrev pub AreTaken : List (String Global) → Type 0
 AreTaken words = takes rpz_app (argv words) ≡ true
 
 -- a server's run that ended early: its status says why
-pub record StopsBy {S K : Type 0} (status : Status) (views : ConnectionViews S K)
-    (before : FeedState S K) (turns : ℕ) (zones : List ZoneSource) (held : Option (List ℕ)) : Type
-    0 where
+pub record StopsBy (status : Status) (start : ServerStart) (turns : Option ℕ)
+    (gathering : Gathering) (before after : Option (List ℕ)) : Type 0 where
   pub why : ServeError
   pub status_is : status ≡ status_of_error why
-  pub stops : StopsServing views why before turns zones held
+  pub stops : StopsServing start turns gathering before after
 
 -- The script was read to its end, each line is of the form, and its transcript was written.
 abbrev pub IsWholeScript : List ℕ → Option (List ℕ) → Option (List ℕ) → Option (List ℕ) → Type 0

@@ -1,5 +1,5 @@
 -- The world of a script, and what its lines do to it.
-use Rattle.std.specs.Prelude.{◌≡◌, ℕ, List, [], ◌∷◌, ◌++◌, length, map, Option, Some, None, is_some, Result, Ok, Err, ⊤}
+use Rattle.std.specs.Prelude.{◌≡◌, ℕ, List, [], length, map, Option, Some, None, is_some, Result, Ok, Err, ⊤}
 use Rattle.dns_name.specs.Labels.{Name}
 use Rattle.ip_prefix.specs.declared.Addr.{Addr}
 use Rattle.script_codec.specs.declared.line.Line.{Line}
@@ -32,7 +32,7 @@ use Rattle.rpz_program.specs.Opened.{OpenZones, no_zones, with_origin, with_prim
 -- world of the core.
 pub data ScriptWorld : Type 0 where
   opened : OpenZones → ScriptWorld
-  begun : World → ScriptWorld
+  answering : World → ScriptWorld
 
 abbrev pub start : ScriptWorld
 start = opened no_zones
@@ -40,12 +40,12 @@ start = opened no_zones
 -- what lines are read by: how many zones there are, and which workers have a pending query
 abbrev pub state_in : ScriptWorld → PlainState
 state_in (opened zones) = state.opening zones.origins zones.primaries
-state_in (begun world) = state.running (length world.origins) (map is_some world.sessions.workers)
+state_in (answering world) = state.running (length world.origins) (map is_some world.sessions.workers)
 
 -- the world of the core, which begins with the zones that were opened
 abbrev pub world_in : ScriptWorld → World
 world_in (opened zones) = new_world zones.origins zones.primaries
-world_in (begun world) = world
+world_in (answering world) = world
 
 -- the event that a line is; a zone line and a primary line are none
 abbrev pub event_of : Line → Option Event
@@ -98,17 +98,17 @@ shown_outcome (Err fault) = Err (why_of fault)
 -- a zone is opened, before the first event
 abbrev pub zone_outcome : ScriptWorld → Name → Result (ScriptWorld × List ℕ) LineFault
 zone_outcome (opened zones) origin = Ok (opened (with_origin zones origin), [])
-zone_outcome (begun world) origin = Err why.Late
+zone_outcome (answering world) origin = Err why.Late
 
 -- a zone is given its primary, before the first event
 abbrev pub primary_outcome : ScriptWorld → ℕ → Addr → Result (ScriptWorld × List ℕ) LineFault
 primary_outcome (opened zones) zone address = Ok (opened (with_primary zones zone address), [])
-primary_outcome (begun world) zone address = Err why.Late
+primary_outcome (answering world) zone address = Err why.Late
 
 -- any other line is an event of the core
 abbrev pub event_outcome : ScriptWorld → Event → Result (ScriptWorld × List ℕ) LineFault
 event_outcome world event =
-    outcome_along begun (shown_outcome (world_step (world_in world) event))
+    outcome_along answering (shown_outcome (world_step (world_in world) event))
 
 -- the world after a line, and what the line writes; or why it is refused
 unfoldable pub world_after_line : ScriptWorld → Line → Result (ScriptWorld × List ℕ) LineFault
@@ -159,6 +159,6 @@ pub data IsReached : ScriptWorld → Type 0 where
 -- Events of the core lead to the world that lines have brought about, from zones with nothing loaded.
 abbrev pub HasEvents : ScriptWorld → Type 0
 HasEvents (opened zones) = ⊤
-HasEvents (begun world) =
+HasEvents (answering world) =
     (primaries : List (Option Addr)) × (events : List Event)
     × Reaches world.origins primaries events world

@@ -1,28 +1,18 @@
 -- What a run of a server does.
-use Rattle.std.specs.Prelude.{◌≡◌, ◌≤◌, ◌+◌, ◌/◌, ◌⊎◌, ℕ, List, [], ◌++◌, map, take, Option, zero, suc, ⊤}
+use Rattle.std.specs.Prelude.{◌≡◌, ◌+◌, ◌⊎◌, ℕ, List, ◌++◌, Bool, true, false, map, Option, Some, None}
+use Rattle.std.specs.Option.{option_map}
 use Rattle.dns_name.specs.Labels.{Name}
+use Rattle.edge_io.specs.Chain.{Stage}
 use Rattle.edge_io.specs.Edge.{WritesPrefix, appended}
-use Rattle.edge_io.specs.Told.{one_more}
+use Rattle.edge_io.specs.Wired.{PlainWires, with_bound, with_turns as with_limit}
 use Rattle.edge_io.specs.declared.endpoint.Endpoint.{Endpoint}
-use Rattle.policy_snapshot.specs.Stands.{new_snapshot}
-use Rattle.ixfr_apply.specs.Marks.{no_marks}
-use Rattle.policy_publish.specs.Lists.{Published}
 use Rattle.rpz_words.specs.declared.settings.Settings.{Settings}
 use Rattle.rpz_workers.specs.declared.report.Report.{Report}
-use Rattle.rpz_program.specs.PollLines.{served_line}
-use Rattle.rpz_program.specs.Polls.{BeginsPoll, ConnectionViews, FeedState, PollsZones, rounds}
-use Rattle.rpz_program.specs.Sums.{GathersAll, saturated}
+use Rattle.rpz_program.specs.ServedLine.{served_line}
+use Rattle.rpz_program.specs.Sums.{GathersAll, no_sums, saturated}
+use Rattle.rpz_program.specs.Turns.{HasEnded, ServerState, RunTurn, RunsTo, ServerStart, start_count, with_turn_notices}
 use Rattle.rpz_program.specs.declared.feeds.TheConstants.{CONNECTION_WORKERS}
-use Rattle.rpz_program.specs.declared.serve_error.ServeError.{ServeError}
-use Rattle.rpz_program.specs.declared.serve_error.ServeError.TheVariants as error
 use Rattle.rpz_program.specs.declared.sums.Sums.{Sums}
-use Rattle.rpz_program.specs.declared.zone_source.ZoneSource.{ZoneSource}
-use Rattle.rpz_program.specs.declared.turns.TheConstants.{POLL_TURNS}
-
--- what is published where a policy of these origins begins: nothing, and no zone is marked
-abbrev pub nothing_published : List Name → Published
-nothing_published origins =
-    record { list = []; version = new_snapshot origins; marks = no_marks origins }
 
 -- the names of the zones, and their primaries, in order
 abbrev pub origins_in : Settings → List Name
@@ -35,79 +25,99 @@ primaries_in settings = map (λ zone. zone.primary) settings.zones
 abbrev pub asker_count : Settings → ℕ
 asker_count settings = settings.askers + CONNECTION_WORKERS
 
--- how often all zones are polled in a run of so many turns: at its start, and after each 64th arrival
-abbrev pub round_count : ℕ → ℕ
-round_count turns = turns / POLL_TURNS + 1
+-- what wires tell that take so many arrivals, where there is such a limit
+abbrev pub limited_told : Option ℕ → Option PlainWires → Option PlainWires
+limited_told None told = told
+limited_told (Some turns) told = option_map (with_limit turns) told
 
--- what was linked before, and then this endpoint so many times
-abbrev pub linked_with : Option (List Endpoint) → Endpoint → ℕ → Option (List Endpoint)
-linked_with linked at zero = linked
-linked_with linked at (suc n) = one_more (linked_with linked at n) at
+-- what wires tell of which an endpoint was opened, for so many arrivals
+abbrev pub opened_told : Endpoint → Option ℕ → Option PlainWires → Option PlainWires
+opened_told at turns told = limited_told turns (option_map (with_bound at) told)
 
--- what was written of the line of the poll that ended early: its first bytes where the output has failed or took no more, else
--- nothing
-abbrev pub EndsPolls : {S K : Type 0} → ConnectionViews S K → ServeError → FeedState S K →
-    FeedState S K → Type 0
-EndsPolls views error.WriteFault before after = BeginsPoll views before after
-EndsPolls views error.OutOfMemory before after =
-    (after.held ≡ before.held) ⊎ BeginsPoll views before after
-EndsPolls views why before after = after.held ≡ before.held
+-- what a server of these settings begins with
+abbrev pub server_start : Settings → Option PlainWires → ℕ → Option (List ℕ) → Option (List ℕ) →
+    ServerStart
+server_start settings told faults ids moments =
+    record {
+      origins = origins_in settings;
+      primaries = primaries_in settings;
+      upstream = settings.upstream;
+      links = asker_count settings;
+      told = opened_told settings.listen settings.turns told;
+      faults = faults;
+      ids = ids;
+      moments = moments;
+    }
 
--- why a poll may end a run: a failed write of its line, or out of memory
-abbrev pub IsOfPolls : ServeError → Type 0
-IsOfPolls error.WriteFault = ⊤
-IsOfPolls error.OutOfMemory = ⊤
-IsOfPolls why = ⊥
+-- what was written of these lines: all of them, or, once a write has failed, the first bytes
+abbrev pub Wrote : Bool → List ℕ → Option (List ℕ) → Option (List ℕ) → Type 0
+Wrote false lines before after = after ≡ appended before lines
+Wrote true lines before after = WritesPrefix lines before after
 
--- Polls that ended early: the first of these zones were polled.
-pub record StopsPolls {S K : Type 0} (views : ConnectionViews S K) (why : ServeError)
-    (before : FeedState S K) (zones : List ZoneSource) (after : FeedState S K) : Type 0 where
-  pub count : ℕ
-  pub middle : FeedState S K
-  pub polled : PollsZones views before (take count zones) middle
-  pub ends : EndsPolls views why middle after
+-- the line of the sums of all reports, with those of NOTIFYs and so many datagrams that were dropped for want of memory
+abbrev pub sums_line : Option ℕ → Sums → Sums → ℕ → List ℕ
+sums_line turns reports notices dropped =
+    served_line turns (saturated reports.replies notices.replies)
+    (saturated reports.silent notices.silent)
+    (saturated (saturated reports.memory notices.memory) dropped)
+    (saturated reports.failed notices.failed)
 
--- Turns that ended early: so many whole rounds of polls were done, and the first zones of one more were polled.
-pub record StopsTurns {S K : Type 0} (views : ConnectionViews S K) (why : ServeError)
-    (before : FeedState S K) (turns : ℕ) (zones : List ZoneSource) (after : FeedState S K) : Type
-    0 where
-  pub whole : ℕ
-  pub at_most : whole ≤ round_count turns
-  pub count : ℕ
-  pub middle : FeedState S K
-  pub polled : PollsZones views before (rounds whole zones ++ take count zones) middle
-  pub ends : EndsPolls views why middle after
+-- what is gathered of a run: how many workers were started before it, and which reports were gathered before and then
+pub record Gathering : Type 0 where
+  pub waiting : ℕ
+  pub before : Option (List Report)
+  pub after : Option (List Report)
 
--- the first bytes of the last line were written, from none to all
-abbrev pub BeginsServed : ℕ → Option (List ℕ) → Option (List ℕ) → Type 0
-BeginsServed turns before after =
-    (sums : Sums)
-    × WritesPrefix (served_line turns sums.replies sums.silent sums.memory sums.failed) before after
-
--- A run that ended early: what was written begins the lines of so many rounds of polls, with the last line behind them.
-pub record StopsServing {S K : Type 0} (views : ConnectionViews S K) (why : ServeError)
-    (before : FeedState S K) (turns : ℕ) (zones : List ZoneSource) (held : Option (List ℕ)) : Type
-    0 where
-  pub whole : ℕ
-  pub at_most : whole ≤ round_count turns
-  pub count : ℕ
-  pub middle : FeedState S K
-  pub polled : PollsZones views before (rounds whole zones ++ take count zones) middle
-  pub after : FeedState S K
-  pub ends : EndsPolls views why middle after ⊎ BeginsServed turns middle.held after.held
-  pub held_is : held ≡ after.held
-
--- A whole run: all zones were polled at its start and after each 64th arrival, the reports of all workers were gathered, and the
--- line of their sums was written. Arrivals that came back from the queue count as those for which memory ran out.
-pub record ServesWhole {S K : Type 0} (views : ConnectionViews S K) (before : FeedState S K)
-    (turns : ℕ) (zones : List ZoneSource) (workers : ℕ)
-    (gathered gathered_then : Option (List Report)) (held : Option (List ℕ)) : Type 0 where
-  pub middle : FeedState S K
-  pub polled : PollsZones views before (rounds (round_count turns) zones) middle
+-- A whole run: the workers were started once, the last wake said that all inlets have ended, and the reports of all workers were
+-- gathered. Its last line is this.
+pub record IsWhole (turns : Option ℕ) (stages : List (Stage ServerState RunTurn)) (gathering : Gathering)
+    (line : List ℕ) : Type 0 where
+  pub started : start_count stages ≡ 1
+  pub dropped : ℕ
+  pub ended : HasEnded stages dropped
   pub sums : Sums
-  pub gathers : GathersAll workers gathered gathered_then sums
-  pub returned : ℕ
-  pub at_most : returned ≤ turns
-  pub written : held
-      ≡ appended middle.held
-      (served_line turns sums.replies sums.silent (saturated sums.memory returned) sums.failed)
+  pub gathers : GathersAll gathering.waiting gathering.before gathering.after sums
+  pub line_is : line ≡ sums_line turns sums (with_turn_notices no_sums stages) dropped
+
+-- A server is done: its run, of this kind, is whole, all its lines were written, and this is told afterwards.
+pub record ServesBy (runs : List (Stage ServerState RunTurn) → List ℕ → ServerState → Type 0)
+    (turns : Option ℕ) (gathering : Gathering) (before after : Option (List ℕ))
+    (told : Option PlainWires) : Type 0 where
+  pub stages : List (Stage ServerState RunTurn)
+  pub lines : List ℕ
+  pub last : ServerState
+  pub run : runs stages lines last
+  pub line : List ℕ
+  pub whole : IsWhole turns stages gathering line
+  pub written : after ≡ appended before (lines ++ line)
+  pub told_is : told ≡ last.feed.told
+
+-- Some turns of such a run were taken, and what was written begins their lines; or the run was whole, and it begins these and the
+-- last line.
+pub record StopsRun (runs : List (Stage ServerState RunTurn) → List ℕ → ServerState → Type 0)
+    (turns : Option ℕ) (gathering : Gathering) (before after : Option (List ℕ)) : Type 0 where
+  pub stages : List (Stage ServerState RunTurn)
+  pub lines : List ℕ
+  pub last : ServerState
+  pub run : runs stages lines last
+  pub written : WritesPrefix lines before after
+      ⊎ ((line : List ℕ) × IsWhole turns stages gathering line
+      × WritesPrefix (lines ++ line) before after)
+
+-- the same, or nothing was written
+abbrev pub StopsIn : (List (Stage ServerState RunTurn) → List ℕ → ServerState → Type 0) → Option ℕ →
+    Gathering → Option (List ℕ) → Option (List ℕ) → Type 0
+StopsIn runs turns gathering before after =
+    (after ≡ before) ⊎ StopsRun runs turns gathering before after
+
+-- a server that began so is done
+abbrev pub ServesWhole : ServerStart → Option ℕ → Gathering → Option (List ℕ) → Option (List ℕ) →
+    Option PlainWires → Type 0
+ServesWhole start turns gathering before after told =
+    ServesBy (RunsTo start) turns gathering before after told
+
+-- a server that began so ended early
+abbrev pub StopsServing : ServerStart → Option ℕ → Gathering → Option (List ℕ) →
+    Option (List ℕ) → Type 0
+StopsServing start turns gathering before after =
+    StopsIn (RunsTo start) turns gathering before after

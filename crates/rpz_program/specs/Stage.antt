@@ -1,5 +1,5 @@
 -- How far a script is in code, which sees of the accepted transfers the policy that they make, and what its lines do.
-use Rattle.std.specs.Prelude.{ℕ, List, [], ◌∷◌, ◌++◌, length, map, Option, Some, None, is_some, Result, Ok, Err}
+use Rattle.std.specs.Prelude.{ℕ, List, [], length, map, Option, Some, None, is_some, Result, Ok, Err}
 use Rattle.dns_name.specs.Labels.{Name}
 use Rattle.ip_prefix.specs.declared.Addr.{Addr}
 use Rattle.script_codec.specs.declared.line.Line.{Line}
@@ -16,7 +16,7 @@ use Rattle.rpz_core.specs.State.{CoreState, core_step, new_core, state_of}
 use Rattle.rpz_program.specs.Opened.{no_zones, with_origin, with_primary}
 use Rattle.rpz_program.specs.declared.stage.Stage.{Stage}
 use Rattle.rpz_program.specs.declared.stage.Stage.TheVariants.{Opening, Running}
-use Rattle.rpz_program.specs.Script.{ScriptWorld, opened, begun, shown_outcome}
+use Rattle.rpz_program.specs.Script.{ScriptWorld, opened, answering, shown_outcome}
 
 abbrev pub new_stage : Stage
 new_stage = Opening no_zones
@@ -24,7 +24,7 @@ new_stage = Opening no_zones
 -- the stage of a script's world
 abbrev pub stage_of : ScriptWorld → Stage
 stage_of (opened zones) = Opening zones
-stage_of (begun world) = Running (state_of world)
+stage_of (answering world) = Running (state_of world)
 
 abbrev pub state_in : Stage → PlainState
 state_in (Opening zones) = state.opening zones.origins zones.primaries

@@ -1,10 +1,8 @@
 //! The ends of channels from which workers take.
 
-use crate::telling::Queues;
-use crossbeam_channel::{Receiver, Sender, bounded, unbounded};
-use edge_io::{Sink, Source};
-use policy_publish::{Latest, StoreName, Told};
-use rpz_workers::{AskerItems, ChannelItems, ChannelOnward, Item, Passed, PassedItems};
+use crossbeam_channel::{Receiver, Sender, bounded};
+use policy_publish::{Latest, StoreName};
+use rpz_workers::{ChannelOnward, Passed, PassedItems};
 use std::alloc::{AllocError, Global};
 use std::sync::Wait;
 use std::time;
@@ -16,64 +14,46 @@ pub const CONNECTION_WORKERS: usize = 16;
 /// How many messages that were passed on wait for a worker that asks, at most.
 pub const PASSED_LIMIT: usize = 4_096;
 
-/// The ends from which workers take, and into which they pass on.
+/// What workers are given when they start: the channel of what is passed on, and the handle on what is published. Workers that ask end
+/// once this is dropped and all that pass messages on have ended.
 #[derive(Drop)]
-pub(crate) struct Feeds<N: StoreName, S: Source + Drop, K: Sink + Drop> {
-    datagrams: Receiver<Item<N, S, K>>,
-    connections: Receiver<Item<N, S, K>>,
+pub(crate) struct Feeds<N: StoreName> {
     passed: Receiver<Passed<N>>,
     onward: Sender<Passed<N>>,
     latest: Latest<N>,
 }
 
-impl<N: StoreName, S: Source + Drop, K: Sink + Drop> Feeds<N, S, K> {
-    /// Opens the queues, the place where this list is what was published last, and the channel for what is passed on.
-    pub(crate) fn open(
-        alloc: Global,
-        told: Told<N>,
-        queues: &mut Queues<N, S, K>,
-    ) -> Result<Feeds<N, S, K>, AllocError> {
-        let latest = Latest::start(alloc, told)?;
-        queues.latest = Some(latest.again()?);
+impl<N: StoreName> Feeds<N> {
+    /// Opens the channel for what is passed on.
+    pub(crate) fn open(alloc: Global, latest: Latest<N>) -> Result<Feeds<N>, AllocError> {
         let (onward, passed) = bounded(alloc, PASSED_LIMIT)?;
-        let (to_answerers, datagrams) = unbounded(alloc)?;
-        let (to_askers, connections) = unbounded(alloc)?;
-        queues.datagrams = Some(to_answerers);
-        queues.connections = Some(to_askers);
         Ok(Feeds {
-            datagrams,
-            connections,
             passed,
             onward,
             latest,
         })
     }
 
-    /// What a worker that asks takes: the first of them take connections.
-    pub(crate) fn asker_items<R: Wait + time::Clock + Copy + Drop>(
-        &self,
-        rt: &R,
-        place: usize,
-    ) -> Result<AskerItems<N, S, K, R>, AllocError> {
-        let latest = self.latest.again()?;
-        if place < CONNECTION_WORKERS {
-            let items = ChannelItems::new(*rt, self.connections.clone()?, latest);
-            Ok(AskerItems::Connections(items))
-        } else {
-            let items = PassedItems::new(*rt, self.passed.clone()?, latest);
-            Ok(AskerItems::Passed(items))
-        }
+    /// A handle on what is published.
+    pub(crate) fn latest(&self) -> Result<Latest<N>, AllocError> {
+        self.latest.again()
     }
 
-    /// What a worker that answers datagrams takes, and where it passes on what needs the upstream.
-    pub(crate) fn datagram_items<R: Wait + time::Clock + Copy + Drop>(
+    /// What a worker takes that answers what was passed on.
+    pub(crate) fn passed<R: Wait + time::Clock + Copy + Drop>(
+        &self,
+        rt: &R,
+    ) -> Result<PassedItems<N, R>, AllocError> {
+        let latest = self.latest.again()?;
+        Ok(PassedItems::new(*rt, self.passed.clone()?, latest))
+    }
+
+    /// Where a worker passes on what needs the upstream.
+    pub(crate) fn onward<R: Wait + Copy + Drop>(
         &self,
         rt: &R,
         alloc: Global,
-    ) -> Result<(ChannelItems<N, S, K, R>, ChannelOnward<N, R>), AllocError> {
-        let latest = self.latest.again()?;
-        let onward = self.onward.clone()?;
-        let items = ChannelItems::new(*rt, self.datagrams.clone()?, latest);
-        Ok((items, ChannelOnward::new(*rt, alloc, onward)))
+    ) -> Result<ChannelOnward<N, R>, AllocError> {
+        Ok(ChannelOnward::new(*rt, alloc, self.onward.clone()?))
     }
 }

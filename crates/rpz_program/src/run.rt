@@ -2,13 +2,11 @@
 
 ghost use Rattle.std.specs.Prelude.{◌≡◌, ◌≢◌, ◌+◌, ◌-◌, ◌≤◌, ◌^◌, ℕ, Some, None, Err, IfSome, IsSome};
 ghost use Rattle.edge_io.specs.Edge.{Rose, WritesPrefix, appended};
-ghost use Rattle.edge_io.specs.Told.{one_more};
 ghost use Rattle.script_loop.specs.Replay.{Moves, ReadsNoFurther};
 ghost use Rattle.rpz_program.specs.Loading.{EndsLoad, load_line};
-ghost use Rattle.rpz_program.specs.Polls.{connection_views, feed_state, sources_from};
 ghost use Rattle.rpz_program.specs.Run.{AnswersWholeLines, AreTaken, BeginsTranscript, EndsPage, IsFirstBadLine, IsVerdict, IsWholeScript, StopsBy};
 ghost use Rattle.rpz_program.specs.Script.{script_verdict};
-ghost use Rattle.rpz_program.specs.Serving.{ServesWhole, asker_count, linked_with, nothing_published, origins_in, primaries_in};
+ghost use Rattle.rpz_program.specs.Serving.{ServesWhole, asker_count, server_start};
 ghost use Rattle.rpz_words.specs.Pages.{page_text};
 ghost use Rattle.rpz_words.specs.Words.{command_in};
 ghost use Rattle.rpz_words.specs.declared.pages.Page.{Page};
@@ -99,30 +97,35 @@ pub fn run<
         result ≢ Status.OutOfMemory →
         IfSome (S.left script.old) (λ bytes. IsVerdict (script_verdict bytes) result) }
 
-    // All zones were polled at the start and after each 64th arrival, the workers were gathered, and the line of their sums was written.
+    // What was due was ordered at the start and after each wake, each zone of its own primary; what came was read and published, and each
+    // NOTIFY answered. The workers were started once, all inlets ended, and the reports of all workers were gathered. The lines of the
+    // polls were written, and then that of the sums. The endpoint that was bound, the links and the orders are what the wires tell.
     ensures served { result ≡ Status.Done → (settings : Settings) →
         command_in words.now ≡ Some (Serve settings) →
-        ServesWhole (connection_views W.In.left W.In.steady W.Out.held W.Out.steady)
-        (feed_state (nothing_published (origins_in settings)) (W.fetches wires.old) (W.fetched wires.old)
-        (W.fetch_faults wires.old) (I.ids ids.old) (K.held out.old))
-        settings.turns (sources_from 1 (primaries_in settings))
-        (P.waiting spawner.old + (asker_count settings + settings.workers))
-        (P.gathered spawner.old) (P.gathered spawner.new) (K.held out.new) }
-    ensures bound { result ≡ Status.Done → (settings : Settings) →
-        command_in words.now ≡ Some (Serve settings) →
-        W.bound wires.new ≡ one_more (W.bound wires.old) settings.listen }
-    ensures linked { result ≡ Status.Done → (settings : Settings) →
-        command_in words.now ≡ Some (Serve settings) →
-        W.linked wires.new
-        ≡ linked_with (W.linked wires.old) settings.upstream (asker_count settings) }
+        ServesWhole
+        (server_start settings (W.told wires.old) (W.order_faults wires.old) (I.ids ids.old)
+        (C.moments clock.old))
+        settings.turns
+        (record {
+          waiting = P.waiting spawner.old + (asker_count settings + settings.workers);
+          before = P.gathered spawner.old;
+          after = P.gathered spawner.new;
+        })
+        (K.held out.old) (K.held out.new) (W.told wires.new) }
 
     // However a server ends, what was written begins such lines, and no worker that it started is left.
     ensures stopped { result ≢ Status.Done → result ≢ Status.Usage → (settings : Settings) →
         command_in words.now ≡ Some (Serve settings) →
-        StopsBy result (connection_views W.In.left W.In.steady W.Out.held W.Out.steady)
-        (feed_state (nothing_published (origins_in settings)) (W.fetches wires.old) (W.fetched wires.old)
-        (W.fetch_faults wires.old) (I.ids ids.old) (K.held out.old))
-        settings.turns (sources_from 1 (primaries_in settings)) (K.held out.new) }
+        StopsBy result
+        (server_start settings (W.told wires.old) (W.order_faults wires.old) (I.ids ids.old)
+        (C.moments clock.old))
+        settings.turns
+        (record {
+          waiting = P.waiting spawner.old + (asker_count settings + settings.workers);
+          before = P.gathered spawner.old;
+          after = P.gathered spawner.new;
+        })
+        (K.held out.old) (K.held out.new) }
     ensures gathered { P.waiting spawner.new ≤ P.waiting spawner.old }
 
     // It blames the source, the sink, a socket or a thread only where a call on it failed.
@@ -134,7 +137,7 @@ pub fn run<
     ensures start_failed { result ≡ Status.StartFault →
         Rose (P.faults spawner.old) (P.faults spawner.new) }
 
-    // With no fault but of fetches, and with memory, a server is done.
+    // With no fault but of orders, and with memory, a server is done.
     ensures complete_server { (settings : Settings) → command_in words.now ≡ Some (Serve settings) →
         AreTaken words.now →
         (Rose (K.faults out.old) (K.faults out.new) → ⊥) →

@@ -1,5 +1,9 @@
 //! Why a server's run ended early.
 
+ghost use Rattle.std.specs.Prelude.{◌≡◌};
+ghost use Rattle.rpz_program.specs.Turning.{error_of};
+
+use edge_io::WireError;
 use std::alloc::{AllocError, AllocFailed};
 
 /// Why a server's run ended before its last turn.
@@ -7,11 +11,23 @@ use std::alloc::{AllocError, AllocFailed};
 pub enum ServeError {
     /// A write of the output has failed: the sink's count of faults has risen.
     WriteFault,
-    /// A call of the wires other than `fetch` has failed: their count of faults has risen.
+    /// A call of the wires other than `order` has failed: their count of faults has risen.
     SocketFault,
     /// A worker could not be started: the spawner's count of faults has risen.
     StartFault,
     OutOfMemory,
+}
+
+impl ServeError {
+    /// Why a run ends in which a call of the wires gave nothing.
+    pub(crate) fn of_wires(error: WireError) -> ServeError
+        ensures { result ≡ error_of error }
+    {
+        match error {
+            WireError::Failed => ServeError::SocketFault,
+            WireError::OutOfMemory => ServeError::OutOfMemory,
+        }
+    }
 }
 
 impl From<AllocError> for ServeError {

@@ -1,45 +1,57 @@
 //! A run of a server.
 
-ghost use Rattle.std.specs.Prelude.{◌≡◌, ◌≤◌, ◌+◌, ◌<◌, All, Err, IfErr, IfOk, OnErr, OnOk, length, map};
-ghost use Rattle.edge_io.specs.Edge.{Rose, appended};
-ghost use Rattle.rpz_program.specs.PollLines.{served_line};
-ghost use Rattle.rpz_program.specs.Polls.{IsNumbered, PollsZones, connection_views, feed_state, rounds};
-ghost use Rattle.rpz_program.specs.Serving.{BeginsServed, IsOfPolls, ServesWhole, StopsServing, linked_with, nothing_published, round_count};
-ghost use Rattle.rpz_program.specs.Sums.{saturated};
+ghost use Rattle.std.specs.Prelude.{◌≡◌, ◌≢◌, ◌≤◌, ◌+◌, ◌⊎◌, Err, IfErr, IfOk, OnErr, OnOk, true, false, length};
+ghost use Rattle.edge_io.specs.Edge.{Rose, WritesPrefix, appended};
+ghost use Rattle.rpz_program.specs.Serving.{ServesBy, ServesWhole, StopsIn, StopsServing, sums_line};
+ghost use Rattle.rpz_program.specs.Turning.{IsOfLines, IsOfTurns, OrdersFirst, RunsAll, StopsFirst, StopsRunning};
+ghost use Rattle.rpz_program.specs.Turns.{RunsOn, server_state};
+ghost use Rattle.policy_feed.specs.Feed.{feed_of};
 
-use crate::plan::Plan;
-use crate::poll_lines::served_text;
+use crate::output::write_lines;
+use crate::plan::{Plan, PlannedZones};
+use crate::progress::Progress;
 use crate::serve_error::ServeError;
+use crate::served_line::served_text;
 use crate::starting::start_all;
 use crate::sums::{Sums, gather_all};
-use crate::telling::Queues;
-use crate::turns::take_all;
+use crate::turning::{take_first_pass, take_turns};
 use edge_io::{Clock, Ids, Sink, SinkError, Spawner, Wires, write_all};
-use policy_publish::{Parts, PolicyReader, Publisher, StoreName};
+use policy_feed::Feeder;
+use policy_publish::{Parts, PolicyReader, StoreName};
 use rpz_workers::Report;
 use std::alloc::Global;
 use std::sync::Wait;
 use std::thread::Threads;
 use std::time;
 
-// Writes the line that ends a run. Arrivals that came back count as those for which memory ran out.
+// Writes the line that ends a run.
 fn write_served<K: Sink>(
     alloc: Global,
-    turns: u32,
+    turns: Option<u32>,
     sums: Sums,
-    returned: u32,
+    notices: Sums,
+    dropped: u64,
     out: &mut K,
 ) -> Result<(), ServeError>
-    ensures ok { OnOk result (K.held out.new ≡ appended (K.held out.old)
-        (served_line turns sums.replies sums.silent (saturated sums.memory returned) sums.failed)) }
-    ensures err { OnErr result (BeginsServed turns (K.held out.old) (K.held out.new)) }
-    ensures only { IfErr result IsOfPolls }
+    ensures ok { OnOk result
+        (K.held out.new ≡ appended (K.held out.old) (sums_line turns sums notices dropped)) }
+    ensures err { OnErr result
+        (WritesPrefix (sums_line turns sums notices dropped) (K.held out.old) (K.held out.new)) }
+    ensures only { IfErr result IsOfLines }
     ensures count { K.faults out.old ≤ K.faults out.new }
     ensures failed { result ≡ Err ServeError.WriteFault →
         Rose (K.faults out.old) (K.faults out.new) }
 {
-    let memory = sums.memory.saturating_add(u64::from(returned));
-    let text = served_text(alloc, turns, sums.replies, sums.silent, memory, sums.failed)?;
+    let text = served_text(
+        alloc,
+        turns,
+        sums.replies.saturating_add(notices.replies),
+        sums.silent.saturating_add(notices.silent),
+        sums.memory
+            .saturating_add(notices.memory)
+            .saturating_add(dropped),
+        sums.failed.saturating_add(notices.failed),
+    )?;
     match write_all(out, text.as_bytes()) {
         Ok(()) => Ok(()),
         Err(SinkError::WriteFault) => Err(ServeError::WriteFault),
@@ -47,7 +59,42 @@ fn write_served<K: Sink>(
     }
 }
 
-// Starts the workers, polls all zones and takes the arrivals. Says how many arrivals came back.
+// Orders what is due at the start, and writes the lines of what could not be begun.
+fn order_first<N: StoreName, W: Wires, I: Ids, K: Sink, R: Wait>(
+    rt: &R,
+    alloc: Global,
+    feeder: &mut Feeder<N>,
+    wires: &mut W,
+    ids: &mut I,
+    out: &mut K,
+    now: u32,
+) -> Result<Progress, ServeError>
+    ensures ok { IfOk result (λ to. OrdersFirst now
+        (feed_of feeder.old (W.told wires.old) (W.order_faults wires.old) (I.ids ids.old))
+        (K.held out.old)
+        (feed_of feeder.new (W.told wires.new) (W.order_faults wires.new) (I.ids ids.new))
+        to (K.held out.new)) }
+    ensures err { OnErr result (StopsFirst now
+        (feed_of feeder.old (W.told wires.old) (W.order_faults wires.old) (I.ids ids.old))
+        (K.held out.old) (K.held out.new)) }
+    ensures only { IfErr result IsOfTurns }
+    ensures wire_count { W.faults wires.new ≡ W.faults wires.old }
+    ensures not_socket { result ≢ Err ServeError.SocketFault }
+    ensures count { K.faults out.old ≤ K.faults out.new }
+    ensures failed { IfOk result (λ to. to.is_cut ≡ true →
+        Rose (K.faults out.old) (K.faults out.new)) }
+{
+    let mut text = Vec::new(alloc);
+    feeder.order_due(rt, wires, ids, now, &mut text)?;
+    let is_cut = write_lines(out, false, &text)?;
+    Ok(Progress {
+        is_cut,
+        ..Progress::new()
+    })
+}
+
+// Orders what is due, starts the workers once the first transfers have ended or it takes long, and takes the turns of the server. Says
+// how far its lines have come, and how many datagrams were dropped.
 fn run_turns<
     N: StoreName + Send + Sync + 'static,
     W: Wires,
@@ -60,33 +107,27 @@ fn run_turns<
     rt: &R,
     alloc: Global,
     plan: &Plan<W::Up>,
-    publisher: &mut Publisher<N>,
+    feeder: &mut Feeder<N>,
     readers: Vec<PolicyReader<N>>,
     wires: &mut W,
     spawner: &mut P,
     clock: &mut C,
     ids: &mut I,
     out: &mut K,
-    queues: &mut Queues<N, W::In, W::Out>,
-) -> Result<u32, ServeError>
-    requires { All (IsNumbered (length publisher.old.version.zones)) plan.now.zones.items }
-    ensures ok { OnOk result ((middle : _) × PollsZones
-        (connection_views W.In.left W.In.steady W.Out.held W.Out.steady)
-        (feed_state publisher.old (W.fetches wires.old) (W.fetched wires.old)
-        (W.fetch_faults wires.old) (I.ids ids.old) (K.held out.old))
-        (rounds (round_count plan.now.turns) plan.now.zones.items) middle
-        × (middle.held ≡ K.held out.new)) }
-    ensures returned { IfOk result (λ returned. returned ≤ plan.now.turns) }
-    ensures err { IfErr result (λ why. StopsServing
-        (connection_views W.In.left W.In.steady W.Out.held W.Out.steady) why
-        (feed_state publisher.old (W.fetches wires.old) (W.fetched wires.old)
-        (W.fetch_faults wires.old) (I.ids ids.old) (K.held out.old))
-        plan.now.turns plan.now.zones.items (K.held out.new)) }
-    ensures bound { W.bound wires.new ≡ W.bound wires.old }
-    ensures linked { OnOk result (W.linked wires.new
-        ≡ linked_with (W.linked wires.old) plan.now.upstream plan.now.askers) }
-    ensures waiting { OnOk result
-        (P.waiting spawner.new
+    now: u32,
+) -> Result<(Progress, u64), ServeError>
+    ensures ok { IfOk result (λ done. RunsAll plan.now.upstream plan.now.askers now
+        (server_state feeder.old (W.told wires.old) (W.order_faults wires.old) (I.ids ids.old)
+        (C.moments clock.old))
+        (K.held out.old)
+        (server_state feeder.new (W.told wires.new) (W.order_faults wires.new) (I.ids ids.new)
+        (C.moments clock.new))
+        done.0 done.1 (K.held out.new)) }
+    ensures err { OnErr result (StopsRunning plan.now.upstream plan.now.askers now
+        (server_state feeder.old (W.told wires.old) (W.order_faults wires.old) (I.ids ids.old)
+        (C.moments clock.old))
+        (K.held out.old) (K.held out.new)) }
+    ensures waiting { OnOk result (P.waiting spawner.new
         ≡ P.waiting spawner.old + (plan.now.askers + plan.now.workers)) }
     ensures gathered { P.gathered spawner.new ≡ P.gathered spawner.old }
     ensures wire_count { W.faults wires.old ≤ W.faults wires.new }
@@ -96,24 +137,50 @@ fn run_turns<
         Rose (W.faults wires.old) (W.faults wires.new) }
     ensures start { result ≡ Err ServeError.StartFault →
         Rose (P.faults spawner.old) (P.faults spawner.new) }
-    ensures failed { result ≡ Err ServeError.WriteFault →
-        Rose (K.faults out.old) (K.faults out.new) }
+    ensures not_write { result ≢ Err ServeError.WriteFault }
+    ensures failed { IfOk result (λ done. done.0.is_cut ≡ true →
+        Rose (K.faults out.old) (K.faults out.new)) }
 {
-    let told = publisher.tell();
+    let first = order_first(rt, alloc, feeder, wires, ids, out, now)?;
+    let passed = take_first_pass(rt, alloc, feeder, wires, clock, ids, out, first, now)?;
     start_all(
-        rt, alloc, plan, readers, told, wires, spawner, clock, ids, queues,
-    )?;
-    take_all(
         rt,
         alloc,
-        plan.turns,
-        publisher,
-        &plan.zones,
+        plan,
+        readers,
+        feeder.latest()?,
         wires,
+        spawner,
+        clock,
         ids,
-        out,
-        queues,
-    )
+    )?;
+    take_turns(rt, alloc, feeder, wires, clock, ids, out, passed)
+}
+
+// Writes the line that ends a run whose turns were all taken, unless a write has failed before.
+fn finish<K: Sink>(
+    alloc: Global,
+    turns: Option<u32>,
+    sums: Sums,
+    progress: Progress,
+    dropped: u64,
+    out: &mut K,
+) -> Result<(), ServeError>
+    ensures ok { OnOk result ((progress.is_cut ≡ false) × (K.held out.new
+        ≡ appended (K.held out.old) (sums_line turns sums progress.notices dropped))) }
+    ensures err { OnErr result (((progress.is_cut ≡ true) × (K.held out.new ≡ K.held out.old))
+        ⊎ ((progress.is_cut ≡ false)
+        × WritesPrefix (sums_line turns sums progress.notices dropped) (K.held out.old)
+        (K.held out.new))) }
+    ensures only { IfErr result IsOfLines }
+    ensures failed { result ≡ Err ServeError.WriteFault →
+        (progress.is_cut ≡ true) ⊎ Rose (K.faults out.old) (K.faults out.new) }
+    ensures count { K.faults out.old ≤ K.faults out.new }
+{
+    if progress.is_cut {
+        return Err(ServeError::WriteFault);
+    }
+    write_served(alloc, turns, sums, progress.notices, dropped, out)
 }
 
 // Serves to its end; then the workers end and are gathered, however it ended.
@@ -129,30 +196,37 @@ fn serve_open<
     rt: &R,
     alloc: Global,
     plan: &Plan<W::Up>,
-    publisher: &mut Publisher<N>,
+    feeder: &mut Feeder<N>,
     readers: Vec<PolicyReader<N>>,
     wires: &mut W,
     spawner: &mut P,
     clock: &mut C,
     ids: &mut I,
     out: &mut K,
+    now: u32,
 ) -> Result<(), ServeError>
-    requires { All (IsNumbered (length publisher.old.version.zones)) plan.now.zones.items }
-    ensures ok { OnOk result (ServesWhole
-        (connection_views W.In.left W.In.steady W.Out.held W.Out.steady)
-        (feed_state publisher.old (W.fetches wires.old) (W.fetched wires.old)
-        (W.fetch_faults wires.old) (I.ids ids.old) (K.held out.old))
-        plan.now.turns plan.now.zones.items
-        (P.waiting spawner.old + (plan.now.askers + plan.now.workers))
-        (P.gathered spawner.old) (P.gathered spawner.new) (K.held out.new)) }
-    ensures err { IfErr result (λ why. StopsServing
-        (connection_views W.In.left W.In.steady W.Out.held W.Out.steady) why
-        (feed_state publisher.old (W.fetches wires.old) (W.fetched wires.old)
-        (W.fetch_faults wires.old) (I.ids ids.old) (K.held out.old))
-        plan.now.turns plan.now.zones.items (K.held out.new)) }
-    ensures bound { W.bound wires.new ≡ W.bound wires.old }
-    ensures linked { OnOk result (W.linked wires.new
-        ≡ linked_with (W.linked wires.old) plan.now.upstream plan.now.askers) }
+    ensures ok { OnOk result (ServesBy
+        (RunsOn plan.now.upstream plan.now.askers now
+        (server_state feeder.old (W.told wires.old) (W.order_faults wires.old) (I.ids ids.old)
+        (C.moments clock.old)))
+        plan.now.turns
+        (record {
+          waiting = P.waiting spawner.old + (plan.now.askers + plan.now.workers);
+          before = P.gathered spawner.old;
+          after = P.gathered spawner.new;
+        })
+        (K.held out.old) (K.held out.new) (W.told wires.new)) }
+    ensures err { OnErr result (StopsIn
+        (RunsOn plan.now.upstream plan.now.askers now
+        (server_state feeder.old (W.told wires.old) (W.order_faults wires.old) (I.ids ids.old)
+        (C.moments clock.old)))
+        plan.now.turns
+        (record {
+          waiting = P.waiting spawner.old + (plan.now.askers + plan.now.workers);
+          before = P.gathered spawner.old;
+          after = P.gathered spawner.new;
+        })
+        (K.held out.old) (K.held out.new)) }
     ensures waiting { P.waiting spawner.new ≡ 0 }
     ensures wire_count { W.faults wires.old ≤ W.faults wires.new }
     ensures socket { result ≡ Err ServeError.SocketFault →
@@ -162,30 +236,19 @@ fn serve_open<
     ensures failed { result ≡ Err ServeError.WriteFault →
         Rose (K.faults out.old) (K.faults out.new) }
 {
-    let mut queues = Queues::new();
     let ran = run_turns(
-        rt,
-        alloc,
-        plan,
-        publisher,
-        readers,
-        wires,
-        spawner,
-        clock,
-        ids,
-        out,
-        &mut queues,
+        rt, alloc, plan, feeder, readers, wires, spawner, clock, ids, out, now,
     );
-    // workers end once no item can come any more
-    drop(queues);
+    // workers end once no arrival can come any more
+    wires.stop();
     let sums = gather_all(spawner);
     match ran {
-        Ok(returned) => write_served(alloc, plan.turns, sums, returned, out),
+        Ok((progress, dropped)) => finish(alloc, plan.turns, sums, progress, dropped, out),
         Err(error) => Err(error),
     }
 }
 
-/// Serves by a store of its own, whose zones are those of the plan.
+/// Serves by a store of its own, whose zones are these.
 pub(crate) fn serve_over<
     N: StoreName + Send + Sync + 'static,
     W: Wires,
@@ -199,6 +262,7 @@ pub(crate) fn serve_over<
     alloc: Global,
     parts: Parts,
     plan: &Plan<W::Up>,
+    zones: PlannedZones,
     wires: &mut W,
     spawner: &mut P,
     clock: &mut C,
@@ -206,22 +270,44 @@ pub(crate) fn serve_over<
     out: &mut K,
 ) -> Result<(), ServeError>
     requires store { parts ≡ N.store }
-    requires zones { All (IsNumbered (length parts.origins)) plan.now.zones.items }
+    requires origins { zones.origins.items ≡ parts.origins }
+    requires primaries { length zones.primaries.items ≡ length parts.origins }
     ensures ok { OnOk result (ServesWhole
-        (connection_views W.In.left W.In.steady W.Out.held W.Out.steady)
-        (feed_state (nothing_published parts.origins) (W.fetches wires.old) (W.fetched wires.old)
-        (W.fetch_faults wires.old) (I.ids ids.old) (K.held out.old))
-        plan.now.turns plan.now.zones.items
-        (P.waiting spawner.old + (plan.now.askers + plan.now.workers))
-        (P.gathered spawner.old) (P.gathered spawner.new) (K.held out.new)) }
-    ensures err { IfErr result (λ why. StopsServing
-        (connection_views W.In.left W.In.steady W.Out.held W.Out.steady) why
-        (feed_state (nothing_published parts.origins) (W.fetches wires.old) (W.fetched wires.old)
-        (W.fetch_faults wires.old) (I.ids ids.old) (K.held out.old))
-        plan.now.turns plan.now.zones.items (K.held out.new)) }
-    ensures bound { W.bound wires.new ≡ W.bound wires.old }
-    ensures linked { OnOk result
-        (W.linked wires.new ≡ linked_with (W.linked wires.old) plan.now.upstream plan.now.askers) }
+        (record {
+          origins = zones.origins.items;
+          primaries = zones.primaries.items;
+          upstream = plan.now.upstream;
+          links = plan.now.askers;
+          told = W.told wires.old;
+          faults = W.order_faults wires.old;
+          ids = I.ids ids.old;
+          moments = C.moments clock.old;
+        })
+        plan.now.turns
+        (record {
+          waiting = P.waiting spawner.old + (plan.now.askers + plan.now.workers);
+          before = P.gathered spawner.old;
+          after = P.gathered spawner.new;
+        })
+        (K.held out.old) (K.held out.new) (W.told wires.new)) }
+    ensures err { OnErr result (StopsServing
+        (record {
+          origins = zones.origins.items;
+          primaries = zones.primaries.items;
+          upstream = plan.now.upstream;
+          links = plan.now.askers;
+          told = W.told wires.old;
+          faults = W.order_faults wires.old;
+          ids = I.ids ids.old;
+          moments = C.moments clock.old;
+        })
+        plan.now.turns
+        (record {
+          waiting = P.waiting spawner.old + (plan.now.askers + plan.now.workers);
+          before = P.gathered spawner.old;
+          after = P.gathered spawner.new;
+        })
+        (K.held out.old) (K.held out.new)) }
     ensures waiting { P.waiting spawner.new ≤ P.waiting spawner.old }
     ensures wire_count { W.faults wires.old ≤ W.faults wires.new }
     ensures socket { result ≡ Err ServeError.SocketFault →
@@ -231,19 +317,23 @@ pub(crate) fn serve_over<
     ensures failed { result ≡ Err ServeError.WriteFault →
         Rose (K.faults out.old) (K.faults out.new) }
 {
-    let (mut publisher, readers) = parts.open::<N, R>(rt, alloc)?;
+    let (publisher, readers) = parts.open::<N, R>(rt, alloc)?;
+    let now = clock.now();
+    let PlannedZones { origins, primaries } = zones;
+    let mut feeder = Feeder::start(rt, alloc, publisher, origins, primaries, now)?;
     let served = serve_open(
         rt,
         alloc,
         plan,
-        &mut publisher,
+        &mut feeder,
         readers,
         wires,
         spawner,
         clock,
         ids,
         out,
+        now,
     );
-    publisher.close(rt);
+    feeder.close(rt);
     served
 }

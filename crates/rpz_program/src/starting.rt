@@ -1,48 +1,31 @@
 //! How workers are started.
 
 ghost use Rattle.std.specs.Prelude.{◌≡◌, ◌≢◌, ◌≤◌, ◌+◌, Err, OnErr, OnOk};
+ghost use Rattle.std.specs.Option.{option_map};
 ghost use Rattle.edge_io.specs.Edge.{Rose};
-ghost use Rattle.edge_io.specs.Told.{one_more};
-ghost use Rattle.rpz_program.specs.Serving.{linked_with};
-ghost use Rattle.rpz_program.specs.Wires.{FetchesNothing};
+ghost use Rattle.edge_io.specs.Wired.{with_linked};
+ghost use Rattle.rpz_program.specs.Turns.{linked_told};
 
-use crate::feeds::Feeds;
+use crate::feeds::{CONNECTION_WORKERS, Feeds};
 use crate::plan::Plan;
 use crate::serve_error::ServeError;
 use crate::server_cache::ServerCache;
-use crate::telling::Queues;
 use answer_cache::Shared;
-use edge_io::{Clock, Endpoint, Ids, Link, Spawner, StartError, Task, WireError, Wires};
-use policy_publish::{PolicyReader, StoreName, Told};
-use rpz_workers::{AsksNobody, NoGate, NoOnward, Report, ServeTask, Worker};
+use edge_io::{Clock, Endpoint, Ids, Link, Spawner, StartError, Task, Wires};
+use policy_publish::{Latest, PolicyReader, StoreName};
+use rpz_workers::{
+    AskerItems, AsksNobody, InletItems, NoGate, NoOnward, Report, ServeTask, Worker,
+};
 use std::alloc::{AllocError, Global};
 use std::sync::{Arc, Wait};
 use std::thread::Threads;
 use std::time;
 
-// A place for replies.
-fn wire_replies<W: Wires>(wires: &mut W) -> Result<W::Back, ServeError>
-    ensures linked { W.linked wires.new ≡ W.linked wires.old }
-    ensures bound { W.bound wires.new ≡ W.bound wires.old }
-    ensures fetches { FetchesNothing W.fetches W.fetched W.fetch_faults wires.old wires.new }
-    ensures count { W.faults wires.old ≤ W.faults wires.new }
-    ensures failed { result ≡ Err ServeError.SocketFault →
-        Rose (W.faults wires.old) (W.faults wires.new) }
-    ensures not_start { result ≢ Err ServeError.StartFault }
-    ensures not_write { result ≢ Err ServeError.WriteFault }
-{
-    match wires.replies() {
-        Ok(replies) => Ok(replies),
-        Err(WireError::Failed) => Err(ServeError::SocketFault),
-        Err(WireError::OutOfMemory) => Err(ServeError::OutOfMemory),
-    }
-}
-
 // A link to the upstream, and a place for replies.
 fn wire_asker<W: Wires>(wires: &mut W, upstream: Endpoint) -> Result<(W::Up, W::Back), ServeError>
-    ensures linked { OnOk result (W.linked wires.new ≡ one_more (W.linked wires.old) upstream) }
-    ensures bound { W.bound wires.new ≡ W.bound wires.old }
-    ensures fetches { FetchesNothing W.fetches W.fetched W.fetch_faults wires.old wires.new }
+    ensures told { OnOk result
+        (W.told wires.new ≡ option_map (with_linked upstream) (W.told wires.old)) }
+    ensures orders { W.order_faults wires.new ≡ W.order_faults wires.old }
     ensures count { W.faults wires.old ≤ W.faults wires.new }
     ensures failed { result ≡ Err ServeError.SocketFault →
         Rose (W.faults wires.old) (W.faults wires.new) }
@@ -51,13 +34,56 @@ fn wire_asker<W: Wires>(wires: &mut W, upstream: Endpoint) -> Result<(W::Up, W::
 {
     let link = match wires.link(upstream) {
         Ok(link) => link,
-        Err(WireError::Failed) => return Err(ServeError::SocketFault),
-        Err(WireError::OutOfMemory) => return Err(ServeError::OutOfMemory),
+        Err(error) => return Err(ServeError::of_wires(error)),
     };
     match wires.replies() {
         Ok(replies) => Ok((link, replies)),
-        Err(WireError::Failed) => Err(ServeError::SocketFault),
-        Err(WireError::OutOfMemory) => Err(ServeError::OutOfMemory),
+        Err(error) => Err(ServeError::of_wires(error)),
+    }
+}
+
+// An inlet for datagrams, and a place for replies.
+fn wire_answerer<W: Wires>(wires: &mut W) -> Result<(W::Datagrams, W::Back), ServeError>
+    ensures told { W.told wires.new ≡ W.told wires.old }
+    ensures orders { W.order_faults wires.new ≡ W.order_faults wires.old }
+    ensures count { W.faults wires.old ≤ W.faults wires.new }
+    ensures failed { result ≡ Err ServeError.SocketFault →
+        Rose (W.faults wires.old) (W.faults wires.new) }
+    ensures not_start { result ≢ Err ServeError.StartFault }
+    ensures not_write { result ≢ Err ServeError.WriteFault }
+{
+    let inlet = match wires.datagrams() {
+        Ok(inlet) => inlet,
+        Err(error) => return Err(ServeError::of_wires(error)),
+    };
+    match wires.replies() {
+        Ok(replies) => Ok((inlet, replies)),
+        Err(error) => Err(ServeError::of_wires(error)),
+    }
+}
+
+// What a worker that asks takes: the first of them take connections.
+fn asker_items<N: StoreName, W: Wires, R: Wait + time::Clock + Copy + Drop>(
+    rt: &R,
+    place: usize,
+    wires: &mut W,
+    feeds: &Feeds<N>,
+) -> Result<AskerItems<N, W::In, W::Out, W::Connections, R>, ServeError>
+    ensures told { W.told wires.new ≡ W.told wires.old }
+    ensures orders { W.order_faults wires.new ≡ W.order_faults wires.old }
+    ensures count { W.faults wires.old ≤ W.faults wires.new }
+    ensures failed { result ≡ Err ServeError.SocketFault →
+        Rose (W.faults wires.old) (W.faults wires.new) }
+    ensures not_start { result ≢ Err ServeError.StartFault }
+    ensures not_write { result ≢ Err ServeError.WriteFault }
+{
+    if place >= CONNECTION_WORKERS {
+        return Ok(AskerItems::Passed(feeds.passed(rt)?));
+    }
+    let latest = feeds.latest()?;
+    match wires.connections() {
+        Ok(inlet) => Ok(AskerItems::Connections(InletItems::new(*rt, inlet, latest))),
+        Err(error) => Err(ServeError::of_wires(error)),
     }
 }
 
@@ -104,13 +130,12 @@ fn start_asking<
     alloc: Global,
     cache: &ServerCache<W::Up>,
     reader: PolicyReader<N>,
-    place: usize,
+    items: AskerItems<N, W::In, W::Out, W::Connections, R>,
     link: W::Up,
     replies: W::Back,
     spawner: &mut P,
     clock: C,
     ids: I,
-    feeds: &Feeds<N, W::In, W::Out>,
 ) -> Result<(), ServeError>
     ensures ok { OnOk result (P.waiting spawner.new ≡ P.waiting spawner.old + 1) }
     ensures err { OnErr result (P.waiting spawner.new ≡ P.waiting spawner.old) }
@@ -122,7 +147,6 @@ fn start_asking<
     ensures not_write { result ≢ Err ServeError.WriteFault }
 {
     let shared = hold(rt, cache)?;
-    let items = feeds.asker_items(rt, place)?;
     let worker = Worker::new(alloc, reader, shared, link, ids, NoGate);
     start_task(
         rt,
@@ -150,13 +174,14 @@ fn start_asker<
     spawner: &mut P,
     clock: &mut C,
     ids: &mut I,
-    feeds: &Feeds<N, W::In, W::Out>,
+    feeds: &Feeds<N>,
 ) -> Result<(), ServeError>
-    ensures linked { OnOk result (W.linked wires.new ≡ one_more (W.linked wires.old) upstream) }
+    ensures told { OnOk result
+        (W.told wires.new ≡ option_map (with_linked upstream) (W.told wires.old)) }
     ensures waiting { OnOk result (P.waiting spawner.new ≡ P.waiting spawner.old + 1) }
-    ensures bound { W.bound wires.new ≡ W.bound wires.old }
-    ensures fetches { FetchesNothing W.fetches W.fetched W.fetch_faults wires.old wires.new }
+    ensures orders { W.order_faults wires.new ≡ W.order_faults wires.old }
     ensures ids { I.ids ids.new ≡ I.ids ids.old }
+    ensures moments { C.moments clock.new ≡ C.moments clock.old }
     ensures gathered { P.gathered spawner.new ≡ P.gathered spawner.old }
     ensures wire_count { W.faults wires.old ≤ W.faults wires.new }
     ensures start_count { P.faults spawner.old ≤ P.faults spawner.new }
@@ -166,10 +191,11 @@ fn start_asker<
         Rose (P.faults spawner.old) (P.faults spawner.new) }
     ensures not_write { result ≢ Err ServeError.WriteFault }
 {
+    let items = asker_items(rt, place, wires, feeds)?;
     let (link, replies) = wire_asker(wires, upstream)?;
     let (own_clock, own_ids) = (clock.another(), ids.another());
     start_asking::<N, W, P, C, I, R>(
-        rt, alloc, cache, reader, place, link, replies, spawner, own_clock, own_ids, feeds,
+        rt, alloc, cache, reader, items, link, replies, spawner, own_clock, own_ids,
     )
 }
 
@@ -192,13 +218,14 @@ fn start_askers<
     spawner: &mut P,
     clock: &mut C,
     ids: &mut I,
-    feeds: &Feeds<N, W::In, W::Out>,
+    feeds: &Feeds<N>,
 ) -> Result<(), ServeError>
-    ensures linked { OnOk result (W.linked wires.new ≡ linked_with (W.linked wires.old) upstream count) }
+    ensures told { OnOk result
+        (W.told wires.new ≡ linked_told upstream count (W.told wires.old)) }
     ensures waiting { OnOk result (P.waiting spawner.new ≡ P.waiting spawner.old + count) }
-    ensures bound { W.bound wires.new ≡ W.bound wires.old }
-    ensures fetches { FetchesNothing W.fetches W.fetched W.fetch_faults wires.old wires.new }
+    ensures orders { W.order_faults wires.new ≡ W.order_faults wires.old }
     ensures ids { I.ids ids.new ≡ I.ids ids.old }
+    ensures moments { C.moments clock.new ≡ C.moments clock.old }
     ensures gathered { P.gathered spawner.new ≡ P.gathered spawner.old }
     ensures wire_count { W.faults wires.old ≤ W.faults wires.new }
     ensures start_count { P.faults spawner.old ≤ P.faults spawner.new }
@@ -231,10 +258,11 @@ fn start_answering<
     alloc: Global,
     cache: &ServerCache<W::Up>,
     reader: PolicyReader<N>,
+    inlet: W::Datagrams,
     replies: W::Back,
     spawner: &mut P,
     clock: C,
-    feeds: &Feeds<N, W::In, W::Out>,
+    feeds: &Feeds<N>,
 ) -> Result<(), ServeError>
     ensures ok { OnOk result (P.waiting spawner.new ≡ P.waiting spawner.old + 1) }
     ensures err { OnErr result (P.waiting spawner.new ≡ P.waiting spawner.old) }
@@ -246,7 +274,8 @@ fn start_answering<
     ensures not_write { result ≢ Err ServeError.WriteFault }
 {
     let shared = hold(rt, cache)?;
-    let (items, onward) = feeds.datagram_items(rt, alloc)?;
+    let items = InletItems::new(*rt, inlet, feeds.latest()?);
+    let onward = feeds.onward(rt, alloc)?;
     let worker: Worker<N, W::Up, Shared<R, W::Up>, AsksNobody> = Worker::passing_on(
         alloc, reader, shared,
     );
@@ -272,12 +301,12 @@ fn start_answerer<
     wires: &mut W,
     spawner: &mut P,
     clock: &mut C,
-    feeds: &Feeds<N, W::In, W::Out>,
+    feeds: &Feeds<N>,
 ) -> Result<(), ServeError>
-    ensures linked { W.linked wires.new ≡ W.linked wires.old }
+    ensures told { W.told wires.new ≡ W.told wires.old }
     ensures waiting { OnOk result (P.waiting spawner.new ≡ P.waiting spawner.old + 1) }
-    ensures bound { W.bound wires.new ≡ W.bound wires.old }
-    ensures fetches { FetchesNothing W.fetches W.fetched W.fetch_faults wires.old wires.new }
+    ensures orders { W.order_faults wires.new ≡ W.order_faults wires.old }
+    ensures moments { C.moments clock.new ≡ C.moments clock.old }
     ensures gathered { P.gathered spawner.new ≡ P.gathered spawner.old }
     ensures wire_count { W.faults wires.old ≤ W.faults wires.new }
     ensures start_count { P.faults spawner.old ≤ P.faults spawner.new }
@@ -287,9 +316,11 @@ fn start_answerer<
         Rose (P.faults spawner.old) (P.faults spawner.new) }
     ensures not_write { result ≢ Err ServeError.WriteFault }
 {
-    let replies = wire_replies(wires)?;
+    let (inlet, replies) = wire_answerer(wires)?;
     let own_clock = clock.another();
-    start_answering::<N, W, P, C, R>(rt, alloc, cache, reader, replies, spawner, own_clock, feeds)
+    start_answering::<N, W, P, C, R>(
+        rt, alloc, cache, reader, inlet, replies, spawner, own_clock, feeds,
+    )
 }
 
 // Starts so many workers that answer datagrams.
@@ -308,12 +339,12 @@ fn start_answerers<
     wires: &mut W,
     spawner: &mut P,
     clock: &mut C,
-    feeds: &Feeds<N, W::In, W::Out>,
+    feeds: &Feeds<N>,
 ) -> Result<(), ServeError>
-    ensures linked { W.linked wires.new ≡ W.linked wires.old }
+    ensures told { W.told wires.new ≡ W.told wires.old }
     ensures waiting { OnOk result (P.waiting spawner.new ≡ P.waiting spawner.old + count) }
-    ensures bound { W.bound wires.new ≡ W.bound wires.old }
-    ensures fetches { FetchesNothing W.fetches W.fetched W.fetch_faults wires.old wires.new }
+    ensures orders { W.order_faults wires.new ≡ W.order_faults wires.old }
+    ensures moments { C.moments clock.new ≡ C.moments clock.old }
     ensures gathered { P.gathered spawner.new ≡ P.gathered spawner.old }
     ensures wire_count { W.faults wires.old ≤ W.faults wires.new }
     ensures start_count { P.faults spawner.old ≤ P.faults spawner.new }
@@ -332,8 +363,8 @@ fn start_answerers<
     Ok(())
 }
 
-/// Opens the queues, and starts the workers that ask, and then those that answer datagrams, one for each reader, over the cache. The
-/// list is what was published by then.
+/// Starts the workers that ask, and then those that answer datagrams, one for each reader, over the cache. They find at the handle what
+/// is published.
 pub(crate) fn start_all<
     N: StoreName + Send + Sync + 'static,
     W: Wires,
@@ -346,20 +377,19 @@ pub(crate) fn start_all<
     alloc: Global,
     plan: &Plan<W::Up>,
     readers: Vec<PolicyReader<N>>,
-    told: Told<N>,
+    latest: Latest<N>,
     wires: &mut W,
     spawner: &mut P,
     clock: &mut C,
     ids: &mut I,
-    queues: &mut Queues<N, W::In, W::Out>,
 ) -> Result<(), ServeError>
-    ensures linked { OnOk result (W.linked wires.new
-        ≡ linked_with (W.linked wires.old) plan.now.upstream plan.now.askers) }
+    ensures told { OnOk result (W.told wires.new
+        ≡ linked_told plan.now.upstream plan.now.askers (W.told wires.old)) }
     ensures waiting { OnOk result (P.waiting spawner.new
         ≡ P.waiting spawner.old + (plan.now.askers + plan.now.workers)) }
-    ensures bound { W.bound wires.new ≡ W.bound wires.old }
-    ensures fetches { FetchesNothing W.fetches W.fetched W.fetch_faults wires.old wires.new }
+    ensures orders { W.order_faults wires.new ≡ W.order_faults wires.old }
     ensures ids { I.ids ids.new ≡ I.ids ids.old }
+    ensures moments { C.moments clock.new ≡ C.moments clock.old }
     ensures gathered { P.gathered spawner.new ≡ P.gathered spawner.old }
     ensures wire_count { W.faults wires.old ≤ W.faults wires.new }
     ensures start_count { P.faults spawner.old ≤ P.faults spawner.new }
@@ -370,7 +400,7 @@ pub(crate) fn start_all<
     ensures not_write { result ≢ Err ServeError.WriteFault }
 {
     let mut readers = readers;
-    let feeds = Feeds::open(alloc, told, queues)?;
+    let feeds = Feeds::open(alloc, latest)?;
     start_askers::<N, W, P, C, I, R>(
         rt,
         alloc,

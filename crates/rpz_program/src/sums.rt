@@ -15,7 +15,8 @@ pub struct Sums {
     pub failed: u64,
 }
 
-fn nothing() -> Sums
+/// No job.
+pub(crate) fn nothing() -> Sums
     ensures { result ≡ no_sums }
 {
     Sums {

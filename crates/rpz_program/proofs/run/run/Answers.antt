@@ -1,9 +1,8 @@
-use Rattle.std.proofs.Common.{refl, sym, ap, ◌∙◌}
+use Rattle.std.proofs.Common.{refl, sym, ap, ◌∙◌, inl}
 use Rattle.rpz_words.specs.Pages.{page_text}
 use Rattle.rpz_program.specs.declared.serve_error.ServeError.TheVariants.{OutOfMemory}
 use Rattle.rpz_program.proofs.Loads.{begins, begins_text, done_unless, ends_load, ends_page, nothing, same_load, same_page, written_if, written_text}
 use Rattle.rpz_program.proofs.RunSteps.{untouched}
-use Rattle.rpz_program.proofs.Runs.{stopped_at_start}
 use Rattle.rpz_program.proofs.Statuses.{bad_line_of, same_settings, stopped_by, verdict_is}
 use Rattle.rpz_program.proofs.run.run.Goals as goal
 
@@ -16,7 +15,7 @@ returns-in-Ok-Replay-clause-complete g c = λ asks taken no_source no_sink memor
 pub returns-in-Ok-Serve-clause-stopped : goal.returns-in-Ok-Serve-clause-stopped
 returns-in-Ok-Serve-clause-stopped g c = λ early usage settings asks.
     let same = same_settings _ c.in-Ok-Serve.settings settings (rw c.in-Ok-Serve.field-0-is at c.in-Ok-Serve.ensures.ok) asks in
-    rw c.of_server.ensures (rw same at (stopped_by _ c.serve.result _ _ _ _ c.serve.ensures.err (rw c.of_server.ensures at early)))
+    rw c.of_server.ensures (rw same at (stopped_by c.serve.result _ _ _ _ _ c.serve.ensures.err (rw c.of_server.ensures at early)))
 
 pub returns-in-Err-Usage-clause-prefix : goal.returns-in-Err-Usage-clause-prefix
 returns-in-Err-Usage-clause-prefix g c = λ asks. untouched _ _
@@ -25,7 +24,7 @@ pub returns-in-Err-OutOfMemory-clause-prefix : goal.returns-in-Err-OutOfMemory-c
 returns-in-Err-OutOfMemory-clause-prefix g c = λ asks. untouched _ _
 
 pub returns-in-Err-OutOfMemory-clause-stopped : goal.returns-in-Err-OutOfMemory-clause-stopped
-returns-in-Err-OutOfMemory-clause-stopped g c = λ early usage settings asks. record { why = OutOfMemory; status_is = refl; stops = stopped_at_start _ _ _ _ _ (λ e. cc) }
+returns-in-Err-OutOfMemory-clause-stopped g c = λ early usage settings asks. record { why = OutOfMemory; status_is = refl; stops = inl refl }
 
 pub returns-in-Ok-Load-clause-loaded : goal.returns-in-Ok-Load-clause-loaded
 returns-in-Ok-Load-clause-loaded g c = λ done settings asks.

@@ -1,5 +1,4 @@
 use Rattle.std.proofs.Common.{◌∙◌, arith}
-use Rattle.rpz_program.proofs.ZonePolls.{fetched_nothing_both}
 use Rattle.rpz_program.proofs.starting.start_answerers.Goals as goal
 
 pub loop-preserved : goal.loop-preserved
@@ -7,10 +6,10 @@ loop-preserved g c =
     let was = c.loop.invariant in
     let one = c.in_ok-start_answerer.ensures in
     record {
-      linked = one.linked ∙ was.linked;
+      told = one.told ∙ was.told;
       waiting = omega (arith, was.waiting, one.waiting);
-      bound = one.bound ∙ was.bound;
-      fetches = fetched_nothing_both _ _ _ _ _ _ was.fetches one.fetches;
+      orders = one.orders ∙ was.orders;
+      moments = one.moments ∙ was.moments;
       gathered = one.gathered ∙ was.gathered;
       wire_count = omega (arith, was.wire_count, one.wire_count);
       start_count = omega (arith, was.start_count, one.start_count);

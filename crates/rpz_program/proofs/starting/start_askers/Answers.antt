@@ -1,6 +1,5 @@
 use Rattle.std.proofs.Common.{◌∙◌, arith}
-use Rattle.rpz_program.proofs.ZonePolls.{fetched_nothing_both}
-use Rattle.rpz_program.proofs.Runs.{linked_next}
+use Rattle.rpz_program.proofs.Turned.{linked_next}
 use Rattle.rpz_program.proofs.starting.start_askers.Goals as goal
 
 pub loop-place-preserved : goal.loop-place-preserved
@@ -8,11 +7,11 @@ loop-place-preserved g c =
     let was = c.loop-place.invariant in
     let one = c.in_ok-start_asker.ensures in
     record {
-      linked = linked_next _ _ _ c.args.upstream c.loop-place.place one.linked was.linked;
+      told = linked_next _ _ _ c.args.upstream c.loop-place.place one.told was.told;
       waiting = omega (arith, was.waiting, one.waiting);
-      bound = one.bound ∙ was.bound;
-      fetches = fetched_nothing_both _ _ _ _ _ _ was.fetches one.fetches;
+      orders = one.orders ∙ was.orders;
       ids = one.ids ∙ was.ids;
+      moments = one.moments ∙ was.moments;
       gathered = one.gathered ∙ was.gathered;
       wire_count = omega (arith, was.wire_count, one.wire_count);
       start_count = omega (arith, was.start_count, one.start_count);

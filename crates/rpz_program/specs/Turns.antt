@@ -1,0 +1,148 @@
+-- The turns of a server: what it does with one wake after another.
+use Rattle.std.specs.Prelude.{◌≡◌, ◌≤◌, ◌+◌, ℕ, zero, suc, List, [], ◌∷◌, ◌++◌, Option, Some, None, Ok}
+use Rattle.std.specs.Option.{option_map}
+use Rattle.dns_name.specs.Labels.{Name}
+use Rattle.edge_io.specs.Chain.{Chain, Stage}
+use Rattle.edge_io.specs.Edge.{Rose}
+use Rattle.edge_io.specs.Told.{ComesNext}
+use Rattle.edge_io.specs.Wired.{BlamesOrder, GivesNext, PlainWires, with_later_wakes, with_linked}
+use Rattle.edge_io.specs.declared.endpoint.Endpoint.{Endpoint}
+use Rattle.edge_io.specs.declared.wake.Wake.{Wake}
+use Rattle.edge_io.specs.declared.wake.Wake.TheVariants as wake
+use Rattle.policy_snapshot.specs.Stands.{new_snapshot}
+use Rattle.ixfr_apply.specs.Marks.{no_marks}
+use Rattle.policy_publish.specs.Lists.{Published}
+use Rattle.policy_feed.specs.Feed.{Feed, PlainFeeder, feed_of, first_feeder}
+use Rattle.policy_feed.specs.Ordering.{OrdersDue}
+use Rattle.policy_feed.specs.Waking.{TakesWake}
+use Rattle.policy_feed.specs.declared.notice.Notice.{Notice}
+use Rattle.policy_feed.specs.declared.notice.Notice.TheVariants as notice
+use Rattle.rpz_program.specs.Sums.{saturated}
+use Rattle.rpz_program.specs.declared.sums.Sums.{Sums}
+
+-- what contracts see between two turns: the zones with the wires and the IDs, and the seconds that the clock is still to give,
+-- where they are known
+pub record ServerState : Type 0 where
+  pub feed : Feed
+  pub moments : Option (List ℕ)
+
+abbrev pub server_state : PlainFeeder → Option PlainWires → ℕ → Option (List ℕ) → Option (List ℕ) →
+    ServerState
+server_state feeder told faults ids moments =
+    record { feed = feed_of feeder told faults ids; moments = moments }
+
+-- what a server begins with, once its endpoint is bound: its zones, where it asks and over how many links; and what is told then
+pub record ServerStart : Type 0 where
+  pub origins : List Name
+  pub primaries : List Endpoint
+  pub upstream : Endpoint
+  pub links : ℕ
+  pub told : Option PlainWires
+  pub faults : ℕ
+  pub ids : Option (List ℕ)
+  pub moments : Option (List ℕ)
+
+-- what is published where a policy of these origins begins: nothing, and no zone is marked
+abbrev pub nothing_published : List Name → Published
+nothing_published origins =
+    record { list = []; version = new_snapshot origins; marks = no_marks origins }
+
+-- what wires tell after so many links were made
+abbrev pub linked_told : Endpoint → ℕ → Option PlainWires → Option PlainWires
+linked_told at zero told = told
+linked_told at (suc n) told = option_map (with_linked at) (linked_told at n told)
+
+-- A turn: the workers are started; or a wake came at this second, these lines were written, and this became of a NOTIFY.
+pub data RunTurn : Type 0 where
+  starts : RunTurn
+  wakes : ℕ → Wake → List ℕ → Option Notice → RunTurn
+
+-- The next wake is waited for, the clock is read, and the wake does what it does; then what is due is ordered.
+pub record TakesNext (before : ServerState) (second : ℕ) (woken : Wake) (lines : List ℕ)
+    (what : Option Notice) (after : ServerState) : Type 0 where
+  pub next : GivesNext before.feed.told (Ok woken)
+  pub faults : ℕ
+  pub count : before.feed.faults ≤ faults
+  pub blames : BlamesOrder (Ok woken) (Rose before.feed.faults faults)
+  pub moment : ComesNext before.moments second after.moments
+  pub takes : TakesWake second
+      (feed_of before.feed.feeder (option_map with_later_wakes before.feed.told) faults
+      before.feed.ids)
+      woken lines what after.feed
+
+-- what a turn does; the workers are started over so many links to the upstream
+abbrev pub Turns : Endpoint → ℕ → ServerState → RunTurn → ServerState → Type 0
+Turns upstream links before starts after =
+    after
+    ≡ server_state before.feed.feeder (linked_told upstream links before.feed.told)
+    before.feed.faults before.feed.ids before.moments
+Turns upstream links before (wakes second woken lines what) after =
+    TakesNext before second woken lines what after
+
+-- the lines of a turn, and those of turns, of which the last stands first
+abbrev pub turn_lines : RunTurn → List ℕ
+turn_lines starts = []
+turn_lines (wakes second woken lines what) = lines
+
+abbrev pub run_lines : List (Stage ServerState RunTurn) → List ℕ
+run_lines [] = []
+run_lines (stage ∷ stages) = run_lines stages ++ turn_lines stage.turn
+
+-- how often the workers were started
+abbrev pub starts_in : RunTurn → ℕ
+starts_in starts = 1
+starts_in (wakes second woken lines what) = 0
+
+abbrev pub start_count : List (Stage ServerState RunTurn) → ℕ
+start_count [] = 0
+start_count (stage ∷ stages) = starts_in stage.turn + start_count stages
+
+-- sums with what became of one NOTIFY more, and of those of turns
+abbrev pub with_notice : Sums → Option Notice → Sums
+with_notice sums None = sums
+with_notice sums (Some notice.Replied) = record sums { replies = saturated sums.replies 1 }
+with_notice sums (Some notice.Silent) = record sums { silent = saturated sums.silent 1 }
+with_notice sums (Some notice.Memory) = record sums { memory = saturated sums.memory 1 }
+with_notice sums (Some notice.Failed) = record sums { failed = saturated sums.failed 1 }
+
+abbrev pub with_turn_notice : Sums → RunTurn → Sums
+with_turn_notice sums starts = sums
+with_turn_notice sums (wakes second woken lines what) = with_notice sums what
+
+abbrev pub with_turn_notices : Sums → List (Stage ServerState RunTurn) → Sums
+with_turn_notices sums [] = sums
+with_turn_notices sums (stage ∷ stages) = with_turn_notice (with_turn_notices sums stages) stage.turn
+
+-- What is due at this second is ordered; then these turns, of which the last stands first, lead to this state. These lines were
+-- written.
+pub record RunsOn (upstream : Endpoint) (links second : ℕ) (before : ServerState)
+    (stages : List (Stage ServerState RunTurn)) (lines : List ℕ) (last : ServerState) : Type 0 where
+  pub begun : ServerState
+  pub first : List ℕ
+  pub orders : OrdersDue second before.feed first begun.feed
+  pub moments : begun.moments ≡ before.moments
+  pub chain : Chain (Turns upstream links) begun stages last
+  pub lines_are : lines ≡ first ++ run_lines stages
+
+-- The clock is read, and at that second all zones are due; from there these turns lead to this state.
+pub record RunsTo (start : ServerStart) (stages : List (Stage ServerState RunTurn))
+    (lines : List ℕ) (last : ServerState) : Type 0 where
+  pub second : ℕ
+  pub moments : Option (List ℕ)
+  pub moment : ComesNext start.moments second moments
+  pub runs : RunsOn start.upstream start.links second
+      (server_state
+      (first_feeder start.origins start.primaries (nothing_published start.origins) second)
+      start.told start.faults start.ids moments)
+      stages lines last
+
+-- the wake of the turn says that all inlets have ended, and so many datagrams were dropped
+abbrev pub IsEnd : RunTurn → ℕ → Type 0
+IsEnd starts dropped = ⊥
+IsEnd (wakes second (wake.Ended count) lines what) dropped = count ≡ dropped
+IsEnd (wakes second woken lines what) dropped = ⊥
+
+-- so does the last of these turns
+abbrev pub HasEnded : List (Stage ServerState RunTurn) → ℕ → Type 0
+HasEnded [] dropped = ⊥
+HasEnded (stage ∷ stages) dropped = IsEnd stage.turn dropped

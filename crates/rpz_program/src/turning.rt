@@ -1,0 +1,187 @@
+//! The turns of a server: one wake after another.
+
+ghost use Rattle.std.specs.Prelude.{◌≡◌, ◌≤◌, Err, Some, None, true, false, IfErr, IfOk, OnErr};
+ghost use Rattle.edge_io.specs.Edge.{Rose};
+ghost use Rattle.rpz_program.specs.Turning.{Advances, IsOfTurns, StopsAdvancing, WakesUp, ended_by};
+ghost use Rattle.rpz_program.specs.Turns.{server_state};
+
+use crate::output::write_lines;
+use crate::progress::{Progress, count_notice};
+use crate::serve_error::ServeError;
+use edge_io::{Clock, Ids, Sink, Wake, WireError, Wires};
+use policy_feed::Feeder;
+use policy_publish::StoreName;
+use std::alloc::Global;
+use std::sync::Wait;
+
+/// For how many seconds the workers are started no later than the first transfers end: a query that comes meanwhile waits in the
+/// socket's buffer, and is answered by the rules.
+pub const FIRST_PASS_SECONDS: u32 = 2;
+
+// What a turn came to.
+#[derive(Clone, Copy, Debug)]
+pub(crate) struct Turned {
+    pub(crate) progress: Progress,
+    /// The second of the turn.
+    pub(crate) second: u32,
+    /// How many datagrams were dropped, where all inlets have ended.
+    pub(crate) ended: Option<u64>,
+}
+
+// How many datagrams were dropped, where the wake says that all inlets have ended.
+fn end_in(wake: &Wake) -> Option<u64>
+    ensures { result ≡ ended_by wake.now }
+{
+    match wake {
+        Wake::Ended { dropped } => Some(*dropped),
+        _ => None,
+    }
+}
+
+// Waits for the next wake.
+fn next_wake<W: Wires>(wires: &mut W) -> Result<Wake, ServeError>
+    ensures wakes { IfOk result (λ wake. WakesUp wake (W.told wires.old) (W.told wires.new)
+        (W.order_faults wires.old) (W.order_faults wires.new)) }
+    ensures only { IfErr result IsOfTurns }
+    ensures wire_count { W.faults wires.old ≤ W.faults wires.new }
+    ensures socket { result ≡ Err ServeError.SocketFault →
+        Rose (W.faults wires.old) (W.faults wires.new) }
+{
+    match wires.wait() {
+        Ok(wake) => Ok(wake),
+        Err(WireError::Failed) => Err(ServeError::SocketFault),
+        Err(WireError::OutOfMemory) => Err(ServeError::OutOfMemory),
+    }
+}
+
+// Waits for the next wake, does what it does, and writes the lines.
+pub(crate) fn take_turn<N: StoreName, W: Wires, C: Clock, I: Ids, K: Sink, R: Wait>(
+    rt: &R,
+    alloc: Global,
+    feeder: &mut Feeder<N>,
+    wires: &mut W,
+    clock: &mut C,
+    ids: &mut I,
+    out: &mut K,
+    progress: Progress,
+) -> Result<Turned, ServeError>
+    ensures ok { IfOk result (λ turned. Advances
+        (server_state feeder.old (W.told wires.old) (W.order_faults wires.old) (I.ids ids.old)
+        (C.moments clock.old))
+        progress (K.held out.old) turned.ended
+        (server_state feeder.new (W.told wires.new) (W.order_faults wires.new) (I.ids ids.new)
+        (C.moments clock.new))
+        turned.progress (K.held out.new)) }
+    ensures err { OnErr result (StopsAdvancing
+        (server_state feeder.old (W.told wires.old) (W.order_faults wires.old) (I.ids ids.old)
+        (C.moments clock.old))
+        progress (K.held out.old) (K.held out.new)) }
+    ensures only { IfErr result IsOfTurns }
+    ensures wire_count { W.faults wires.old ≤ W.faults wires.new }
+    ensures socket { result ≡ Err ServeError.SocketFault →
+        Rose (W.faults wires.old) (W.faults wires.new) }
+    ensures count { K.faults out.old ≤ K.faults out.new }
+    ensures failed { IfOk result (λ turned. turned.progress.is_cut ≡ true →
+        progress.is_cut ≡ false → Rose (K.faults out.old) (K.faults out.new)) }
+{
+    let wake = next_wake(wires)?;
+    let ended = end_in(&wake);
+    let second = clock.now();
+    let mut text = Vec::new(alloc);
+    let what = feeder.turn(rt, wires, ids, second, wake, &mut text)?;
+    let is_cut = write_lines(out, progress.is_cut, &text)?;
+    Ok(Turned {
+        progress: Progress {
+            is_cut,
+            notices: count_notice(progress.notices, what),
+        },
+        second,
+        ended,
+    })
+}
+
+/// Takes turns until no transfer is under way, or for [`FIRST_PASS_SECONDS`].
+pub(crate) fn take_first_pass<N: StoreName, W: Wires, C: Clock, I: Ids, K: Sink, R: Wait>(
+    rt: &R,
+    alloc: Global,
+    feeder: &mut Feeder<N>,
+    wires: &mut W,
+    clock: &mut C,
+    ids: &mut I,
+    out: &mut K,
+    progress: Progress,
+    began: u32,
+) -> Result<Progress, ServeError>
+    ensures ok { IfOk result (λ to. Advances
+        (server_state feeder.old (W.told wires.old) (W.order_faults wires.old) (I.ids ids.old)
+        (C.moments clock.old))
+        progress (K.held out.old) None
+        (server_state feeder.new (W.told wires.new) (W.order_faults wires.new) (I.ids ids.new)
+        (C.moments clock.new))
+        to (K.held out.new)) }
+    ensures err { OnErr result (StopsAdvancing
+        (server_state feeder.old (W.told wires.old) (W.order_faults wires.old) (I.ids ids.old)
+        (C.moments clock.old))
+        progress (K.held out.old) (K.held out.new)) }
+    ensures only { IfErr result IsOfTurns }
+    ensures wire_count { W.faults wires.old ≤ W.faults wires.new }
+    ensures socket { result ≡ Err ServeError.SocketFault →
+        Rose (W.faults wires.old) (W.faults wires.new) }
+    ensures count { K.faults out.old ≤ K.faults out.new }
+    ensures failed { IfOk result (λ to. to.is_cut ≡ true → progress.is_cut ≡ false →
+        Rose (K.faults out.old) (K.faults out.new)) }
+{
+    let mut progress = progress;
+    for _ in rt.forever() {
+        if !feeder.is_polling() {
+            return Ok(progress);
+        }
+        let turned = take_turn(rt, alloc, feeder, wires, clock, ids, out, progress)?;
+        progress = turned.progress;
+        if turned.ended.is_some() || turned.second.saturating_sub(began) >= FIRST_PASS_SECONDS {
+            return Ok(progress);
+        }
+    }
+    unreachable!()
+}
+
+/// Takes turns until all inlets have ended, and says how many datagrams were dropped.
+pub(crate) fn take_turns<N: StoreName, W: Wires, C: Clock, I: Ids, K: Sink, R: Wait>(
+    rt: &R,
+    alloc: Global,
+    feeder: &mut Feeder<N>,
+    wires: &mut W,
+    clock: &mut C,
+    ids: &mut I,
+    out: &mut K,
+    progress: Progress,
+) -> Result<(Progress, u64), ServeError>
+    ensures ok { IfOk result (λ done. Advances
+        (server_state feeder.old (W.told wires.old) (W.order_faults wires.old) (I.ids ids.old)
+        (C.moments clock.old))
+        progress (K.held out.old) (Some done.1)
+        (server_state feeder.new (W.told wires.new) (W.order_faults wires.new) (I.ids ids.new)
+        (C.moments clock.new))
+        done.0 (K.held out.new)) }
+    ensures err { OnErr result (StopsAdvancing
+        (server_state feeder.old (W.told wires.old) (W.order_faults wires.old) (I.ids ids.old)
+        (C.moments clock.old))
+        progress (K.held out.old) (K.held out.new)) }
+    ensures only { IfErr result IsOfTurns }
+    ensures wire_count { W.faults wires.old ≤ W.faults wires.new }
+    ensures socket { result ≡ Err ServeError.SocketFault →
+        Rose (W.faults wires.old) (W.faults wires.new) }
+    ensures count { K.faults out.old ≤ K.faults out.new }
+    ensures failed { IfOk result (λ done. done.0.is_cut ≡ true → progress.is_cut ≡ false →
+        Rose (K.faults out.old) (K.faults out.new)) }
+{
+    let mut progress = progress;
+    for _ in rt.forever() {
+        let turned = take_turn(rt, alloc, feeder, wires, clock, ids, out, progress)?;
+        progress = turned.progress;
+        if let Some(dropped) = turned.ended {
+            return Ok((progress, dropped));
+        }
+    }
+    unreachable!()
+}
