@@ -13,9 +13,9 @@ the server the others. The servers take turns, round by round, each at the great
 greatest rate and the least CPU of all rounds count; CPU is that of all threads of the server, user and system. In the last round
 comes a run at half of the rate, of which come the lost queries and the latency of which 99 of 100 queries stay below.
 
-`rpz` polls its zone after each 64th arrival. What that costs is measured at a fixed rate, without and with eight more zones, which are
-empty: an eighth of the difference in CPU for a query is the share of one zone's polls, which is printed, and the last column is the
-CPU without it.
+Up to version 0.2.0 `rpz` polled its zone after each 64th arrival. What that costs is measured at a fixed rate, without and with eight more
+zones, which are empty: an eighth of the difference in CPU for a query is the share of one zone's polls, which is printed, and the last
+column is the CPU without it. Since then zones are polled by their own times, and the share is noise about 0.
 """
 
 import argparse

@@ -46,7 +46,7 @@ def small_server(port, zone):
 
 
 def serve_words():
-    """The words of a server that ends after as many arrivals as are asked."""
+    """The words of a server that ends after as many arrivals as are asked; in service there stands `forever` in place of the number."""
     return ["serve", f"127.0.0.1:{LISTEN}", f"127.0.0.1:{UPSTREAM}", str(len(QUERIES)), "2", f"rpz.example@127.0.0.1:{PRIMARY}"]
 
 
@@ -76,7 +76,7 @@ def main():
     helpers = [small_server(PRIMARY, "rpz.example.zone"), small_server(UPSTREAM, "example.zone")]
     try:
         server = start()
-        wait_for(LISTEN, server, BUILD_SECONDS)  # what is asked before the zone is loaded waits until it is
+        wait_for(LISTEN, server, BUILD_SECONDS)  # what is asked before the zone is loaded waits until it is, 2 seconds at most
         for name, tcp in QUERIES:
             ask(name, tcp)
         print()
