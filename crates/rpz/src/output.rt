@@ -25,10 +25,11 @@ impl<W: Write + Drop, E: Write + Drop> Output<W, E> {
             is_told: false,
         }
     }
+}
 
-    fn tell(&mut self) -> io::Result<()> {
-        self.errors.write_all(b"rpz: write fault\n")
-    }
+// Says that a write has failed.
+fn tell<E: Write>(errors: &mut E) -> io::Result<()> {
+    errors.write_all(b"rpz: write fault\n")
 }
 
 impl<W: Write + Drop, E: Write + Drop> Sink for Output<W, E> {
@@ -42,7 +43,7 @@ impl<W: Write + Drop, E: Write + Drop> Sink for Output<W, E> {
         let written = self.sink.write(piece);
         if written.is_err() && !self.is_told {
             self.is_told = true;
-            let _ = self.tell();
+            let _ = tell(&mut self.errors);
         }
         written
     }
