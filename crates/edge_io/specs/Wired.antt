@@ -3,6 +3,7 @@ use Rattle.std.specs.Prelude.{◌≡◌, ℕ, List, [], ◌∷◌, ◌++◌, len
 use Rattle.std.specs.Option.{option_map}
 use Rattle.std.specs.Result.{result_ok}
 use Rattle.edge_io.specs.Told.{PlainReply}
+use Rattle.edge_io.specs.declared.connection_limits.ConnectionLimits.{ConnectionLimits}
 use Rattle.edge_io.specs.declared.endpoint.Endpoint.{Endpoint}
 use Rattle.edge_io.specs.declared.replies.SendError.{SendError}
 use Rattle.edge_io.specs.declared.wake.Order.{Order}
@@ -20,9 +21,11 @@ pub record PlainOrder : Type 0 where
   pub given : Option Order
 
 -- What wires tell: what was asked of them so far, each in order, and the wakes that are still to come. Of the wakes `None` stands
--- for a wait that fails, and behind the last comes `Ended`, ever after. `turns` is how many arrivals are taken, where that was said.
+-- for a wait that fails, and behind the last comes `Ended`, ever after. `turns` is how many arrivals are taken, and `admitted` how
+-- many connections of clients may be open, where that was said.
 pub record PlainWires : Type 0 where
   pub turns : Option ℕ
+  pub admitted : Option ConnectionLimits
   pub bound : List Endpoint
   pub linked : List Endpoint
   pub ordered : List PlainOrder
@@ -32,11 +35,22 @@ pub record PlainWires : Type 0 where
 -- wires of which nothing was asked yet
 abbrev pub new_wires : List (Option Wake) → PlainWires
 new_wires wakes =
-    record { turns = None; bound = []; linked = []; ordered = []; answered = []; wakes = wakes }
+    record {
+      turns = None;
+      admitted = None;
+      bound = [];
+      linked = [];
+      ordered = [];
+      answered = [];
+      wakes = wakes;
+    }
 
 -- wires of which one thing more was asked
 abbrev pub with_turns : ℕ → PlainWires → PlainWires
 with_turns turns wires = record wires { turns = Some turns }
+
+abbrev pub with_admitted : ConnectionLimits → PlainWires → PlainWires
+with_admitted limits wires = record wires { admitted = Some limits }
 
 abbrev pub with_bound : Endpoint → PlainWires → PlainWires
 with_bound at wires = record wires { bound = wires.bound ++ at ∷ [] }

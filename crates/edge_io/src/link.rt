@@ -2,7 +2,7 @@
 ghost use Rattle.std.specs.Prelude.{◌≡◌, ◌≤◌, ℕ, List, ⊤, Err, IfOk};
 ghost use Rattle.edge_io.specs.Edge.{Rose};
 
-use crate::Schedule;
+use crate::{Deadline, Schedule};
 use dns_name::Octets;
 use std::alloc::Global;
 
@@ -23,6 +23,11 @@ pub trait Link {
 
     /// How often an exchange has failed. It never falls, and stands still at 2^64 - 1.
     ghost faults: { Self → ℕ };
+
+    /// From now on an exchange ends at the moment that this deadline gives at its start, at the latest: it fails then. Without this
+    /// call, and where no moment is set, only the limits of the kind of link hold.
+    fn keep_to(&mut self, deadline: Deadline)
+        ensures count { faults self.new ≡ faults self.old };
 
     /// Sends the bytes, and gives what comes back. `now` is in seconds.
     fn exchange(&mut self, alloc: Global, sent: &[u8], now: u32) -> Result<Octets, LinkError>
@@ -58,6 +63,9 @@ impl Link for ListLink {
     ghost gave = { λ sent received now. ⊤ };
 
     ghost faults = { λ link. link.schedule.faults };
+
+    // it answers at once
+    fn keep_to(&mut self, _deadline: Deadline) {}
 
     fn exchange(&mut self, alloc: Global, _sent: &[u8], _now: u32) -> Result<Octets, LinkError> {
         if self.schedule.fails_now() {

@@ -5,8 +5,8 @@ ghost use Rattle.edge_io.specs.Wired.{BlamesOrder, new_wires};
 
 use crate::list_inlet::{ArrivalQueue, ListInlet};
 use crate::{
-    Arrival, Endpoint, Link, Order, Replies, Schedule, SendError, SentOrder, SentReply, Sink,
-    Source, Wake, WireError, Wires,
+    Arrival, ConnectionLimits, Endpoint, Link, Order, Replies, Schedule, SendError, SentOrder,
+    SentReply, Sink, Source, Wake, WireError, Wires,
 };
 use dns_name::Octets;
 use ip_prefix::Transport;
@@ -58,6 +58,8 @@ pub struct ListWires<
     backs: VecDeque<P>,
     /// How many arrivals are taken in all, where that was said.
     pub turns: Option<u32>,
+    /// How many connections of clients may be open, where that was said.
+    pub admitted: Option<ConnectionLimits>,
     // How many more are handed to inlets.
     left: u64,
     /// The endpoints that `bind` was given, in order. One whose call ran out of memory is not among them.
@@ -121,6 +123,7 @@ impl<
             links,
             backs,
             turns: None,
+            admitted: None,
             left: u64::MAX,
             bound: Vec::new(alloc),
             linked: Vec::new(alloc),
@@ -186,6 +189,7 @@ impl<
 
     ghost told = { λ w. Some (record {
       turns = w.turns;
+      admitted = w.admitted;
       bound = w.bound.items;
       linked = w.linked.items;
       ordered = w.ordered.items;
@@ -200,6 +204,10 @@ impl<
     fn limit(&mut self, turns: u32) {
         self.turns = Some(turns);
         self.left = u64::from(turns);
+    }
+
+    fn admit(&mut self, limits: ConnectionLimits) {
+        self.admitted = Some(limits);
     }
 
     fn bind(&mut self, at: Endpoint) -> Result<(), WireError> {
@@ -294,13 +302,17 @@ impl<
         }
     }
 
-    fn answer(&mut self, peer: Endpoint, bytes: &[u8]) -> Result<(), SendError> {
+    fn answer(
+        &mut self,
+        peer: Endpoint,
+        transport: Transport,
+        bytes: &[u8],
+    ) -> Result<(), SendError> {
         if self.schedule.fails_now() {
             return Err(SendError::Failed);
         }
         let bytes = Octets::from_slice(self.alloc, bytes)?;
-        self.answered
-            .push(SentReply::new(peer, Transport::Udp, bytes))?;
+        self.answered.push(SentReply::new(peer, transport, bytes))?;
         Ok(())
     }
 

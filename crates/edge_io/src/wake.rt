@@ -4,6 +4,7 @@ ghost use Rattle.edge_io.specs.Wired.{IsOrderFault};
 
 use crate::Endpoint;
 use dns_name::Octets;
+use ip_prefix::Transport;
 
 /// A transfer that was ordered of a primary server.
 #[derive(Clone, Copy, Debug, PartialEq, Eq)]
@@ -46,12 +47,24 @@ pub enum Wake {
     /// A second has passed.
     Due,
     /// The next whole message that came of an order.
-    Frame { order: Order, bytes: Octets },
+    Frame {
+        order: Order,
+        bytes: Octets,
+    },
     /// Nothing more comes of an order.
-    Over { order: Order, why: OrderEnd },
-    /// A datagram that is a request with the opcode NOTIFY (RFC 1996), and who sent it.
-    Notify { peer: Endpoint, bytes: Octets },
+    Over {
+        order: Order,
+        why: OrderEnd,
+    },
+    /// A message that is a request with the opcode NOTIFY (RFC 1996), who sent it, and over which transport.
+    Notify {
+        peer: Endpoint,
+        transport: Transport,
+        bytes: Octets,
+    },
     /// All inlets have ended, and each NOTIFY was given. So many datagrams were taken, but given to nobody: there was no
     /// room for them, or a NOTIFY came too soon behind others.
-    Ended { dropped: u64 },
+    Ended {
+        dropped: u64,
+    },
 }

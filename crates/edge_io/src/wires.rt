@@ -1,12 +1,14 @@
 // The network of a server.
 ghost use Rattle.std.specs.Prelude.{◌≡◌, ◌≤◌, ℕ, Option, Err, length};
 ghost use Rattle.std.specs.Option.{option_map};
-ghost use Rattle.ip_prefix.specs.declared.Transport.TheVariants.{Udp};
 ghost use Rattle.edge_io.specs.Edge.{Rose};
-ghost use Rattle.edge_io.specs.Wired.{BlamesOrder, GivesNext, IsNextOrder, PlainWires, after_call, after_send, plain_order, with_bound, with_later_wakes, with_linked, with_ordered, with_turns};
+ghost use Rattle.edge_io.specs.Wired.{BlamesOrder, GivesNext, IsNextOrder, PlainWires, after_call, after_send, plain_order, with_bound, with_admitted, with_later_wakes, with_linked, with_ordered, with_turns};
 ghost use Rattle.edge_io.specs.declared.frame.TheConstants.{FRAME_MAX};
 
-use crate::{Endpoint, Inlet, Link, Order, Replies, SendError, Sink, Source, Wake};
+use crate::{
+    ConnectionLimits, Endpoint, Inlet, Link, Order, Replies, SendError, Sink, Source, Wake,
+};
+use ip_prefix::Transport;
 
 /// Why a call of the wires gave nothing.
 #[derive(Clone, Copy, Debug, PartialEq, Eq)]
@@ -56,6 +58,12 @@ pub trait Wires {
     /// is no such limit.
     fn limit(&mut self, turns: u32)
         ensures told { told self.new ≡ option_map (with_turns turns) (told self.old) }
+        ensures orders { order_faults self.new ≡ order_faults self.old }
+        ensures count { faults self.new ≡ faults self.old };
+
+    /// At most so many connections of clients are open at a time. Without this call the kind of wires has limits of its own.
+    fn admit(&mut self, limits: ConnectionLimits)
+        ensures told { told self.new ≡ option_map (with_admitted limits) (told self.old) }
         ensures orders { order_faults self.new ≡ order_faults self.old }
         ensures count { faults self.new ≡ faults self.old };
 
@@ -132,10 +140,15 @@ pub trait Wires {
         ensures no_room { result ≡ Err WireError.OutOfMemory →
             (order_faults self.new ≡ order_faults self.old) × (faults self.new ≡ faults self.old) };
 
-    /// Sends a reply to a NOTIFY, as one datagram.
-    fn answer(&mut self, peer: Endpoint, bytes: &[u8]) -> Result<(), SendError>
+    /// Sends a reply to a NOTIFY: as one datagram, or over TCP as a frame on the connection of this peer. It doesn't wait.
+    fn answer(
+        &mut self,
+        peer: Endpoint,
+        transport: Transport,
+        bytes: &[u8],
+    ) -> Result<(), SendError>
         ensures told { told self.new ≡
-            after_send (record { peer = peer; transport = Udp; bytes = bytes.now }) result
+            after_send (record { peer = peer; transport = transport; bytes = bytes.now }) result
             (told self.old) }
         ensures orders { order_faults self.new ≡ order_faults self.old }
         ensures count { faults self.old ≤ faults self.new }
