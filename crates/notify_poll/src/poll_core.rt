@@ -2,7 +2,7 @@
 
 ghost use Rattle.std.specs.Prelude.{◌≡◌, ◌<◌, ◌≤◌, ◌-◌, ◌^◌, length, position, IfOk, OnOk, OnErr};
 ghost use Rattle.notify_poll.specs.Notifying.{answer_to, as_notified, brought_forward, changed_at};
-ghost use Rattle.notify_poll.specs.Timers.{after_poll, begun, due_zone, first_timers, is_due};
+ghost use Rattle.notify_poll.specs.Timers.{after_poll, begun, due_zone, first_timers, is_due, noted};
 
 use crate::notifying::{Notified, answer};
 use crate::timer::{Polling, Timer};
@@ -61,6 +61,16 @@ impl PollCore {
     {
         let place = zone as usize - 1;
         self.timers[place] = self.timers[place].begin();
+    }
+
+    /// The zone of this number is due from this second on, as where a NOTIFY of it is accepted.
+    pub fn hasten(&mut self, zone: u32, now: u32)
+        requires low { 1 ≤ zone }
+        requires high { zone ≤ length self.old }
+        ensures { self.new ≡ changed_at (noted now) self.old (zone - 1) }
+    {
+        let place = zone as usize - 1;
+        self.timers[place] = self.timers[place].note(now);
     }
 
     /// A poll of the zone of this number ends at this second, or is made in no time. A zone is polled again after the refresh of its

@@ -3,6 +3,7 @@ pub mod Laws
 pub mod Taking
 pub mod Lines
 pub mod Feed
+pub mod Hastening
 pub mod Ordering
 pub mod Ending
 pub mod Reading

@@ -9,7 +9,7 @@ use Rattle.edge_io.specs.declared.wake.OrderEnd.{OrderEnd}
 use Rattle.edge_io.specs.declared.wake.OrderEnd.TheVariants as order_end
 use Rattle.edge_io.specs.declared.wake.Wake.{Wake}
 use Rattle.edge_io.specs.declared.wake.Wake.TheVariants as wake
-use Rattle.ip_prefix.specs.declared.Transport.TheVariants.{Udp}
+use Rattle.ip_prefix.specs.declared.Transport.{Transport}
 use Rattle.axfr_apply.specs.declared.fault.TransferFault.TheVariants.{Cut, EndedEarly, ReadFault}
 use Rattle.axfr_apply.specs.Reading.{TransferOutcome, outcome_of}
 use Rattle.notify_poll.specs.Notifying.{answer_to, as_notified, brought_forward}
@@ -17,6 +17,7 @@ use Rattle.notify_poll.specs.declared.notifying.Notified.{Notified}
 use Rattle.notify_poll.specs.declared.notifying.Notified.TheVariants.{Reply, Silent}
 use Rattle.policy_feed.specs.Ending.{EndsPoll, PollEnd, poll_taken, read, unfetched, unwritten}
 use Rattle.policy_feed.specs.Feed.{AsksNothing, Feed, PlainFeeder, PlainPoll}
+use Rattle.policy_feed.specs.Hastening.{hastened_when}
 use Rattle.policy_feed.specs.Ordering.{OrdersDue}
 use Rattle.policy_feed.specs.declared.notice.Notice.{Notice}
 use Rattle.policy_feed.specs.declared.notice.Notice.TheVariants as notice
@@ -78,15 +79,15 @@ notice_by (Reply bytes) (Err send_error.Failed) = notice.Failed
 notice_by (Reply bytes) (Err send_error.OutOfMemory) = notice.Memory
 
 -- what the wires tell after a reply to a NOTIFY was to be sent
-abbrev pub told_by : Notified → Endpoint → Result (Unit {0}) SendError → Option PlainWires →
-    Option PlainWires
-told_by Silent peer tried told = told
-told_by (Reply bytes) peer tried told =
-    after_send (record { peer = peer; transport = Udp; bytes = bytes }) tried told
+abbrev pub told_by : Notified → Endpoint → Transport → Result (Unit {0}) SendError →
+    Option PlainWires → Option PlainWires
+told_by Silent peer transport tried told = told
+told_by (Reply bytes) peer transport tried told =
+    after_send (record { peer = peer; transport = transport; bytes = bytes }) tried told
 
--- A NOTIFY is answered, and its zone brought forward, where it comes from the zone's own primary (RFC 1996).
-pub record AnswersNotify (second : ℕ) (peer : Endpoint) (bytes : List ℕ) (before : Feed)
-    (what : Notice) (after : Feed) : Type 0 where
+-- A NOTIFY is answered over its transport, and its zone brought forward, where it comes from the zone's own primary (RFC 1996).
+pub record AnswersNotify (second : ℕ) (peer : Endpoint) (transport : Transport) (bytes : List ℕ)
+    (before : Feed) (what : Notice) (after : Feed) : Type 0 where
   pub tried : Result (Unit {0}) SendError
   pub what_is : what
       ≡ notice_by
@@ -95,7 +96,7 @@ pub record AnswersNotify (second : ℕ) (peer : Endpoint) (bytes : List ℕ) (be
   pub told : after.told
       ≡ told_by
       (as_notified (answer_to bytes peer.addr before.feeder.zones.origins before.feeder.timers).0)
-      peer tried before.told
+      peer transport tried before.told
   pub feeder : after.feeder
       ≡ record before.feeder {
         timers = brought_forward second before.feeder.timers
@@ -105,9 +106,10 @@ pub record AnswersNotify (second : ℕ) (peer : Endpoint) (bytes : List ℕ) (be
   pub ids : after.ids ≡ before.ids
 
 -- A NOTIFY is answered; or memory ran out for it, and it does nothing.
-abbrev pub TakesNotify : ℕ → Endpoint → List ℕ → Feed → Notice → Feed → Type 0
-TakesNotify second peer bytes before what after =
-    ((what ≡ notice.Memory) × (after ≡ before)) ⊎ AnswersNotify second peer bytes before what after
+abbrev pub TakesNotify : ℕ → Endpoint → Transport → List ℕ → Feed → Notice → Feed → Type 0
+TakesNotify second peer transport bytes before what after =
+    ((what ≡ notice.Memory) × (after ≡ before))
+    ⊎ AnswersNotify second peer transport bytes before what after
 
 -- What a wake does at this second, the lines that it writes, and what became of a NOTIFY.
 abbrev pub WakeDoes : ℕ → Feed → Wake → List ℕ → Option Notice → Feed → Type 0
@@ -118,18 +120,25 @@ WakeDoes second before (wake.Frame order bytes) lines what after =
 WakeDoes second before (wake.Over order why) lines what after =
     EndsAt second (place_with order before.feeder) why before.feeder lines after.feeder
     × (what ≡ None) × AsksNothing before after
-WakeDoes second before (wake.Notify peer bytes) lines what after =
+WakeDoes second before (wake.Notify peer transport bytes) lines what after =
     (lines ≡ [])
-    × ((told : Notice) × (what ≡ Some told) × TakesNotify second peer bytes before told after)
+    × ((told : Notice) × (what ≡ Some told)
+    × TakesNotify second peer transport bytes before told after)
 WakeDoes second before (wake.Ended dropped) lines what after =
     (lines ≡ []) × (what ≡ None) × (after ≡ before)
 
--- A turn at this second: a wake does what it does, and then what is due is ordered.
-pub record TakesWake (second : ℕ) (before : Feed) (woken : Wake) (lines : List ℕ)
-    (what : Option Notice) (after : Feed) : Type 0 where
+-- with zones of which nothing was loaded due again, where polls are to be tried anew
+abbrev pub feed_hastened : Bool → ℕ → Feed → Feed
+feed_hastened is_anew second feed =
+    record feed { feeder = hastened_when is_anew second feed.feeder }
+
+-- A turn at this second: a wake does what it does, and then what is due is ordered, where polls are to be tried anew with each zone of
+-- which nothing was loaded yet.
+pub record TakesWake (second : ℕ) (is_anew : Bool) (before : Feed) (woken : Wake)
+    (lines : List ℕ) (what : Option Notice) (after : Feed) : Type 0 where
   pub middle : Feed
   pub first : List ℕ
   pub takes : WakeDoes second before woken first what middle
   pub next : List ℕ
-  pub orders : OrdersDue second middle next after
+  pub orders : OrdersDue second (feed_hastened is_anew second middle) next after
   pub lines_are : lines ≡ first ++ next

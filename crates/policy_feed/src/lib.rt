@@ -4,6 +4,7 @@
 mod ending;
 mod fault;
 mod feeder;
+mod hastening;
 pub mod laws;
 mod lines;
 mod notice;

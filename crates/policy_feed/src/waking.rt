@@ -13,6 +13,7 @@ use crate::under_way::{Heard, UnderWay};
 use axfr_apply::{TransferError, TransferFault};
 use dns_name::Octets;
 use edge_io::{Endpoint, Ids, Order, OrderEnd, SendError, Wake, Wires};
+use ip_prefix::Transport;
 use notify_poll::Notified;
 use policy_publish::StoreName;
 use script_codec::ZoneFault;
@@ -115,10 +116,11 @@ impl<N: StoreName> Feeder<N> {
         &mut self,
         wires: &mut W,
         peer: Endpoint,
+        transport: Transport,
         bytes: &[u8],
         now: u32,
     ) -> Notice
-        ensures takes { (ids : Option (List ℕ)) → TakesNotify now peer bytes.now
+        ensures takes { (ids : Option (List ℕ)) → TakesNotify now peer transport bytes.now
             (feed_of self.old (W.told wires.old) (W.order_faults wires.old) ids) result
             (feed_of self.new (W.told wires.new) (W.order_faults wires.new) ids) }
         ensures count { W.faults wires.old ≤ W.faults wires.new }
@@ -130,7 +132,7 @@ impl<N: StoreName> Feeder<N> {
         {
             Err(_) => Notice::Memory,
             Ok(Notified::Silent) => Notice::Silent,
-            Ok(Notified::Reply(reply)) => match wires.answer(peer, reply.as_slice()) {
+            Ok(Notified::Reply(reply)) => match wires.answer(peer, transport, reply.as_slice()) {
                 Ok(()) => Notice::Replied,
                 Err(SendError::Failed) => Notice::Failed,
                 Err(SendError::OutOfMemory) => Notice::Memory,
@@ -180,8 +182,12 @@ impl<N: StoreName> Feeder<N> {
                 done(heard)
             }
             Wake::Over { order, why } => { done(self.end_order(rt, order, why, now, text)) }
-            Wake::Notify { peer, bytes } => {
-                let what = self.answer_notify(wires, peer, bytes.as_slice(), now);
+            Wake::Notify {
+                peer,
+                transport,
+                bytes,
+            } => {
+                let what = self.answer_notify(wires, peer, transport, bytes.as_slice(), now);
                 drop(bytes);
                 Ok(Some(what))
             }
@@ -190,7 +196,8 @@ impl<N: StoreName> Feeder<N> {
 
     /// Takes a wake at this second, and then orders what is due: a message of a transfer is read, and what it makes whole is published; a
     /// transfer of which nothing more comes has ended; a NOTIFY is answered, and its zone is due where it comes from the zone's own
-    /// primary (RFC 1996). The lines of the polls that have ended are written behind the text. It says what became of a NOTIFY. It may
+    /// primary (RFC 1996). Where polls are to be tried anew, each zone of which nothing was loaded yet is due as well, unless a transfer
+    /// of it is under way. The lines of the polls that have ended are written behind the text. It says what became of a NOTIFY. It may
     /// wait for readers that are just entering.
     pub fn turn<W: Wires, I: Ids, R: Wait>(
         &mut self,
@@ -199,10 +206,11 @@ impl<N: StoreName> Feeder<N> {
         ids: &mut I,
         now: u32,
         wake: Wake,
+        is_anew: bool,
         text: &mut Vec<u8>,
     ) -> Result<Option<Notice>, AllocError>
         ensures takes { IfOk result (λ what. (lines : List ℕ) × (text.new.items ≡ text.old.items ++ lines)
-            × TakesWake now
+            × TakesWake now is_anew
             (feed_of self.old (W.told wires.old) (W.order_faults wires.old) (I.ids ids.old)) wake
             lines what
             (feed_of self.new (W.told wires.new) (W.order_faults wires.new) (I.ids ids.new))) }
@@ -211,6 +219,7 @@ impl<N: StoreName> Feeder<N> {
             Rose (W.faults wires.old) (W.faults wires.new)) }
     {
         let what = self.take(rt, wires, now, wake, text)?;
+        self.hasten_when(is_anew, now);
         self.order_due(rt, wires, ids, now, text)?;
         Ok(what)
     }

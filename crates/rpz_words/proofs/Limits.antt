@@ -14,14 +14,14 @@ use Rattle.dns_name.specs.Labels.{lowered}
 use Rattle.zone_rows.specs.declared.zone.TheConstants.{ZONE_LIMIT}
 use Rattle.rpz_words.specs.declared.command.Command.{Command}
 use Rattle.rpz_words.specs.declared.command.Command.TheVariants.{Load, Replay, Serve}
-use Rattle.rpz_words.specs.declared.settings.TheConstants.{ASKER_LIMIT, LEAST_CACHE, LOAD_WORKER_LIMIT, MOST_CACHE, QUERY_LIMIT, RULE_LIMIT}
+use Rattle.rpz_words.specs.declared.settings.TheConstants.{ASKER_LIMIT, CONNECTION_LIMIT, LEAST_CACHE, LOAD_WORKER_LIMIT, MOST_CACHE, QUERY_LIMIT, RULE_LIMIT}
 use Rattle.rpz_words.specs.declared.settings.LoadSettings.{LoadSettings}
 use Rattle.rpz_words.specs.declared.settings.Settings.{Settings}
-use Rattle.rpz_words.specs.declared.settings.TheConstants.{TURN_LIMIT, USUAL_ASKERS, USUAL_CACHE, WORKER_LIMIT}
+use Rattle.rpz_words.specs.declared.settings.TheConstants.{TURN_LIMIT, USUAL_ASKERS, USUAL_CACHE, USUAL_CONNECTIONS, USUAL_PER_CLIENT, WORKER_LIMIT}
 use Rattle.rpz_words.specs.declared.words_error.WordsError.{WordsError}
 use Rattle.rpz_words.specs.declared.zones.ZoneSetting.{ZoneSetting}
 use Rattle.rpz_words.specs.Outcome.{Gives, none_if}
-use Rattle.rpz_words.specs.Values.{askers_of, cache_of, endpoint_of, load_workers_of, number_to, queries_of, rules_of, seed_of, turns_of, workers_of, zone_setting_of, zone_settings_of, zones_of}
+use Rattle.rpz_words.specs.Values.{askers_of, cache_of, connections_of, endpoint_of, hold_of, load_workers_of, number_to, queries_of, rules_of, seed_of, turns_of, workers_of, zone_setting_of, zone_settings_of, zones_of}
 use Rattle.rpz_words.specs.Limits.{IsLoadable, IsServable, IsWithinLimits}
 use Rattle.rpz_words.specs.Words.{command_of, load_settings_of, named_command, settings_of, value_at, zones_at}
 use Rattle.rpz_words.specs.Zones.{HasDistinctOrigins, has_origin, has_repeated}
@@ -104,6 +104,23 @@ askers_within (Some digits) askers e =
     let bounds = number_within 1 ASKER_LIMIT digits askers e in
     record { some = bounds.0; few = bounds.1 }
 
+record AreConnections (count : ℕ) : Type 0 where
+  some : 1 ≤ count
+  few : count ≤ CONNECTION_LIMIT
+
+-- what an option says of connections is within its bounds, where the usual number is
+connections_within : (usual : ℕ) (value : Option Text) (count : ℕ) → AreConnections usual → connections_of usual value ≡ Some count → AreConnections count
+connections_within usual None count u e = subst AreConnections (some_is usual count e) u
+connections_within usual (Some digits) count u e =
+    let bounds = number_within 1 CONNECTION_LIMIT digits count e in
+    record { some = bounds.0; few = bounds.1 }
+
+usual_connections : AreConnections USUAL_CONNECTIONS
+usual_connections = record { some = omega arith; few = omega arith }
+
+usual_per_client : AreConnections USUAL_PER_CLIENT
+usual_per_client = record { some = omega arith; few = omega arith }
+
 -- a number of arrivals is 1 at least
 number_of_turns : (digits : Text) (found : Option ℕ) (turns : Option ℕ) → number_to TURN_LIMIT digits ≡ found → option_map (λ (n : ℕ). Some n) found ≡ Some turns → IfSome turns (λ n. 1 ≤ n)
 number_of_turns digits None turns at e = cc
@@ -126,7 +143,12 @@ settings_within rows settings e =
     let d = bind_some (value_at workers_of (codes "WORKERS") rows) _ settings c.2 in
     let k = bind_some (askers_of (first_of (codes "N") rows)) _ settings d.2 in
     let g = bind_some (cache_of (first_of (codes "ENTRIES") rows)) _ settings k.2 in
-    let f = bind_some (zones_at (codes "ZONE@PRIMARY") rows) _ settings g.2 in
+    let h = bind_some (hold_of (first_of (codes "SECONDS") rows)) _ settings g.2 in
+    let p = bind_some (connections_of USUAL_CONNECTIONS (first_of (codes "CLIENTS") rows)) _ settings h.2 in
+    let q = bind_some (connections_of USUAL_PER_CLIENT (first_of (codes "EACH") rows)) _ settings p.2 in
+    let f = bind_some (zones_at (codes "ZONE@PRIMARY") rows) _ settings q.2 in
+    let all = connections_within USUAL_CONNECTIONS (first_of (codes "CLIENTS") rows) p.0 usual_connections p.1 in
+    let each = connections_within USUAL_PER_CLIENT (first_of (codes "EACH") rows) q.0 usual_per_client q.1 in
     let turns = bind_some (first_of (codes "TURNS") rows) turns_of c.0 c.1 in
     let workers = bind_some (first_of (codes "WORKERS") rows) workers_of d.0 d.1 in
     let texts = bind_some (all_of (codes "ZONE@PRIMARY") rows) zones_of f.0 f.1 in
@@ -141,6 +163,10 @@ settings_within rows settings e =
       few_askers = askers.few;
       enough_entries = cache.enough;
       few_entries = cache.few;
+      some_connections = all.some;
+      few_connections = all.few;
+      some_of_client = each.some;
+      few_of_client = each.few;
       some_zones = zones.some_zones;
       few_zones = zones.few_zones;
       distinct = zones.distinct_zones;

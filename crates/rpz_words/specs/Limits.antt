@@ -5,7 +5,7 @@ use Rattle.rpz_words.specs.declared.command.Command.{Command}
 use Rattle.rpz_words.specs.declared.command.Command.TheVariants.{Load, Replay, Serve, Show}
 use Rattle.rpz_words.specs.declared.settings.LoadSettings.{LoadSettings}
 use Rattle.rpz_words.specs.declared.settings.Settings.{Settings}
-use Rattle.rpz_words.specs.declared.settings.TheConstants.{ASKER_LIMIT, LEAST_CACHE, LOAD_WORKER_LIMIT, MOST_CACHE, QUERY_LIMIT, RULE_LIMIT, WORKER_LIMIT}
+use Rattle.rpz_words.specs.declared.settings.TheConstants.{ASKER_LIMIT, CONNECTION_LIMIT, LEAST_CACHE, LOAD_WORKER_LIMIT, MOST_CACHE, QUERY_LIMIT, RULE_LIMIT, WORKER_LIMIT}
 use Rattle.rpz_words.specs.Zones.{HasDistinctOrigins}
 
 -- what a server is to do is within its limits
@@ -17,6 +17,10 @@ pub record IsServable (settings : Settings) : Type 0 where
   pub few_askers : settings.askers ≤ ASKER_LIMIT
   pub enough_entries : LEAST_CACHE ≤ settings.cache
   pub few_entries : settings.cache ≤ MOST_CACHE
+  pub some_connections : 1 ≤ settings.connections.all
+  pub few_connections : settings.connections.all ≤ CONNECTION_LIMIT
+  pub some_of_client : 1 ≤ settings.connections.of_client
+  pub few_of_client : settings.connections.of_client ≤ CONNECTION_LIMIT
   pub some_zones : 1 ≤ length settings.zones
   pub few_zones : length settings.zones ≤ ZONE_LIMIT
   pub distinct : HasDistinctOrigins settings.zones

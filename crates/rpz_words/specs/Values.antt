@@ -9,7 +9,7 @@ use Rattle.dns_name.specs.Text.{text_name}
 use Rattle.edge_io.specs.declared.endpoint.Endpoint.{Endpoint}
 use Rattle.script_codec.specs.Field.{number_field, v4_field}
 use Rattle.zone_rows.specs.declared.zone.TheConstants.{ZONE_LIMIT}
-use Rattle.rpz_words.specs.declared.settings.TheConstants.{ASKER_LIMIT, LEAST_CACHE, LOAD_WORKER_LIMIT, MOST_CACHE, QUERY_LIMIT, RULE_LIMIT, SEED_LIMIT}
+use Rattle.rpz_words.specs.declared.settings.TheConstants.{ASKER_LIMIT, CONNECTION_LIMIT, HOLD_LIMIT, LEAST_CACHE, LOAD_WORKER_LIMIT, MOST_CACHE, QUERY_LIMIT, RULE_LIMIT, SEED_LIMIT}
 use Rattle.rpz_words.specs.declared.settings.TheConstants.{TURN_LIMIT, USUAL_ASKERS, USUAL_CACHE, WORKER_LIMIT}
 use Rattle.rpz_words.specs.declared.values.TheConstants.{PORT_DIGITS, PORT_LIMIT}
 use Rattle.rpz_words.specs.declared.zones.ZoneSetting.{ZoneSetting}
@@ -68,6 +68,17 @@ askers_of (Some digits) = number_to ASKER_LIMIT digits
 abbrev pub cache_of : Option (List ℕ) → Option ℕ
 cache_of None = Some USUAL_CACHE
 cache_of (Some digits) = number_between LEAST_CACHE MOST_CACHE digits
+
+-- for how many seconds a server waits for its zones, by the value of `--hold`: not at all where it isn't given, else 0 to
+-- 4,294,967,295
+abbrev pub hold_of : Option (List ℕ) → Option (Option ℕ)
+hold_of None = Some None
+hold_of (Some digits) = option_map (λ seconds. Some seconds) (count_to HOLD_LIMIT digits)
+
+-- how many connections of clients may be open, by the value of an option: the usual number where it isn't given, else 1 to 65,535
+abbrev pub connections_of : ℕ → Option (List ℕ) → Option ℕ
+connections_of usual None = Some usual
+connections_of usual (Some digits) = number_to CONNECTION_LIMIT digits
 
 -- a port: 1 to 5 decimal digits, from 1 to 65,535
 unfoldable pub port_of : List ℕ → Option ℕ

@@ -10,10 +10,11 @@ use Rattle.rpz_words.specs.declared.command.Command.TheVariants.{Load, Replay, S
 use Rattle.rpz_words.specs.declared.pages.Page.{Page}
 use Rattle.rpz_words.specs.declared.settings.LoadSettings.{LoadSettings}
 use Rattle.rpz_words.specs.declared.settings.Settings.{Settings}
+use Rattle.rpz_words.specs.declared.settings.TheConstants.{USUAL_CONNECTIONS, USUAL_PER_CLIENT}
 use Rattle.rpz_words.specs.declared.zones.ZoneSetting.{ZoneSetting}
 use Rattle.rpz_words.specs.Outcome.{◌>>=◌}
 use Rattle.rpz_words.specs.Pages.{page_of}
-use Rattle.rpz_words.specs.Values.{askers_of, cache_of, endpoint_of, load_workers_of, queries_of, rules_of, seed_of, turns_of, workers_of, zones_of}
+use Rattle.rpz_words.specs.Values.{askers_of, cache_of, connections_of, endpoint_of, hold_of, load_workers_of, queries_of, rules_of, seed_of, turns_of, workers_of, zones_of}
 
 -- the words behind the program's name
 abbrev pub argv : List (String Global) → List Text
@@ -35,11 +36,18 @@ some_values id = record (new_rule id) {
 abbrev pub option_value : Text → Text → Rule
 option_value name id = record (new_rule id) { long = Some name; action = Some Set }
 
--- `serve [--askers N] [--cache ENTRIES] LISTEN UPSTREAM TURNS WORKERS ZONE@PRIMARY...`
-abbrev pub serve_app : App
-serve_app = with_rule (with_rule (with_rule (with_rule (with_rule (with_rule (with_rule
+-- `serve [--askers N] [--cache ENTRIES] [--hold SECONDS] [--tcp-clients CLIENTS] [--tcp-per-client EACH]`
+abbrev pub serve_options_app : App
+serve_options_app = with_rule (with_rule (with_rule (with_rule (with_rule
     (new_app (codes "serve")) (option_value (codes "askers") (codes "N")))
     (option_value (codes "cache") (codes "ENTRIES")))
+    (option_value (codes "hold") (codes "SECONDS")))
+    (option_value (codes "tcp-clients") (codes "CLIENTS")))
+    (option_value (codes "tcp-per-client") (codes "EACH"))
+
+-- `serve` with its options, and then `LISTEN UPSTREAM TURNS WORKERS ZONE@PRIMARY...`
+abbrev pub serve_app : App
+serve_app = with_rule (with_rule (with_rule (with_rule (with_rule serve_options_app
     (one_value (codes "LISTEN"))) (one_value (codes "UPSTREAM"))) (one_value (codes "TURNS")))
     (one_value (codes "WORKERS"))) (some_values (codes "ZONE@PRIMARY"))
 
@@ -71,6 +79,9 @@ settings_of rows = do
   workers ← value_at workers_of (codes "WORKERS") rows
   askers ← askers_of (first_of (codes "N") rows)
   cache ← cache_of (first_of (codes "ENTRIES") rows)
+  hold ← hold_of (first_of (codes "SECONDS") rows)
+  clients ← connections_of USUAL_CONNECTIONS (first_of (codes "CLIENTS") rows)
+  each ← connections_of USUAL_PER_CLIENT (first_of (codes "EACH") rows)
   zones ← zones_at (codes "ZONE@PRIMARY") rows
   Some (record {
     listen = listen;
@@ -79,6 +90,8 @@ settings_of rows = do
     workers = workers;
     askers = askers;
     cache = cache;
+    hold = hold;
+    connections = record { all = clients; of_client = each };
     zones = zones;
   })
 

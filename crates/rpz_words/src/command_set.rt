@@ -3,7 +3,7 @@
 ghost use Rattle.std.specs.Prelude.{◌≡◌, false, IfOk};
 ghost use Rattle.clap.specs.Words.{app_of, rule_of, with_subcommand};
 ghost use Rattle.clap.specs.declared.builder.command.Command.TheViews.{out-Command as fields_of};
-ghost use Rattle.rpz_words.specs.Words.{load_app, one_value, option_value, rpz_app, serve_app, some_values};
+ghost use Rattle.rpz_words.specs.Words.{load_app, one_value, option_value, rpz_app, serve_app, serve_options_app, some_values};
 
 use clap::{Arg, ArgAction, Command};
 use std::alloc::{AllocError, Global};
@@ -35,17 +35,32 @@ fn option_arg<'a>(alloc: Global, name: &'a str, id: &'a str) -> Arg<'a>
     Arg::new(alloc, id).long(name).action(ArgAction::Set)
 }
 
-// `serve [--askers N] [--cache ENTRIES] LISTEN UPSTREAM TURNS WORKERS ZONE@PRIMARY...`
-fn serve_command<'a>(alloc: Global) -> Result<Command<'a>, AllocError>
-    ensures app { IfOk result (λ c. app_of c ≡ serve_app) }
+// `serve` with its options, and no argument yet.
+fn serve_options<'a>(alloc: Global) -> Result<Command<'a>, AllocError>
+    ensures app { IfOk result (λ c. app_of c ≡ serve_options_app) }
     ensures local { IfOk result (λ c. (fields_of c).has_globals ≡ false) }
 {
     let askers = option_arg(alloc, "askers", "N");
     let with_askers = Command::new(alloc, "serve").arg(askers)?;
     let cache = option_arg(alloc, "cache", "ENTRIES");
     let with_cache = with_askers.arg(cache)?;
+    let hold = option_arg(alloc, "hold", "SECONDS");
+    let with_hold = with_cache.arg(hold)?;
+    let clients = option_arg(alloc, "tcp-clients", "CLIENTS");
+    let with_clients = with_hold.arg(clients)?;
+    let each = option_arg(alloc, "tcp-per-client", "EACH");
+    let with_each = with_clients.arg(each)?;
+    Ok(with_each)
+}
+
+// `serve [OPTION]... LISTEN UPSTREAM TURNS WORKERS ZONE@PRIMARY...`
+fn serve_command<'a>(alloc: Global) -> Result<Command<'a>, AllocError>
+    ensures app { IfOk result (λ c. app_of c ≡ serve_app) }
+    ensures local { IfOk result (λ c. (fields_of c).has_globals ≡ false) }
+{
+    let options = serve_options(alloc)?;
     let listen = value_arg(alloc, "LISTEN");
-    let with_listen = with_cache.arg(listen)?;
+    let with_listen = options.arg(listen)?;
     let upstream = value_arg(alloc, "UPSTREAM");
     let with_upstream = with_listen.arg(upstream)?;
     let turns = value_arg(alloc, "TURNS");

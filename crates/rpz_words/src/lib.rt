@@ -15,8 +15,9 @@ pub use command::Command;
 pub use pages::{Page, USAGE};
 pub use reading::read_words;
 pub use settings::{
-    ASKER_LIMIT, LEAST_CACHE, LOAD_WORKER_LIMIT, LoadSettings, MOST_CACHE, QUERY_LIMIT, RULE_LIMIT,
-    Settings, USUAL_ASKERS, USUAL_CACHE, WORKER_LIMIT,
+    ASKER_LIMIT, CONNECTION_LIMIT, LEAST_CACHE, LOAD_WORKER_LIMIT, LoadSettings, MOST_CACHE,
+    QUERY_LIMIT, RULE_LIMIT, Settings, USUAL_ASKERS, USUAL_CACHE, USUAL_CONNECTIONS,
+    USUAL_PER_CLIENT, WORKER_LIMIT,
 };
 pub use words_error::WordsError;
 pub use zones::{ZoneSetting, Zones};

@@ -48,6 +48,13 @@ Options, anywhere behind `serve`:
                     1 to 512, and 256 if it isn't given
   --cache ENTRIES   how many answers the cache of all workers holds at most:
                     16 to 1048576, and 65536 if it isn't given
+  --hold SECONDS    answers nobody before each zone was loaded once, or before
+                    so many seconds are over; 0 waits without end
+  --tcp-clients CLIENTS
+                    how many connections of clients are open at most:
+                    1 to 65535, and 1000 if it isn't given
+  --tcp-per-client EACH
+                    the same of one client: 1 to 65535, and 100 if it isn't given
 
 Example:
   rpz serve 192.0.2.53:53 127.0.0.1:5353 forever 4 rpz.example@127.0.0.1:5301

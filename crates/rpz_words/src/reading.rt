@@ -4,7 +4,7 @@ ghost use Rattle.std.specs.Prelude.{◌≡◌, [], IfOk, OnOk, Ok, Err, None, So
 ghost use Rattle.clap.specs.Words.{all_of, first_of, found_of, rows_of, subcommand_of, subcommand_rows_of, takes};
 ghost use Rattle.clap.specs.Faults.{fault_of};
 ghost use Rattle.rpz_words.specs.Outcome.{Gives};
-ghost use Rattle.rpz_words.specs.Values.{askers_of, cache_of, endpoint_of, turns_of};
+ghost use Rattle.rpz_words.specs.Values.{askers_of, cache_of, connections_of, endpoint_of, hold_of, turns_of};
 ghost use Rattle.rpz_words.specs.Values as values_form;
 ghost use Rattle.rpz_words.specs.Limits.{IsWithinLimits};
 ghost use Rattle.rpz_words.specs.Words as words_form;
@@ -15,15 +15,16 @@ use crate::command::Command;
 use crate::command_set::rpz_command;
 use crate::pages;
 use crate::settings::{
-    ASKER_LIMIT, LEAST_CACHE, LOAD_WORKER_LIMIT, LoadSettings, MOST_CACHE, QUERY_LIMIT, RULE_LIMIT,
-    SEED_LIMIT, Settings, USUAL_ASKERS, USUAL_CACHE, WORKER_LIMIT,
+    ASKER_LIMIT, CONNECTION_LIMIT, HOLD_LIMIT, LEAST_CACHE, LOAD_WORKER_LIMIT, LoadSettings,
+    MOST_CACHE, QUERY_LIMIT, RULE_LIMIT, SEED_LIMIT, Settings, USUAL_ASKERS, USUAL_CACHE,
+    USUAL_CONNECTIONS, USUAL_PER_CLIENT, WORKER_LIMIT,
 };
 use crate::values::{count_to, number_between, number_to, read_endpoint, read_turns, read_zones};
 use crate::words_error::WordsError;
 use crate::zones::Zones;
 use clap::ArgMatches;
 use clap::error::ErrorKind;
-use edge_io::Endpoint;
+use edge_io::{ConnectionLimits, Endpoint};
 use std::alloc::{AllocError, Global};
 
 /// What the words of a command line ask for, without the program's name: a page where they are those of one, which takes no
@@ -109,6 +110,9 @@ fn read_settings(alloc: Global, matches: &ArgMatches) -> Result<Settings, WordsE
     let workers = number_at(matches, "WORKERS", WORKER_LIMIT as u32).ok_or(WordsError::Usage)?;
     let askers = askers_at(matches, "N").ok_or(WordsError::Usage)?;
     let cache = cache_at(matches, "ENTRIES").ok_or(WordsError::Usage)?;
+    let hold = hold_at(matches, "SECONDS").ok_or(WordsError::Usage)?;
+    let clients = connections_at(matches, "CLIENTS", USUAL_CONNECTIONS).ok_or(WordsError::Usage)?;
+    let each = connections_at(matches, "EACH", USUAL_PER_CLIENT).ok_or(WordsError::Usage)?;
     let zones = zones_at(alloc, matches, "ZONE@PRIMARY")?;
     Ok(Settings {
         listen,
@@ -117,6 +121,11 @@ fn read_settings(alloc: Global, matches: &ArgMatches) -> Result<Settings, WordsE
         workers: workers as usize,
         askers: askers as usize,
         cache,
+        hold,
+        connections: ConnectionLimits {
+            all: clients,
+            of_client: each,
+        },
         zones,
     })
 }
@@ -185,6 +194,30 @@ fn cache_at(matches: &ArgMatches, id: &str) -> Option<u32>
     match text_at(matches, id) {
         Some(text) => number_between(text.as_bytes(), LEAST_CACHE, MOST_CACHE),
         None => Some(USUAL_CACHE),
+    }
+}
+
+// For how many seconds the server waits for its zones: the value of an option, or not at all where it isn't given.
+fn hold_at(matches: &ArgMatches, id: &str) -> Option<Option<u32>>
+    ensures { result ≡ hold_of (first_of id.now (rows_of (found_of matches.now))) }
+{
+    match text_at(matches, id) {
+        Some(text) => match count_to(text.as_bytes(), HOLD_LIMIT) {
+            Some(seconds) => Some(Some(seconds)),
+            None => None,
+        },
+        None => Some(None),
+    }
+}
+
+// How many connections may be open: the value of an option, or the usual number where it isn't given.
+fn connections_at(matches: &ArgMatches, id: &str, usual: u32) -> Option<u32>
+    ensures { result
+        ≡ connections_of usual (first_of id.now (rows_of (found_of matches.now))) }
+{
+    match text_at(matches, id) {
+        Some(text) => number_to(text.as_bytes(), CONNECTION_LIMIT),
+        None => Some(usual),
     }
 }
 

@@ -1,7 +1,7 @@
 //! What a server is to do, and a load run.
 
 use crate::zones::Zones;
-use edge_io::{Endpoint, LOAD_QUERY_LIMIT, LOAD_RULE_LIMIT};
+use edge_io::{ConnectionLimits, Endpoint, LOAD_QUERY_LIMIT, LOAD_RULE_LIMIT};
 
 /// The most workers of a server.
 pub const WORKER_LIMIT: usize = edge_io::WORKER_LIMIT;
@@ -36,6 +36,18 @@ pub const ASKER_LIMIT: u32 = 512;
 /// How many workers of a server ask the upstream for what was passed on where `--askers` isn't given.
 pub const USUAL_ASKERS: u32 = 256;
 
+/// The most connections of clients that a server may be told to have open, in all or of one client.
+pub const CONNECTION_LIMIT: u32 = 65_535;
+
+/// How many connections of clients are open at most where `--tcp-clients` isn't given.
+pub const USUAL_CONNECTIONS: u32 = 1_000;
+
+/// How many connections of one client are open at most where `--tcp-per-client` isn't given.
+pub const USUAL_PER_CLIENT: u32 = 100;
+
+/// The most seconds for which a server may be told to wait for its zones.
+pub(crate) const HOLD_LIMIT: u32 = u32::MAX;
+
 /// What a server is to do.
 #[derive(Debug, Drop)]
 pub struct Settings {
@@ -51,6 +63,11 @@ pub struct Settings {
     pub askers: usize,
     /// How many answers the cache that all workers share holds at most: 16 to 1,048,576.
     pub cache: u32,
+    /// For how many seconds no endpoint is opened before each zone was loaded once: 0 to 4,294,967,295, of which 0 is without end; `None`
+    /// where it is opened at once.
+    pub hold: Option<u32>,
+    /// How many connections of clients are open at most, in all and of one client: 1 to 65,535 each.
+    pub connections: ConnectionLimits,
     /// The policy zones in order, 1 to 32, of distinct names: rules of earlier ones go before those of later ones.
     pub zones: Zones,
 }

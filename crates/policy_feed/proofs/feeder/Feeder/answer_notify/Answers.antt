@@ -16,5 +16,5 @@ returns-in-Ok-Silent-clause-takes g c =
     subst (λ (os : List Name). c.notify.new.self ≡ brought_forward c.args.now f.timers (answer_to c.args.bytes.now c.args.peer.addr os f.timers).1) c.deref.ensures.value c.in-Ok-Silent.ensures.ok in
     let silent = subst (λ (os : List Name). Silent ≡ as_notified (answer_to c.args.bytes.now c.args.peer.addr os f.timers).0) c.deref.ensures.value (sym c.in-Ok-Silent.field-0-is ∙ c.in-Ok-Silent.ensures.notified) in
     let after : PlainFeeder = record f { timers = c.notify.new.self } in
-    λ ids. subst (λ (x : PlainFeeder). TakesNotify c.args.now c.args.peer c.args.bytes.now (feed_of x (g.W.Wires.told c.args.wires.now) (g.W.Wires.order_faults c.args.wires.now) ids) notice.Silent (feed_of after (g.W.Wires.told c.args.wires.now) (g.W.Wires.order_faults c.args.wires.now) ids)) c.self.view_is
-    (noticed c.args.now c.args.peer c.args.bytes.now (feed_of f (g.W.Wires.told c.args.wires.now) (g.W.Wires.order_faults c.args.wires.now) ids) (feed_of after (g.W.Wires.told c.args.wires.now) (g.W.Wires.order_faults c.args.wires.now) ids) Silent (Ok tt) notice.Silent silent refl refl (ap (λ (ts : List Timer). let x : PlainFeeder = record f { timers = ts } in x) timed) refl refl)
+    λ ids. subst (λ (x : PlainFeeder). TakesNotify c.args.now c.args.peer c.args.transport c.args.bytes.now (feed_of x (g.W.Wires.told c.args.wires.now) (g.W.Wires.order_faults c.args.wires.now) ids) notice.Silent (feed_of after (g.W.Wires.told c.args.wires.now) (g.W.Wires.order_faults c.args.wires.now) ids)) c.self.view_is
+    (noticed c.args.now c.args.peer c.args.transport c.args.bytes.now (feed_of f (g.W.Wires.told c.args.wires.now) (g.W.Wires.order_faults c.args.wires.now) ids) (feed_of after (g.W.Wires.told c.args.wires.now) (g.W.Wires.order_faults c.args.wires.now) ids) Silent (Ok tt) notice.Silent silent refl refl (ap (λ (ts : List Timer). let x : PlainFeeder = record f { timers = ts } in x) timed) refl refl)

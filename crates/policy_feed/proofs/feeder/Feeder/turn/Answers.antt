@@ -1,12 +1,14 @@
 use Rattle.std.proofs.Common.{◌++◌, ◌∙◌, List, ℕ, append_assoc, refl, sym, ap, subst}
 use Rattle.edge_io.specs.Edge.{Rose}
-use Rattle.policy_feed.specs.Feed.{feed_of}
+use Rattle.policy_feed.specs.Feed.{PlainFeeder, feed_of}
+use Rattle.policy_feed.specs.Ordering.{OrdersDue}
 use Rattle.policy_feed.proofs.feeder.Feeder.turn.Goals as goal
 
 pub returns-clause-takes : goal.returns-clause-takes
 returns-clause-takes g c =
     let took = c.in_ok-what.ensures.takes in
-    let orders = c.in_ok-order_due.ensures.orders in (
+    let orders = c.in_ok-order_due.ensures.orders in
+    let after = feed_of c.order_due.new.self (g.W.Wires.told c.order_due.new.wires) (g.W.Wires.order_faults c.order_due.new.wires) (g.I.Ids.ids c.order_due.new.ids) in (
       took.0 ++ orders.0,
       orders.1 ∙ ap (λ (l : List ℕ). l ++ orders.0) took.1 ∙ append_assoc c.args.text.now.items took.0 orders.0,
       record {
@@ -14,7 +16,7 @@ returns-clause-takes g c =
         first = took.0;
         takes = took.2 (g.I.Ids.ids c.args.ids.now);
         next = orders.0;
-        orders = orders.2;
+        orders = subst (λ (x : PlainFeeder). OrdersDue c.args.now (feed_of x (g.W.Wires.told c.take.new.wires) (g.W.Wires.order_faults c.take.new.wires) (g.I.Ids.ids c.args.ids.now)) orders.0 after) c.hasten_when.ensures orders.2;
         lines_are = refl;
       },
     )
