@@ -4,6 +4,7 @@ pub mod Reached
 pub mod Outputs
 pub mod Turned
 pub mod Runs
+pub mod Held
 pub mod Kept
 pub mod Statuses
 pub mod Loads

@@ -1,5 +1,6 @@
 -- Turns, one behind the other.
-use Rattle.std.proofs.Common.{◌≡◌, ◌≤◌, ◌+◌, ℕ, List, [], ◌∷◌, ◌++◌, Bool, true, false, Option, Some, None, refl, sym, ◌∙◌, ap, subst, append_assoc, add-one, arith}
+use Rattle.std.proofs.Common.{◌≡◌, ◌≤◌, ◌+◌, ℕ, List, [], ◌∷◌, ◌++◌, Bool, true, false, true≢false, Option, Some, None, refl, sym, ◌∙◌, ap, subst, append_assoc, add-one, arith}
+use Rattle.std.specs.Prelude.{IsSome}
 use Rattle.std.specs.Option.{option_map}
 use Rattle.std.proofs.lemmas.List.{append-nil}
 use Rattle.edge_io.specs.Chain.{Chain, Stage}
@@ -13,8 +14,9 @@ use Rattle.policy_feed.specs.Feed.{PlainFeeder, feed_of}
 use Rattle.policy_feed.specs.Waking.{TakesWake}
 use Rattle.policy_feed.specs.declared.notice.Notice.{Notice}
 use Rattle.rpz_program.specs.Serving.{Wrote}
-use Rattle.rpz_program.specs.Turning.{Advances, EndsIf, StopsAdvancing, WakesUp, ended_by}
+use Rattle.rpz_program.specs.Turning.{Advances, EndsIf, MayTry, StopsAdvancing, WakesUp, ended_by}
 use Rattle.rpz_program.specs.Turns.{ServerState, RunTurn, TakesNext, Turns, linked_told, run_lines, server_state, start_count, turn_lines, wakes, with_turn_notice, with_turn_notices}
+use Rattle.rpz_program.specs.declared.plan.ServerPlan.{ServerPlan}
 use Rattle.rpz_program.specs.declared.progress.Progress.{Progress}
 use Rattle.rpz_program.specs.declared.sums.Sums.{Sums}
 use Rattle.rpz_program.proofs.Outputs.{wrote_nothing}
@@ -46,11 +48,11 @@ pub lines_behind : (lines : List ℕ) (first next : List (Stage ServerState RunT
 lines_behind lines first next = append_assoc lines (run_lines first) (run_lines next) ∙ ap (λ l. lines ++ l) (sym (lines_both first next))
 
 -- no turn
-pub advanced_nothing : (state : ServerState) (p : Progress) (held : Option (List ℕ)) → Advances state p held None state p held
-advanced_nothing state p held =
+pub advanced_nothing : (tries : Bool) (state : ServerState) (p : Progress) (held : Option (List ℕ)) → Advances tries state p held None state p held
+advanced_nothing tries state p held =
     record {
       stages = [];
-      chain = λ upstream links. refl;
+      chain = λ plan began may. refl;
       wrote = λ lines first was. subst (λ (l : List ℕ). Wrote p.is_cut l first held) (sym (append-nil lines)) was;
       notices = refl;
       starts = refl;
@@ -58,12 +60,12 @@ advanced_nothing state p held =
     }
 
 -- one turn
-pub advanced_once : (before after : ServerState) (from to : Progress) (held held_then : Option (List ℕ)) (second : ℕ) (woken : Wake) (lines : List ℕ) (what : Option Notice) → TakesNext before second woken lines what after
-    → ((before_lines : List ℕ) (first : Option (List ℕ)) → Wrote from.is_cut before_lines first held → Wrote to.is_cut (before_lines ++ lines) first held_then) → to.notices ≡ with_turn_notice from.notices (wakes second woken lines what) → Advances before from held (ended_by woken) after to held_then
-advanced_once before after from to held held_then second woken lines what takes wrote notices =
+pub advanced_once : (tries : Bool) (before after : ServerState) (from to : Progress) (held held_then : Option (List ℕ)) (second : ℕ) (woken : Wake) (lines : List ℕ) (what : Option Notice) → ((plan : ServerPlan) → MayTry tries plan → TakesNext plan before second woken lines what after)
+    → ((before_lines : List ℕ) (first : Option (List ℕ)) → Wrote from.is_cut before_lines first held → Wrote to.is_cut (before_lines ++ lines) first held_then) → to.notices ≡ with_turn_notice from.notices (wakes second woken lines what) → Advances tries before from held (ended_by woken) after to held_then
+advanced_once tries before after from to held held_then second woken lines what takes wrote notices =
     record {
       stages = record { turn = wakes second woken lines what; before = before } ∷ [];
-      chain = λ upstream links. (takes, refl);
+      chain = λ plan began may. (takes plan may, refl);
       wrote = wrote;
       notices = notices;
       starts = refl;
@@ -75,24 +77,34 @@ advanced_once before after from to held held_then second woken lines what takes 
     ends_by wake.Due second lines what before = tt
     ends_by (wake.Frame order bytes) second lines what before = tt
     ends_by (wake.Over order why) second lines what before = tt
-    ends_by (wake.Notify peer bytes) second lines what before = tt
+    ends_by (wake.Notify peer transport bytes) second lines what before = tt
+
+-- polls may be tried anew where that is said
+may_some : (tries : Bool) (plan : ServerPlan) → MayTry tries plan → tries ≡ true → IsSome plan.hold
+may_some true plan may e = may
+may_some false plan may e = absurd (true≢false (sym e))
 
 -- a turn from its parts
-pub turned : (feeder feeder_then : PlainFeeder) (told told_mid told_then : Option PlainWires) (faults faults_mid faults_then : ℕ) (ids ids_then moments moments_then : Option (List ℕ)) (second : ℕ) (woken : Wake) (lines : List ℕ) (what : Option Notice) → WakesUp woken told told_mid faults faults_mid → ComesNext moments second moments_then
-    → TakesWake second (feed_of feeder told_mid faults_mid ids) woken lines what (feed_of feeder_then told_then faults_then ids_then) → TakesNext (server_state feeder told faults ids moments) second woken lines what (server_state feeder_then told_then faults_then ids_then moments_then)
-turned feeder feeder_then told told_mid told_then faults faults_mid faults_then ids ids_then moments moments_then second woken lines what woke moment takes =
+pub turned : (tries anew : Bool) (feeder feeder_then : PlainFeeder) (told told_mid told_then : Option PlainWires) (faults faults_mid faults_then : ℕ) (ids ids_then moments moments_then : Option (List ℕ)) (second was : ℕ) (is_open : Bool) (woken : Wake) (lines : List ℕ) (what : Option Notice) → WakesUp woken told told_mid faults faults_mid → ComesNext moments second moments_then
+    → (anew ≡ true → tries ≡ true) → TakesWake second anew (feed_of feeder told_mid faults_mid ids) woken lines what (feed_of feeder_then told_then faults_then ids_then)
+    → (plan : ServerPlan) → MayTry tries plan → TakesNext plan (server_state feeder told faults ids moments was is_open) second woken lines what (server_state feeder_then told_then faults_then ids_then moments_then second is_open)
+turned tries anew feeder feeder_then told told_mid told_then faults faults_mid faults_then ids ids_then moments moments_then second was is_open woken lines what woke moment tried takes plan may =
     record {
       next = woke.next;
       faults = faults_mid;
       count = woke.count;
       blames = woke.blames;
       moment = moment;
-      takes = subst (λ (t : Option PlainWires). TakesWake second (feed_of feeder t faults_mid ids) woken lines what (feed_of feeder_then told_then faults_then ids_then)) woke.told_is takes;
+      second_is = refl;
+      is_open = refl;
+      is_anew = anew;
+      may_try = λ e. may_some tries plan may (tried e);
+      takes = subst (λ (t : Option PlainWires). TakesWake second anew (feed_of feeder t faults_mid ids) woken lines what (feed_of feeder_then told_then faults_then ids_then)) woke.told_is takes;
     }
 
 -- turns of which the end is not asked
-pub advanced_open : (a b : ServerState) (p q : Progress) (h h1 : Option (List ℕ)) (e : Option ℕ) → Advances a p h e b q h1 → Advances a p h None b q h1
-advanced_open a b p q h h1 e one = record { stages = one.stages; chain = one.chain; wrote = one.wrote; notices = one.notices; starts = one.starts; ends = tt }
+pub advanced_open : (tries : Bool) (a b : ServerState) (p q : Progress) (h h1 : Option (List ℕ)) (e : Option ℕ) → Advances tries a p h e b q h1 → Advances tries a p h None b q h1
+advanced_open tries a b p q h h1 e one = record { stages = one.stages; chain = one.chain; wrote = one.wrote; notices = one.notices; starts = one.starts; ends = tt }
 
 -- a count that rises where a write fails, over turns and turns behind them
 pub rose_both : (one two three : ℕ) (first middle last : Bool) → (middle ≡ true → first ≡ false → Rose one two) → one ≤ two → (last ≡ true → middle ≡ false → Rose two three) → two ≤ three → last ≡ true → first ≡ false → Rose one three
@@ -100,11 +112,11 @@ rose_both one two three first true last a le b le2 cut whole = let r = a refl wh
 rose_both one two three first false last a le b le2 cut whole = let r = b cut refl in omega (arith, r, le)
 
 -- turns behind turns
-pub advanced_both : (a b c : ServerState) (p q r : Progress) (h h1 h2 : Option (List ℕ)) (e1 e2 : Option ℕ) → Advances a p h e1 b q h1 → Advances b q h1 e2 c r h2 → Advances a p h e2 c r h2
-advanced_both a b c p q r h h1 h2 e1 e2 one two =
+pub advanced_both : (tries : Bool) (a b c : ServerState) (p q r : Progress) (h h1 h2 : Option (List ℕ)) (e1 e2 : Option ℕ) → Advances tries a p h e1 b q h1 → Advances tries b q h1 e2 c r h2 → Advances tries a p h e2 c r h2
+advanced_both tries a b c p q r h h1 h2 e1 e2 one two =
     record {
       stages = two.stages ++ one.stages;
-      chain = λ upstream links. chained (Turns upstream links) a b c one.stages two.stages (one.chain upstream links) (two.chain upstream links);
+      chain = λ plan began may. chained (Turns plan began) a b c one.stages two.stages (one.chain plan began may) (two.chain plan began may);
       wrote = λ lines first was. subst (λ (l : List ℕ). Wrote r.is_cut l first h2) (lines_behind lines one.stages two.stages) (two.wrote (lines ++ run_lines one.stages) first (one.wrote lines first was));
       notices = two.notices ∙ ap (λ (s : Sums). with_turn_notices s two.stages) one.notices ∙ sym (sums_both p.notices one.stages two.stages);
       starts = let both = starts_both one.stages two.stages in let first = one.starts in let next = two.starts in omega (arith, both, first, next);
@@ -112,33 +124,33 @@ advanced_both a b c p q r h h1 h2 e1 e2 one two =
     }
 
 -- a run that ended early, behind turns
-pub stopped_behind : (a b : ServerState) (p q : Progress) (h h1 h2 : Option (List ℕ)) (e : Option ℕ) → Advances a p h e b q h1 → StopsAdvancing b q h1 h2 → StopsAdvancing a p h h2
-stopped_behind a b p q h h1 h2 e one two =
+pub stopped_behind : (tries : Bool) (a b : ServerState) (p q : Progress) (h h1 h2 : Option (List ℕ)) (e : Option ℕ) → Advances tries a p h e b q h1 → StopsAdvancing tries b q h1 h2 → StopsAdvancing tries a p h h2
+stopped_behind tries a b p q h h1 h2 e one two =
     record {
       stages = two.stages ++ one.stages;
       last = two.last;
-      chain = λ upstream links. chained (Turns upstream links) a b two.last one.stages two.stages (one.chain upstream links) (two.chain upstream links);
+      chain = λ plan began may. chained (Turns plan began) a b two.last one.stages two.stages (one.chain plan began may) (two.chain plan began may);
       written = λ lines first was. subst (λ (l : List ℕ). WritesPrefix l first h2) (lines_behind lines one.stages two.stages) (two.written (lines ++ run_lines one.stages) first (one.wrote lines first was));
     }
 
 -- one that ended where nothing more was written
-pub stopped_now : (state : ServerState) (p : Progress) (held held_then : Option (List ℕ)) → held_then ≡ held → StopsAdvancing state p held held_then
-stopped_now state p held held_then same =
+pub stopped_now : (tries : Bool) (state : ServerState) (p : Progress) (held held_then : Option (List ℕ)) → held_then ≡ held → StopsAdvancing tries state p held held_then
+stopped_now tries state p held held_then same =
     record {
       stages = [];
       last = state;
-      chain = λ upstream links. refl;
+      chain = λ plan began may. refl;
       written = λ lines first was. subst (λ (h : Option (List ℕ)). WritesPrefix (lines ++ []) first h) (sym same) (wrote_nothing p.is_cut lines [] first held was);
     }
 
 -- one that ended in the write of the lines of a turn
-pub stopped_writing : (before after : ServerState) (from : Progress) (held held_then : Option (List ℕ)) (second : ℕ) (woken : Wake) (lines : List ℕ) (what : Option Notice) → TakesNext before second woken lines what after
-    → ((before_lines : List ℕ) (first : Option (List ℕ)) → Wrote from.is_cut before_lines first held → WritesPrefix (before_lines ++ lines) first held_then) → StopsAdvancing before from held held_then
-stopped_writing before after from held held_then second woken lines what takes written =
+pub stopped_writing : (tries : Bool) (before after : ServerState) (from : Progress) (held held_then : Option (List ℕ)) (second : ℕ) (woken : Wake) (lines : List ℕ) (what : Option Notice) → ((plan : ServerPlan) → MayTry tries plan → TakesNext plan before second woken lines what after)
+    → ((before_lines : List ℕ) (first : Option (List ℕ)) → Wrote from.is_cut before_lines first held → WritesPrefix (before_lines ++ lines) first held_then) → StopsAdvancing tries before from held held_then
+stopped_writing tries before after from held held_then second woken lines what takes written =
     record {
       stages = record { turn = wakes second woken lines what; before = before } ∷ [];
       last = after;
-      chain = λ upstream links. (takes, refl);
+      chain = λ plan began may. (takes plan may, refl);
       written = written;
     }
 

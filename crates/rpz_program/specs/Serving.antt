@@ -1,17 +1,17 @@
 -- What a run of a server does.
-use Rattle.std.specs.Prelude.{◌≡◌, ◌+◌, ◌⊎◌, ℕ, List, ◌++◌, Bool, true, false, map, Option, Some, None}
-use Rattle.std.specs.Option.{option_map}
+use Rattle.std.specs.Prelude.{◌≡◌, ◌+◌, ◌⊎◌, ℕ, List, ◌++◌, Bool, true, false, map, Option}
 use Rattle.dns_name.specs.Labels.{Name}
 use Rattle.edge_io.specs.Chain.{Stage}
 use Rattle.edge_io.specs.Edge.{WritesPrefix, appended}
-use Rattle.edge_io.specs.Wired.{PlainWires, with_bound, with_turns as with_limit}
+use Rattle.edge_io.specs.Wired.{PlainWires}
 use Rattle.edge_io.specs.declared.endpoint.Endpoint.{Endpoint}
 use Rattle.rpz_words.specs.declared.settings.Settings.{Settings}
 use Rattle.rpz_workers.specs.declared.report.Report.{Report}
 use Rattle.rpz_program.specs.ServedLine.{served_line}
 use Rattle.rpz_program.specs.Sums.{GathersAll, no_sums, saturated}
-use Rattle.rpz_program.specs.Turns.{HasEnded, ServerState, RunTurn, RunsTo, ServerStart, start_count, with_turn_notices}
-use Rattle.rpz_program.specs.declared.feeds.TheConstants.{CONNECTION_WORKERS}
+use Rattle.rpz_program.specs.Turns.{HasEnded, ServerState, RunTurn, RunsTo, ServerStart, opens_at_once, start_count, told_at_start, with_turn_notices}
+use Rattle.rpz_program.specs.declared.feeds.TheConstants.{STREAM_WORKERS}
+use Rattle.rpz_program.specs.declared.plan.ServerPlan.{ServerPlan}
 use Rattle.rpz_program.specs.declared.sums.Sums.{Sums}
 
 -- the names of the zones, and their primaries, in order
@@ -21,18 +21,21 @@ origins_in settings = map (λ zone. zone.origin) settings.zones
 abbrev pub primaries_in : Settings → List Endpoint
 primaries_in settings = map (λ zone. zone.primary) settings.zones
 
--- how many workers ask the upstream: those that take what was passed on, and those that take connections
-abbrev pub asker_count : Settings → ℕ
-asker_count settings = settings.askers + CONNECTION_WORKERS
+-- how many workers a server has: those that ask the upstream, those for datagrams and those for connections
+abbrev pub worker_count : Settings → ℕ
+worker_count settings = settings.askers + (settings.workers + STREAM_WORKERS)
 
--- what wires tell that take so many arrivals, where there is such a limit
-abbrev pub limited_told : Option ℕ → Option PlainWires → Option PlainWires
-limited_told None told = told
-limited_told (Some turns) told = option_map (with_limit turns) told
-
--- what wires tell of which an endpoint was opened, for so many arrivals
-abbrev pub opened_told : Endpoint → Option ℕ → Option PlainWires → Option PlainWires
-opened_told at turns told = limited_told turns (option_map (with_bound at) told)
+-- what a server of these settings does
+abbrev pub plan_of : Settings → ServerPlan
+plan_of settings =
+    record {
+      listen = settings.listen;
+      admitted = settings.connections;
+      turns = settings.turns;
+      upstream = settings.upstream;
+      askers = settings.askers;
+      hold = settings.hold;
+    }
 
 -- what a server of these settings begins with
 abbrev pub server_start : Settings → Option PlainWires → ℕ → Option (List ℕ) → Option (List ℕ) →
@@ -41,9 +44,8 @@ server_start settings told faults ids moments =
     record {
       origins = origins_in settings;
       primaries = primaries_in settings;
-      upstream = settings.upstream;
-      links = asker_count settings;
-      told = opened_told settings.listen settings.turns told;
+      plan = plan_of settings;
+      told = told_at_start (opens_at_once (plan_of settings)) (plan_of settings) told;
       faults = faults;
       ids = ids;
       moments = moments;

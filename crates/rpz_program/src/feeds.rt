@@ -1,35 +1,35 @@
-//! The ends of channels from which workers take.
+//! What workers take, and where they pass on what needs the upstream.
 
-use crossbeam_channel::{Receiver, Sender, bounded};
+use edge_io::Deadline;
 use policy_publish::{Latest, StoreName};
-use rpz_workers::{ChannelOnward, Passed, PassedItems};
+use rpz_workers::{RequestItems, RequestList, RequestOnward};
 use std::alloc::{AllocError, Global};
+use std::hash::RandomState;
 use std::sync::Wait;
 use std::time;
+use std::time::Instant;
 
-/// How many of the workers that ask take connections of clients: each asks for itself what the messages of its connection need, and
-/// answers no other meanwhile. The others take what was passed on.
-pub const CONNECTION_WORKERS: usize = 16;
+/// How many workers answer the messages of connections, by the rules and the cache: none of them waits for a client or for the upstream.
+pub const STREAM_WORKERS: usize = 2;
 
-/// How many messages that were passed on wait for a worker that asks, at most.
-pub const PASSED_LIMIT: usize = 4_096;
-
-/// What workers are given when they start: the channel of what is passed on, and the handle on what is published. Workers that ask end
-/// once this is dropped and all that pass messages on have ended.
+/// What workers are given when they start: the list of what is passed on, and the handle on what is published. Workers that ask end once
+/// this is dropped and all that pass messages on have ended.
 #[derive(Drop)]
 pub(crate) struct Feeds<N: StoreName> {
-    passed: Receiver<Passed<N>>,
-    onward: Sender<Passed<N>>,
+    requests: RequestList<N>,
     latest: Latest<N>,
 }
 
 impl<N: StoreName> Feeds<N> {
-    /// Opens the channel for what is passed on.
-    pub(crate) fn open(alloc: Global, latest: Latest<N>) -> Result<Feeds<N>, AllocError> {
-        let (onward, passed) = bounded(alloc, PASSED_LIMIT)?;
+    /// Opens the list for what is passed on to so many workers.
+    pub(crate) fn open(
+        alloc: Global,
+        askers: usize,
+        hashers: RandomState,
+        latest: Latest<N>,
+    ) -> Result<Feeds<N>, AllocError> {
         Ok(Feeds {
-            passed,
-            onward,
+            requests: RequestList::open(alloc, askers, hashers)?,
             latest,
         })
     }
@@ -39,21 +39,27 @@ impl<N: StoreName> Feeds<N> {
         self.latest.again()
     }
 
-    /// What a worker takes that answers what was passed on.
+    /// What a worker takes that answers what was passed on, and the other handle on when its time is over, for its link.
     pub(crate) fn passed<R: Wait + time::Clock + Copy + Drop>(
         &self,
         rt: &R,
-    ) -> Result<PassedItems<N, R>, AllocError> {
-        let latest = self.latest.again()?;
-        Ok(PassedItems::new(*rt, self.passed.clone()?, latest))
+        alloc: Global,
+    ) -> Result<(RequestItems<N, R>, Deadline), AllocError> {
+        let Ok(now) = Instant::now(rt) else {
+            return Err(AllocError);
+        };
+        let deadline = Deadline::new(alloc, now)?;
+        let again = deadline.again()?;
+        let items = self.requests.items(*rt, self.latest.again()?, again)?;
+        Ok((items, deadline))
     }
 
     /// Where a worker passes on what needs the upstream.
-    pub(crate) fn onward<R: Wait + Copy + Drop>(
+    pub(crate) fn onward<R: Wait + time::Clock + Copy + Drop>(
         &self,
         rt: &R,
         alloc: Global,
-    ) -> Result<ChannelOnward<N, R>, AllocError> {
-        Ok(ChannelOnward::new(*rt, alloc, self.onward.clone()?))
+    ) -> Result<RequestOnward<N, R>, AllocError> {
+        self.requests.onward(*rt, alloc)
     }
 }

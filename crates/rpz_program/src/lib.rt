@@ -4,6 +4,7 @@
 
 mod answering;
 mod feeds;
+mod holding;
 pub mod laws;
 mod loading;
 mod origins;
@@ -24,8 +25,9 @@ pub mod status;
 mod sums;
 mod turning;
 
-pub use feeds::{CONNECTION_WORKERS, PASSED_LIMIT};
-pub use plan::Plan;
+pub use feeds::STREAM_WORKERS;
+pub use holding::{FIRST_TRY_SECONDS, LAST_TRY_SECONDS};
+pub use plan::{Plan, ServerPlan};
 pub use replaying::replayed;
 pub use serve_error::ServeError;
 pub use server::serve;

@@ -13,17 +13,21 @@ pub(crate) struct Progress {
     /// A write of a line has failed, and nothing is written from then on.
     pub(crate) is_cut: bool,
     pub(crate) notices: Sums,
+    /// The second that the clock gave last.
+    pub(crate) second: u32,
 }
 
 impl Progress {
-    /// Nothing has failed, and no NOTIFY has come.
-    pub(crate) fn new() -> Self
+    /// Nothing has failed, and no NOTIFY has come, at this second.
+    pub(crate) fn new(second: u32) -> Self
         ensures cut { result.is_cut ≡ false }
         ensures notices { result.notices ≡ no_sums }
+        ensures second { result.second ≡ second }
     {
         Progress {
             is_cut: false,
             notices: nothing(),
+            second,
         }
     }
 }

@@ -6,7 +6,7 @@ ghost use Rattle.script_loop.specs.Replay.{Moves, ReadsNoFurther};
 ghost use Rattle.rpz_program.specs.Loading.{EndsLoad, load_line};
 ghost use Rattle.rpz_program.specs.Run.{AnswersWholeLines, AreTaken, BeginsTranscript, EndsPage, IsFirstBadLine, IsVerdict, IsWholeScript, StopsBy};
 ghost use Rattle.rpz_program.specs.Script.{script_verdict};
-ghost use Rattle.rpz_program.specs.Serving.{ServesWhole, asker_count, server_start};
+ghost use Rattle.rpz_program.specs.Serving.{ServesWhole, server_start, worker_count};
 ghost use Rattle.rpz_words.specs.Pages.{page_text};
 ghost use Rattle.rpz_words.specs.Words.{command_in};
 ghost use Rattle.rpz_words.specs.declared.pages.Page.{Page};
@@ -107,7 +107,7 @@ pub fn run<
         (C.moments clock.old))
         settings.turns
         (record {
-          waiting = P.waiting spawner.old + (asker_count settings + settings.workers);
+          waiting = P.waiting spawner.old + worker_count settings;
           before = P.gathered spawner.old;
           after = P.gathered spawner.new;
         })
@@ -121,7 +121,7 @@ pub fn run<
         (C.moments clock.old))
         settings.turns
         (record {
-          waiting = P.waiting spawner.old + (asker_count settings + settings.workers);
+          waiting = P.waiting spawner.old + worker_count settings;
           before = P.gathered spawner.old;
           after = P.gathered spawner.new;
         })

@@ -2,15 +2,16 @@
 
 ghost use Rattle.std.specs.Prelude.{◌≡◌, ◌≢◌, ◌≤◌, ◌+◌, Err, OnErr, OnOk};
 ghost use Rattle.edge_io.specs.Edge.{Rose};
-ghost use Rattle.rpz_program.specs.Serving.{ServesWhole, StopsServing, asker_count, limited_told, opened_told, server_start};
+ghost use Rattle.rpz_program.specs.Serving.{ServesWhole, StopsServing, plan_of as plan_form, server_start, worker_count};
 ghost use Rattle.rpz_words.specs.Limits.{IsServable};
 
-use crate::feeds::CONNECTION_WORKERS;
-use crate::plan::{Plan, PlannedZones};
+use crate::feeds::STREAM_WORKERS;
+use crate::holding::open_at_start;
+use crate::plan::{Plan, PlannedZones, ServerPlan};
 use crate::serve_error::ServeError;
 use crate::server_cache::open_cache;
 use crate::serving::serve_over;
-use edge_io::{Clock, Endpoint, Ids, Sink, Spawner, Wires};
+use edge_io::{Clock, Ids, Sink, Spawner, Wires};
 use policy_publish::start_store;
 use rpz_words::Settings;
 use rpz_workers::Report;
@@ -21,39 +22,22 @@ use std::sync::Wait;
 use std::thread::Threads;
 use std::time;
 
-// Lets the inlets give so many arrivals, where there is such a limit.
-fn limit_wires<W: Wires>(wires: &mut W, turns: Option<u32>)
-    ensures told { W.told wires.new ≡ limited_told turns (W.told wires.old) }
-    ensures orders { W.order_faults wires.new ≡ W.order_faults wires.old }
-    ensures count { W.faults wires.new ≡ W.faults wires.old }
+// What a server of these settings does.
+fn plan_of(settings: &Settings) -> ServerPlan
+    ensures { result ≡ plan_form settings.now }
 {
-    match turns {
-        Some(turns) => wires.limit(turns),
-        None => (),
+    ServerPlan {
+        listen: settings.listen,
+        admitted: settings.connections,
+        turns: settings.turns,
+        upstream: settings.upstream,
+        askers: settings.askers,
+        hold: settings.hold,
     }
 }
 
-// Opens the endpoint, for so many arrivals.
-fn open_wires<W: Wires>(wires: &mut W, at: Endpoint, turns: Option<u32>) -> Result<(), ServeError>
-    ensures told { OnOk result (W.told wires.new ≡ opened_told at turns (W.told wires.old)) }
-    ensures orders { W.order_faults wires.new ≡ W.order_faults wires.old }
-    ensures count { W.faults wires.old ≤ W.faults wires.new }
-    ensures socket { result ≡ Err ServeError.SocketFault →
-        Rose (W.faults wires.old) (W.faults wires.new) }
-    ensures not_start { result ≢ Err ServeError.StartFault }
-    ensures not_write { result ≢ Err ServeError.WriteFault }
-{
-    match wires.bind(at) {
-        Ok(()) => {
-            limit_wires(wires, turns);
-            Ok(())
-        }
-        Err(error) => Err(ServeError::of_wires(error)),
-    }
-}
-
-/// Serves as the settings say: opens the cache that the workers share, binds the endpoint, orders all zones, starts the workers, takes
-/// one wake after another, and writes the line that sums up what became of the arrivals. Where the cache finds no memory, nothing was
+/// Serves as the settings say: opens the cache that the workers share, opens the endpoint, at once or once the zones were loaded, orders
+/// all zones, starts the workers, takes one wake after another, and writes the line that sums up what became of the arrivals. Where the cache finds no memory, nothing was
 /// bound yet. However it ends, the workers that were started are stopped and gathered first. `hashers` makes the hash of the cache:
 /// where strangers pick the questions, one with a random seed.
 pub fn serve<
@@ -80,7 +64,7 @@ pub fn serve<
         (C.moments clock.old))
         settings.now.turns
         (record {
-          waiting = P.waiting spawner.old + (asker_count settings.now + settings.now.workers);
+          waiting = P.waiting spawner.old + worker_count settings.now;
           before = P.gathered spawner.old;
           after = P.gathered spawner.new;
         })
@@ -90,7 +74,7 @@ pub fn serve<
         (C.moments clock.old))
         settings.now.turns
         (record {
-          waiting = P.waiting spawner.old + (asker_count settings.now + settings.now.workers);
+          waiting = P.waiting spawner.old + worker_count settings.now;
           before = P.gathered spawner.old;
           after = P.gathered spawner.new;
         })
@@ -109,17 +93,16 @@ pub fn serve<
     };
     let origins = settings.zones.origins(alloc)?;
     let plan = Plan {
-        upstream: settings.upstream,
-        turns: settings.turns,
-        askers: settings.askers + CONNECTION_WORKERS,
-        workers: settings.workers,
+        server: plan_of(settings),
+        workers: settings.workers + STREAM_WORKERS,
         cache: open_cache(alloc, settings.cache, hashers)?,
     };
-    if let Err(error) = open_wires(wires, settings.listen, settings.turns) {
+    if let Err(error) = open_at_start(wires, &plan.server) {
         return Err(error);
     }
-    let parts = start_store(origins, plan.askers + plan.workers);
+    let readers = plan.server.askers + plan.workers;
+    let parts = start_store(origins, readers);
     serve_over::<Brand, W, P, C, I, K, R>(
-        rt, alloc, parts, &plan, zones, wires, spawner, clock, ids, out,
+        rt, alloc, parts, &plan, hashers, zones, wires, spawner, clock, ids, out,
     )
 }

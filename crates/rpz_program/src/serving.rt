@@ -4,9 +4,10 @@ ghost use Rattle.std.specs.Prelude.{◌≡◌, ◌≢◌, ◌≤◌, ◌+◌, �
 ghost use Rattle.edge_io.specs.Edge.{Rose, WritesPrefix, appended};
 ghost use Rattle.rpz_program.specs.Serving.{ServesBy, ServesWhole, StopsIn, StopsServing, sums_line};
 ghost use Rattle.rpz_program.specs.Turning.{IsOfLines, IsOfTurns, OrdersFirst, RunsAll, StopsFirst, StopsRunning};
-ghost use Rattle.rpz_program.specs.Turns.{RunsOn, server_state};
+ghost use Rattle.rpz_program.specs.Turns.{RunsOn, opens_at_once, server_state};
 ghost use Rattle.policy_feed.specs.Feed.{feed_of};
 
+use crate::holding::come_to_open;
 use crate::output::write_lines;
 use crate::plan::{Plan, PlannedZones};
 use crate::progress::Progress;
@@ -14,12 +15,13 @@ use crate::serve_error::ServeError;
 use crate::served_line::served_text;
 use crate::starting::start_all;
 use crate::sums::{Sums, gather_all};
-use crate::turning::{take_first_pass, take_turns};
+use crate::turning::take_turns;
 use edge_io::{Clock, Ids, Sink, SinkError, Spawner, Wires, write_all};
 use policy_feed::Feeder;
 use policy_publish::{Parts, PolicyReader, StoreName};
 use rpz_workers::Report;
 use std::alloc::Global;
+use std::hash::RandomState;
 use std::sync::Wait;
 use std::thread::Threads;
 use std::time;
@@ -89,11 +91,12 @@ fn order_first<N: StoreName, W: Wires, I: Ids, K: Sink, R: Wait>(
     let is_cut = write_lines(out, false, &text)?;
     Ok(Progress {
         is_cut,
-        ..Progress::new()
+        ..Progress::new(now)
     })
 }
 
-// Orders what is due, starts the workers once the first transfers have ended or it takes long, and takes the turns of the server. Says
+// Orders what is due, opens an endpoint that was held back, starts the workers once the first transfers have ended or it takes long, and
+// takes the turns of the server. Says
 // how far its lines have come, and how many datagrams were dropped.
 fn run_turns<
     N: StoreName + Send + Sync + 'static,
@@ -107,6 +110,7 @@ fn run_turns<
     rt: &R,
     alloc: Global,
     plan: &Plan<W::Up>,
+    hashers: RandomState,
     feeder: &mut Feeder<N>,
     readers: Vec<PolicyReader<N>>,
     wires: &mut W,
@@ -116,19 +120,19 @@ fn run_turns<
     out: &mut K,
     now: u32,
 ) -> Result<(Progress, u64), ServeError>
-    ensures ok { IfOk result (λ done. RunsAll plan.now.upstream plan.now.askers now
+    ensures ok { IfOk result (λ done. RunsAll plan.now.server now
         (server_state feeder.old (W.told wires.old) (W.order_faults wires.old) (I.ids ids.old)
-        (C.moments clock.old))
+        (C.moments clock.old) now (opens_at_once plan.now.server))
         (K.held out.old)
         (server_state feeder.new (W.told wires.new) (W.order_faults wires.new) (I.ids ids.new)
-        (C.moments clock.new))
+        (C.moments clock.new) done.0.second true)
         done.0 done.1 (K.held out.new)) }
-    ensures err { OnErr result (StopsRunning plan.now.upstream plan.now.askers now
+    ensures err { OnErr result (StopsRunning plan.now.server now
         (server_state feeder.old (W.told wires.old) (W.order_faults wires.old) (I.ids ids.old)
-        (C.moments clock.old))
+        (C.moments clock.old) now (opens_at_once plan.now.server))
         (K.held out.old) (K.held out.new)) }
     ensures waiting { OnOk result (P.waiting spawner.new
-        ≡ P.waiting spawner.old + (plan.now.askers + plan.now.workers)) }
+        ≡ P.waiting spawner.old + (plan.now.server.askers + plan.now.workers)) }
     ensures gathered { P.gathered spawner.new ≡ P.gathered spawner.old }
     ensures wire_count { W.faults wires.old ≤ W.faults wires.new }
     ensures start_count { P.faults spawner.old ≤ P.faults spawner.new }
@@ -142,11 +146,15 @@ fn run_turns<
         Rose (K.faults out.old) (K.faults out.new)) }
 {
     let first = order_first(rt, alloc, feeder, wires, ids, out, now)?;
-    let passed = take_first_pass(rt, alloc, feeder, wires, clock, ids, out, first, now)?;
+    let server = &plan.server;
+    let passed = come_to_open(
+        rt, alloc, server, feeder, wires, clock, ids, out, first, now,
+    )?;
     start_all(
         rt,
         alloc,
         plan,
+        hashers,
         readers,
         feeder.latest()?,
         wires,
@@ -196,6 +204,7 @@ fn serve_open<
     rt: &R,
     alloc: Global,
     plan: &Plan<W::Up>,
+    hashers: RandomState,
     feeder: &mut Feeder<N>,
     readers: Vec<PolicyReader<N>>,
     wires: &mut W,
@@ -206,23 +215,23 @@ fn serve_open<
     now: u32,
 ) -> Result<(), ServeError>
     ensures ok { OnOk result (ServesBy
-        (RunsOn plan.now.upstream plan.now.askers now
+        (RunsOn plan.now.server now
         (server_state feeder.old (W.told wires.old) (W.order_faults wires.old) (I.ids ids.old)
-        (C.moments clock.old)))
-        plan.now.turns
+        (C.moments clock.old) now (opens_at_once plan.now.server)))
+        plan.now.server.turns
         (record {
-          waiting = P.waiting spawner.old + (plan.now.askers + plan.now.workers);
+          waiting = P.waiting spawner.old + (plan.now.server.askers + plan.now.workers);
           before = P.gathered spawner.old;
           after = P.gathered spawner.new;
         })
         (K.held out.old) (K.held out.new) (W.told wires.new)) }
     ensures err { OnErr result (StopsIn
-        (RunsOn plan.now.upstream plan.now.askers now
+        (RunsOn plan.now.server now
         (server_state feeder.old (W.told wires.old) (W.order_faults wires.old) (I.ids ids.old)
-        (C.moments clock.old)))
-        plan.now.turns
+        (C.moments clock.old) now (opens_at_once plan.now.server)))
+        plan.now.server.turns
         (record {
-          waiting = P.waiting spawner.old + (plan.now.askers + plan.now.workers);
+          waiting = P.waiting spawner.old + (plan.now.server.askers + plan.now.workers);
           before = P.gathered spawner.old;
           after = P.gathered spawner.new;
         })
@@ -237,13 +246,13 @@ fn serve_open<
         Rose (K.faults out.old) (K.faults out.new) }
 {
     let ran = run_turns(
-        rt, alloc, plan, feeder, readers, wires, spawner, clock, ids, out, now,
+        rt, alloc, plan, hashers, feeder, readers, wires, spawner, clock, ids, out, now,
     );
     // workers end once no arrival can come any more
     wires.stop();
     let sums = gather_all(spawner);
     match ran {
-        Ok((progress, dropped)) => finish(alloc, plan.turns, sums, progress, dropped, out),
+        Ok((progress, dropped)) => finish(alloc, plan.server.turns, sums, progress, dropped, out),
         Err(error) => Err(error),
     }
 }
@@ -262,6 +271,7 @@ pub(crate) fn serve_over<
     alloc: Global,
     parts: Parts,
     plan: &Plan<W::Up>,
+    hashers: RandomState,
     zones: PlannedZones,
     wires: &mut W,
     spawner: &mut P,
@@ -276,16 +286,15 @@ pub(crate) fn serve_over<
         (record {
           origins = zones.origins.items;
           primaries = zones.primaries.items;
-          upstream = plan.now.upstream;
-          links = plan.now.askers;
+          plan = plan.now.server;
           told = W.told wires.old;
           faults = W.order_faults wires.old;
           ids = I.ids ids.old;
           moments = C.moments clock.old;
         })
-        plan.now.turns
+        plan.now.server.turns
         (record {
-          waiting = P.waiting spawner.old + (plan.now.askers + plan.now.workers);
+          waiting = P.waiting spawner.old + (plan.now.server.askers + plan.now.workers);
           before = P.gathered spawner.old;
           after = P.gathered spawner.new;
         })
@@ -294,16 +303,15 @@ pub(crate) fn serve_over<
         (record {
           origins = zones.origins.items;
           primaries = zones.primaries.items;
-          upstream = plan.now.upstream;
-          links = plan.now.askers;
+          plan = plan.now.server;
           told = W.told wires.old;
           faults = W.order_faults wires.old;
           ids = I.ids ids.old;
           moments = C.moments clock.old;
         })
-        plan.now.turns
+        plan.now.server.turns
         (record {
-          waiting = P.waiting spawner.old + (plan.now.askers + plan.now.workers);
+          waiting = P.waiting spawner.old + (plan.now.server.askers + plan.now.workers);
           before = P.gathered spawner.old;
           after = P.gathered spawner.new;
         })
@@ -325,6 +333,7 @@ pub(crate) fn serve_over<
         rt,
         alloc,
         plan,
+        hashers,
         &mut feeder,
         readers,
         wires,

@@ -6,23 +6,28 @@ ghost use Rattle.edge_io.specs.Edge.{Rose};
 ghost use Rattle.edge_io.specs.Wired.{with_linked};
 ghost use Rattle.rpz_program.specs.Turns.{linked_told};
 
-use crate::feeds::{CONNECTION_WORKERS, Feeds};
+use crate::feeds::{Feeds, STREAM_WORKERS};
 use crate::plan::Plan;
 use crate::serve_error::ServeError;
 use crate::server_cache::ServerCache;
 use answer_cache::Shared;
-use edge_io::{Clock, Endpoint, Ids, Link, Spawner, StartError, Task, Wires};
+use edge_io::{Clock, Deadline, Endpoint, Ids, Inlet, Link, Spawner, StartError, Task, Wires};
 use policy_publish::{Latest, PolicyReader, StoreName};
 use rpz_workers::{
-    AskerItems, AsksNobody, InletItems, NoGate, NoOnward, Report, ServeTask, Worker,
+    AsksNobody, InletItems, NoGate, NoOnward, Report, RequestItems, ServeTask, Worker,
 };
 use std::alloc::{AllocError, Global};
+use std::hash::RandomState;
 use std::sync::{Arc, Wait};
 use std::thread::Threads;
 use std::time;
 
-// A link to the upstream, and a place for replies.
-fn wire_asker<W: Wires>(wires: &mut W, upstream: Endpoint) -> Result<(W::Up, W::Back), ServeError>
+// A link to the upstream that keeps to this deadline, and a place for replies.
+fn wire_asker<W: Wires>(
+    wires: &mut W,
+    upstream: Endpoint,
+    deadline: Deadline,
+) -> Result<(W::Up, W::Back), ServeError>
     ensures told { OnOk result
         (W.told wires.new ≡ option_map (with_linked upstream) (W.told wires.old)) }
     ensures orders { W.order_faults wires.new ≡ W.order_faults wires.old }
@@ -32,10 +37,11 @@ fn wire_asker<W: Wires>(wires: &mut W, upstream: Endpoint) -> Result<(W::Up, W::
     ensures not_start { result ≢ Err ServeError.StartFault }
     ensures not_write { result ≢ Err ServeError.WriteFault }
 {
-    let link = match wires.link(upstream) {
+    let mut link = match wires.link(upstream) {
         Ok(link) => link,
         Err(error) => return Err(ServeError::of_wires(error)),
     };
+    link.keep_to(deadline);
     match wires.replies() {
         Ok(replies) => Ok((link, replies)),
         Err(error) => Err(ServeError::of_wires(error)),
@@ -62,13 +68,8 @@ fn wire_answerer<W: Wires>(wires: &mut W) -> Result<(W::Datagrams, W::Back), Ser
     }
 }
 
-// What a worker that asks takes: the first of them take connections.
-fn asker_items<N: StoreName, W: Wires, R: Wait + time::Clock + Copy + Drop>(
-    rt: &R,
-    place: usize,
-    wires: &mut W,
-    feeds: &Feeds<N>,
-) -> Result<AskerItems<N, W::In, W::Out, W::Connections, R>, ServeError>
+// An inlet for connections, and a place for replies.
+fn wire_streamer<W: Wires>(wires: &mut W) -> Result<(W::Connections, W::Back), ServeError>
     ensures told { W.told wires.new ≡ W.told wires.old }
     ensures orders { W.order_faults wires.new ≡ W.order_faults wires.old }
     ensures count { W.faults wires.old ≤ W.faults wires.new }
@@ -77,12 +78,12 @@ fn asker_items<N: StoreName, W: Wires, R: Wait + time::Clock + Copy + Drop>(
     ensures not_start { result ≢ Err ServeError.StartFault }
     ensures not_write { result ≢ Err ServeError.WriteFault }
 {
-    if place >= CONNECTION_WORKERS {
-        return Ok(AskerItems::Passed(feeds.passed(rt)?));
-    }
-    let latest = feeds.latest()?;
-    match wires.connections() {
-        Ok(inlet) => Ok(AskerItems::Connections(InletItems::new(*rt, inlet, latest))),
+    let inlet = match wires.connections() {
+        Ok(inlet) => inlet,
+        Err(error) => return Err(ServeError::of_wires(error)),
+    };
+    match wires.replies() {
+        Ok(replies) => Ok((inlet, replies)),
         Err(error) => Err(ServeError::of_wires(error)),
     }
 }
@@ -130,7 +131,7 @@ fn start_asking<
     alloc: Global,
     cache: &ServerCache<W::Up>,
     reader: PolicyReader<N>,
-    items: AskerItems<N, W::In, W::Out, W::Connections, R>,
+    items: RequestItems<N, R>,
     link: W::Up,
     replies: W::Back,
     spawner: &mut P,
@@ -169,7 +170,6 @@ fn start_asker<
     upstream: Endpoint,
     cache: &ServerCache<W::Up>,
     reader: PolicyReader<N>,
-    place: usize,
     wires: &mut W,
     spawner: &mut P,
     clock: &mut C,
@@ -191,8 +191,8 @@ fn start_asker<
         Rose (P.faults spawner.old) (P.faults spawner.new) }
     ensures not_write { result ≢ Err ServeError.WriteFault }
 {
-    let items = asker_items(rt, place, wires, feeds)?;
-    let (link, replies) = wire_asker(wires, upstream)?;
+    let (items, deadline) = feeds.passed(rt, alloc)?;
+    let (link, replies) = wire_asker(wires, upstream, deadline)?;
     let (own_clock, own_ids) = (clock.another(), ids.another());
     start_asking::<N, W, P, C, I, R>(
         rt, alloc, cache, reader, items, link, replies, spawner, own_clock, own_ids,
@@ -235,21 +235,22 @@ fn start_askers<
         Rose (P.faults spawner.old) (P.faults spawner.new) }
     ensures not_write { result ≢ Err ServeError.WriteFault }
 {
-    for place in 0..count {
+    for _ in 0..count {
         let Some(reader) = readers.pop() else {
             return Err(ServeError::OutOfMemory);
         };
         start_asker::<N, W, P, C, I, R>(
-            rt, alloc, upstream, cache, reader, place, wires, spawner, clock, ids, feeds,
+            rt, alloc, upstream, cache, reader, wires, spawner, clock, ids, feeds,
         )?;
     }
     Ok(())
 }
 
-// Starts a worker that answers datagrams from the rules and the cache, and passes on what needs the upstream.
+// Starts a worker that answers from the rules and the cache, and passes on what needs the upstream.
 fn start_answering<
     N: StoreName + Send + Sync + 'static,
     W: Wires,
+    Q: Inlet<W::In, W::Out> + Drop + Send + 'static,
     P: Spawner<Report>,
     C: Clock + Drop + Send + 'static,
     R: Threads + Wait + time::Clock + Copy + Drop + Send + Sync + 'static,
@@ -258,7 +259,7 @@ fn start_answering<
     alloc: Global,
     cache: &ServerCache<W::Up>,
     reader: PolicyReader<N>,
-    inlet: W::Datagrams,
+    inlet: Q,
     replies: W::Back,
     spawner: &mut P,
     clock: C,
@@ -318,12 +319,87 @@ fn start_answerer<
 {
     let (inlet, replies) = wire_answerer(wires)?;
     let own_clock = clock.another();
-    start_answering::<N, W, P, C, R>(
+    start_answering::<N, W, W::Datagrams, P, C, R>(
         rt, alloc, cache, reader, inlet, replies, spawner, own_clock, feeds,
     )
 }
 
-// Starts so many workers that answer datagrams.
+// Starts a worker that answers the messages of connections, with a clock of its own.
+fn start_streamer<
+    N: StoreName + Send + Sync + 'static,
+    W: Wires,
+    P: Spawner<Report>,
+    C: Clock + Drop + Send + 'static,
+    R: Threads + Wait + time::Clock + Copy + Drop + Send + Sync + 'static,
+>(
+    rt: &R,
+    alloc: Global,
+    cache: &ServerCache<W::Up>,
+    reader: PolicyReader<N>,
+    wires: &mut W,
+    spawner: &mut P,
+    clock: &mut C,
+    feeds: &Feeds<N>,
+) -> Result<(), ServeError>
+    ensures told { W.told wires.new ≡ W.told wires.old }
+    ensures waiting { OnOk result (P.waiting spawner.new ≡ P.waiting spawner.old + 1) }
+    ensures orders { W.order_faults wires.new ≡ W.order_faults wires.old }
+    ensures moments { C.moments clock.new ≡ C.moments clock.old }
+    ensures gathered { P.gathered spawner.new ≡ P.gathered spawner.old }
+    ensures wire_count { W.faults wires.old ≤ W.faults wires.new }
+    ensures start_count { P.faults spawner.old ≤ P.faults spawner.new }
+    ensures socket { result ≡ Err ServeError.SocketFault →
+        Rose (W.faults wires.old) (W.faults wires.new) }
+    ensures start { result ≡ Err ServeError.StartFault →
+        Rose (P.faults spawner.old) (P.faults spawner.new) }
+    ensures not_write { result ≢ Err ServeError.WriteFault }
+{
+    let (inlet, replies) = wire_streamer(wires)?;
+    let own_clock = clock.another();
+    start_answering::<N, W, W::Connections, P, C, R>(
+        rt, alloc, cache, reader, inlet, replies, spawner, own_clock, feeds,
+    )
+}
+
+// Starts the worker of a place among those that ask nobody.
+fn start_placed<
+    N: StoreName + Send + Sync + 'static,
+    W: Wires,
+    P: Spawner<Report>,
+    C: Clock + Drop + Send + 'static,
+    R: Threads + Wait + time::Clock + Copy + Drop + Send + Sync + 'static,
+>(
+    rt: &R,
+    alloc: Global,
+    cache: &ServerCache<W::Up>,
+    reader: PolicyReader<N>,
+    place: usize,
+    wires: &mut W,
+    spawner: &mut P,
+    clock: &mut C,
+    feeds: &Feeds<N>,
+) -> Result<(), ServeError>
+    ensures told { W.told wires.new ≡ W.told wires.old }
+    ensures waiting { OnOk result (P.waiting spawner.new ≡ P.waiting spawner.old + 1) }
+    ensures orders { W.order_faults wires.new ≡ W.order_faults wires.old }
+    ensures moments { C.moments clock.new ≡ C.moments clock.old }
+    ensures gathered { P.gathered spawner.new ≡ P.gathered spawner.old }
+    ensures wire_count { W.faults wires.old ≤ W.faults wires.new }
+    ensures start_count { P.faults spawner.old ≤ P.faults spawner.new }
+    ensures socket { result ≡ Err ServeError.SocketFault →
+        Rose (W.faults wires.old) (W.faults wires.new) }
+    ensures start { result ≡ Err ServeError.StartFault →
+        Rose (P.faults spawner.old) (P.faults spawner.new) }
+    ensures not_write { result ≢ Err ServeError.WriteFault }
+{
+    if place < STREAM_WORKERS {
+        start_streamer::<N, W, P, C, R>(rt, alloc, cache, reader, wires, spawner, clock, feeds)
+    } else {
+        start_answerer::<N, W, P, C, R>(rt, alloc, cache, reader, wires, spawner, clock, feeds)
+    }
+}
+
+// Starts so many workers that ask nobody: the first of them take connections, the others datagrams.
 fn start_answerers<
     N: StoreName + Send + Sync + 'static,
     W: Wires,
@@ -354,17 +430,19 @@ fn start_answerers<
         Rose (P.faults spawner.old) (P.faults spawner.new) }
     ensures not_write { result ≢ Err ServeError.WriteFault }
 {
-    for _ in 0..count {
+    for place in 0..count {
         let Some(reader) = readers.pop() else {
             return Err(ServeError::OutOfMemory);
         };
-        start_answerer::<N, W, P, C, R>(rt, alloc, cache, reader, wires, spawner, clock, feeds)?;
+        start_placed::<N, W, P, C, R>(
+            rt, alloc, cache, reader, place, wires, spawner, clock, feeds,
+        )?;
     }
     Ok(())
 }
 
-/// Starts the workers that ask, and then those that answer datagrams, one for each reader, over the cache. They find at the handle what
-/// is published.
+/// Starts the workers that ask, and then those that answer the messages of connections, and datagrams, one for each reader, over the
+/// cache. They find at the handle what is published. The hashers make the hashes of the list of what is passed on.
 pub(crate) fn start_all<
     N: StoreName + Send + Sync + 'static,
     W: Wires,
@@ -376,6 +454,7 @@ pub(crate) fn start_all<
     rt: &R,
     alloc: Global,
     plan: &Plan<W::Up>,
+    hashers: RandomState,
     readers: Vec<PolicyReader<N>>,
     latest: Latest<N>,
     wires: &mut W,
@@ -384,9 +463,9 @@ pub(crate) fn start_all<
     ids: &mut I,
 ) -> Result<(), ServeError>
     ensures told { OnOk result (W.told wires.new
-        ≡ linked_told plan.now.upstream plan.now.askers (W.told wires.old)) }
+        ≡ linked_told plan.now.server.upstream plan.now.server.askers (W.told wires.old)) }
     ensures waiting { OnOk result (P.waiting spawner.new
-        ≡ P.waiting spawner.old + (plan.now.askers + plan.now.workers)) }
+        ≡ P.waiting spawner.old + (plan.now.server.askers + plan.now.workers)) }
     ensures orders { W.order_faults wires.new ≡ W.order_faults wires.old }
     ensures ids { I.ids ids.new ≡ I.ids ids.old }
     ensures moments { C.moments clock.new ≡ C.moments clock.old }
@@ -400,14 +479,15 @@ pub(crate) fn start_all<
     ensures not_write { result ≢ Err ServeError.WriteFault }
 {
     let mut readers = readers;
-    let feeds = Feeds::open(alloc, latest)?;
+    let server = plan.server;
+    let feeds = Feeds::open(alloc, server.askers, hashers, latest)?;
     start_askers::<N, W, P, C, I, R>(
         rt,
         alloc,
-        plan.upstream,
+        server.upstream,
         &plan.cache,
         &mut readers,
-        plan.askers,
+        server.askers,
         wires,
         spawner,
         clock,

@@ -1,6 +1,6 @@
 //! The turns of a server: one wake after another.
 
-ghost use Rattle.std.specs.Prelude.{◌≡◌, ◌≤◌, Err, Some, None, true, false, IfErr, IfOk, OnErr};
+ghost use Rattle.std.specs.Prelude.{◌≡◌, ◌≤◌, Bool, Err, Some, None, true, false, is_some, IfErr, IfOk, OnErr};
 ghost use Rattle.edge_io.specs.Edge.{Rose};
 ghost use Rattle.rpz_program.specs.Turning.{Advances, IsOfTurns, StopsAdvancing, WakesUp, ended_by};
 ghost use Rattle.rpz_program.specs.Turns.{server_state};
@@ -22,8 +22,8 @@ pub const FIRST_PASS_SECONDS: u32 = 2;
 #[derive(Clone, Copy, Debug)]
 pub(crate) struct Turned {
     pub(crate) progress: Progress,
-    /// The second of the turn.
-    pub(crate) second: u32,
+    /// Polls were tried anew.
+    pub(crate) is_anew: bool,
     /// How many datagrams were dropped, where all inlets have ended.
     pub(crate) ended: Option<u64>,
 }
@@ -35,6 +35,16 @@ fn end_in(wake: &Wake) -> Option<u64>
     match wake {
         Wake::Ended { dropped } => Some(*dropped),
         _ => None,
+    }
+}
+
+// Whether polls are to be tried anew at this second, where that is to be from another one on.
+fn is_time(next_try: Option<u32>, second: u32) -> bool
+    ensures { result ≡ true → is_some next_try ≡ true }
+{
+    match next_try {
+        Some(next) => next <= second,
+        None => false,
     }
 }
 
@@ -54,7 +64,8 @@ fn next_wake<W: Wires>(wires: &mut W) -> Result<Wake, ServeError>
     }
 }
 
-// Waits for the next wake, does what it does, and writes the lines.
+/// Waits for the next wake, does what it does, and writes the lines. From the second of the next try on, where there is one, polls are
+/// tried anew of zones of which nothing was loaded.
 pub(crate) fn take_turn<N: StoreName, W: Wires, C: Clock, I: Ids, K: Sink, R: Wait>(
     rt: &R,
     alloc: Global,
@@ -64,17 +75,18 @@ pub(crate) fn take_turn<N: StoreName, W: Wires, C: Clock, I: Ids, K: Sink, R: Wa
     ids: &mut I,
     out: &mut K,
     progress: Progress,
+    next_try: Option<u32>,
 ) -> Result<Turned, ServeError>
-    ensures ok { IfOk result (λ turned. Advances
+    ensures ok { IfOk result (λ turned. (is_open : Bool) → Advances (is_some next_try)
         (server_state feeder.old (W.told wires.old) (W.order_faults wires.old) (I.ids ids.old)
-        (C.moments clock.old))
+        (C.moments clock.old) progress.second is_open)
         progress (K.held out.old) turned.ended
         (server_state feeder.new (W.told wires.new) (W.order_faults wires.new) (I.ids ids.new)
-        (C.moments clock.new))
+        (C.moments clock.new) turned.progress.second is_open)
         turned.progress (K.held out.new)) }
-    ensures err { OnErr result (StopsAdvancing
+    ensures err { OnErr result ((is_open : Bool) → StopsAdvancing (is_some next_try)
         (server_state feeder.old (W.told wires.old) (W.order_faults wires.old) (I.ids ids.old)
-        (C.moments clock.old))
+        (C.moments clock.old) progress.second is_open)
         progress (K.held out.old) (K.held out.new)) }
     ensures only { IfErr result IsOfTurns }
     ensures wire_count { W.faults wires.old ≤ W.faults wires.new }
@@ -87,15 +99,17 @@ pub(crate) fn take_turn<N: StoreName, W: Wires, C: Clock, I: Ids, K: Sink, R: Wa
     let wake = next_wake(wires)?;
     let ended = end_in(&wake);
     let second = clock.now();
+    let is_anew = is_time(next_try, second);
     let mut text = Vec::new(alloc);
-    let what = feeder.turn(rt, wires, ids, second, wake, &mut text)?;
+    let what = feeder.turn(rt, wires, ids, second, wake, is_anew, &mut text)?;
     let is_cut = write_lines(out, progress.is_cut, &text)?;
     Ok(Turned {
         progress: Progress {
             is_cut,
             notices: count_notice(progress.notices, what),
+            second,
         },
-        second,
+        is_anew,
         ended,
     })
 }
@@ -112,16 +126,16 @@ pub(crate) fn take_first_pass<N: StoreName, W: Wires, C: Clock, I: Ids, K: Sink,
     progress: Progress,
     began: u32,
 ) -> Result<Progress, ServeError>
-    ensures ok { IfOk result (λ to. Advances
+    ensures ok { IfOk result (λ to. (is_open : Bool) → Advances false
         (server_state feeder.old (W.told wires.old) (W.order_faults wires.old) (I.ids ids.old)
-        (C.moments clock.old))
+        (C.moments clock.old) progress.second is_open)
         progress (K.held out.old) None
         (server_state feeder.new (W.told wires.new) (W.order_faults wires.new) (I.ids ids.new)
-        (C.moments clock.new))
+        (C.moments clock.new) to.second is_open)
         to (K.held out.new)) }
-    ensures err { OnErr result (StopsAdvancing
+    ensures err { OnErr result ((is_open : Bool) → StopsAdvancing false
         (server_state feeder.old (W.told wires.old) (W.order_faults wires.old) (I.ids ids.old)
-        (C.moments clock.old))
+        (C.moments clock.old) progress.second is_open)
         progress (K.held out.old) (K.held out.new)) }
     ensures only { IfErr result IsOfTurns }
     ensures wire_count { W.faults wires.old ≤ W.faults wires.new }
@@ -136,9 +150,10 @@ pub(crate) fn take_first_pass<N: StoreName, W: Wires, C: Clock, I: Ids, K: Sink,
         if !feeder.is_polling() {
             return Ok(progress);
         }
-        let turned = take_turn(rt, alloc, feeder, wires, clock, ids, out, progress)?;
+        let turned = take_turn(rt, alloc, feeder, wires, clock, ids, out, progress, None)?;
         progress = turned.progress;
-        if turned.ended.is_some() || turned.second.saturating_sub(began) >= FIRST_PASS_SECONDS {
+        let waited = progress.second.saturating_sub(began);
+        if turned.ended.is_some() || waited >= FIRST_PASS_SECONDS {
             return Ok(progress);
         }
     }
@@ -156,16 +171,16 @@ pub(crate) fn take_turns<N: StoreName, W: Wires, C: Clock, I: Ids, K: Sink, R: W
     out: &mut K,
     progress: Progress,
 ) -> Result<(Progress, u64), ServeError>
-    ensures ok { IfOk result (λ done. Advances
+    ensures ok { IfOk result (λ done. (is_open : Bool) → Advances false
         (server_state feeder.old (W.told wires.old) (W.order_faults wires.old) (I.ids ids.old)
-        (C.moments clock.old))
+        (C.moments clock.old) progress.second is_open)
         progress (K.held out.old) (Some done.1)
         (server_state feeder.new (W.told wires.new) (W.order_faults wires.new) (I.ids ids.new)
-        (C.moments clock.new))
+        (C.moments clock.new) done.0.second is_open)
         done.0 (K.held out.new)) }
-    ensures err { OnErr result (StopsAdvancing
+    ensures err { OnErr result ((is_open : Bool) → StopsAdvancing false
         (server_state feeder.old (W.told wires.old) (W.order_faults wires.old) (I.ids ids.old)
-        (C.moments clock.old))
+        (C.moments clock.old) progress.second is_open)
         progress (K.held out.old) (K.held out.new)) }
     ensures only { IfErr result IsOfTurns }
     ensures wire_count { W.faults wires.old ≤ W.faults wires.new }
@@ -177,7 +192,7 @@ pub(crate) fn take_turns<N: StoreName, W: Wires, C: Clock, I: Ids, K: Sink, R: W
 {
     let mut progress = progress;
     for _ in rt.forever() {
-        let turned = take_turn(rt, alloc, feeder, wires, clock, ids, out, progress)?;
+        let turned = take_turn(rt, alloc, feeder, wires, clock, ids, out, progress, None)?;
         progress = turned.progress;
         if let Some(dropped) = turned.ended {
             return Ok((progress, dropped));

@@ -23,5 +23,6 @@ returns-clause-ok g c =
       lines = o.0;
       orders = o.2;
       notices = c.new.ensures.notices;
+      second_is = c.new.ensures.second;
       wrote = subst (λ (l : List ℕ). Wrote c.in_ok-is_cut.is_cut l held (g.K.Sink.held c.write_lines.new.out)) same (c.in_ok-is_cut.ensures.ok [] held (wrote_none held));
     }

@@ -2,12 +2,12 @@ use Rattle.std.proofs.Common.{◌∙◌, arith}
 use Rattle.rpz_program.proofs.Turned.{linked_next}
 use Rattle.rpz_program.proofs.starting.start_askers.Goals as goal
 
-pub loop-place-preserved : goal.loop-place-preserved
-loop-place-preserved g c =
-    let was = c.loop-place.invariant in
+pub loop-preserved : goal.loop-preserved
+loop-preserved g c =
+    let was = c.loop.invariant in
     let one = c.in_ok-start_asker.ensures in
     record {
-      told = linked_next _ _ _ c.args.upstream c.loop-place.place one.told was.told;
+      told = linked_next _ _ _ c.args.upstream c.loop.counter one.told was.told;
       waiting = omega (arith, was.waiting, one.waiting);
       orders = one.orders ∙ was.orders;
       ids = one.ids ∙ was.ids;

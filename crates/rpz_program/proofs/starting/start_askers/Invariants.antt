@@ -2,10 +2,10 @@ use Rattle.std.proofs.Common.{◌≡◌, ◌≤◌, ◌+◌}
 use Rattle.rpz_program.specs.Turns.{linked_told}
 use Rattle.rpz_program.proofs.starting.start_askers.Given as goal
 
-abbrev pub invariant-loop-place : goal.invariant-loop-place
-invariant-loop-place g l = record {
-  told : g.W.Wires.told l.wires ≡ linked_told l.upstream l.place (g.W.Wires.told l.initial.wires);
-  waiting : g.P.Spawner.waiting l.spawner ≡ g.P.Spawner.waiting l.initial.spawner + l.place;
+abbrev pub invariant-loop : goal.invariant-loop
+invariant-loop g l = record {
+  told : g.W.Wires.told l.wires ≡ linked_told l.upstream l.counter (g.W.Wires.told l.initial.wires);
+  waiting : g.P.Spawner.waiting l.spawner ≡ g.P.Spawner.waiting l.initial.spawner + l.counter;
   orders : g.W.Wires.order_faults l.wires ≡ g.W.Wires.order_faults l.initial.wires;
   ids : g.I.Ids.ids l.ids ≡ g.I.Ids.ids l.initial.ids;
   moments : g.C.Clock.moments l.clock ≡ g.C.Clock.moments l.initial.clock;

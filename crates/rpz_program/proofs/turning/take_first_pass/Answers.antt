@@ -4,23 +4,23 @@ use Rattle.rpz_program.proofs.Turned.{advanced_both, advanced_nothing, advanced_
 use Rattle.rpz_program.proofs.turning.take_first_pass.Goals as goal
 
 pub loop-init : goal.loop-init
-loop-init g c = record { advances = advanced_nothing _ _ _; wire_count = omega arith; count = omega arith; failed = λ cut whole. absurd (true≢false (sym cut ∙ whole)) }
+loop-init g c = record { advances = λ is_open. advanced_nothing _ _ _ _; wire_count = omega arith; count = omega arith; failed = λ cut whole. absurd (true≢false (sym cut ∙ whole)) }
 
 pub loop-preserved : goal.loop-preserved
 loop-preserved g c =
     let was = c.loop.invariant in
     let next = c.in_ok-turned.ensures in
     record {
-      advances = advanced_open _ _ _ _ _ _ _ (advanced_both _ _ _ _ _ _ _ _ _ _ _ was.advances next.ok);
+      advances = λ is_open. advanced_open _ _ _ _ _ _ _ _ (advanced_both _ _ _ _ _ _ _ _ _ _ _ _ (was.advances is_open) (next.ok is_open));
       wire_count = omega (arith, was.wire_count, next.wire_count);
       count = omega (arith, was.count, next.count);
       failed = rose_both _ _ _ _ _ _ was.failed was.count next.failed next.count;
     }
 
 pub returns-then-is_some-clause-ok : goal.returns-then-is_some-clause-ok
-returns-then-is_some-clause-ok g c = advanced_open _ _ _ _ _ _ _ (advanced_both _ _ _ _ _ _ _ _ _ _ _ c.loop.invariant.advances c.in_ok-turned.ensures.ok)
+returns-then-is_some-clause-ok g c = λ is_open. advanced_open _ _ _ _ _ _ _ _ (advanced_both _ _ _ _ _ _ _ _ _ _ _ _ (c.loop.invariant.advances is_open) (c.in_ok-turned.ensures.ok is_open))
 
 pub returns-in_err-turned-clause-err : goal.returns-in_err-turned-clause-err
 returns-in_err-turned-clause-err g c =
     let p = err_from_is_err_and c.from_residual.result c.from_residual.ensures.1 in
-    rw p.1 (stopped_behind _ _ _ _ _ _ _ _ c.loop.invariant.advances c.in_err-turned.ensures.err)
+    rw p.1 (λ is_open. stopped_behind _ _ _ _ _ _ _ _ _ (c.loop.invariant.advances is_open) (c.in_err-turned.ensures.err is_open))
