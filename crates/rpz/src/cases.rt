@@ -44,6 +44,9 @@ pub struct Case {
 const ONE_WORKER: &str =
     "serve --askers 2 127.0.0.1:5300 127.0.0.1:53 2 1 rpz.example@127.0.0.1:5301";
 
+const HELD_BACK: &str =
+    "serve --hold 0 --askers 2 127.0.0.1:5300 127.0.0.1:53 2 1 rpz.example@127.0.0.1:5301";
+
 /// The transfer of `rpz.example` in one message of the ID 0 behind its length: the serial 1, and the row `bad.example` CNAME `.`.
 pub const TRANSFER: &[u8] = b"\0\x9b\0\0\x84\0\0\x01\0\x03\0\0\0\0\x03rpz\x07example\0\0\xfc\0\x01\
     \x03rpz\x07example\0\0\x06\0\x01\0\0\0<\0\x16\0\0\0\0\0\x01\0\0\x0e\x10\0\0\x02X\0\x01Q\x80\0\0\0<\
@@ -87,7 +90,7 @@ const REFUSED: &[u8] = b"\0\x07\xa0\x85\0\x01\0\0\0\0\0\0\x03rpz\x07example\0\0\
 /// The whole output of the first of the cases.
 pub const SERVED: &[u8] = b"taken 1 1 1\nserved 2 reply 1 silent 1 memory 0 failed 0\n";
 
-pub static CASES: [Case; 17] = [
+pub static CASES: [Case; 18] = [
     Case {
         name: "a zone that is taken",
         words: ONE_WORKER,
@@ -536,6 +539,36 @@ pub static CASES: [Case; 17] = [
         status: Status::StartFault,
         written: b"taken 1 1 1\n",
         replies: &[],
+        ordered: &[5301],
+        answered: &[],
+    },
+    Case {
+        name: "an endpoint that is held back until the zone is there",
+        words: HELD_BACK,
+        moments: &[
+            Moment {
+                datagrams: &[],
+                times: 0,
+                wake: Woken::Due,
+            },
+            Moment {
+                datagrams: &[],
+                times: 0,
+                wake: Woken::Frame(0, TRANSFER),
+            },
+            Moment {
+                datagrams: &[SHORT, DENIED],
+                times: 1,
+                wake: Woken::Due,
+            },
+        ],
+        upstream: &[GIVEN],
+        failing_bind: NEVER,
+        failing_order: NEVER,
+        failing_start: NEVER,
+        status: Status::Done,
+        written: SERVED,
+        replies: &[DENIAL],
         ordered: &[5301],
         answered: &[],
     },

@@ -2,10 +2,10 @@
 
 use crate::cases::{DENIAL, DENIED, Moment, NEVER, TRANSFER, Woken};
 use crate::outside::{Flag, Meeting, Upstream};
-use crate::runs::{Memory, datagram, flag, posts, run_line, stages};
+use crate::runs::{Memory, connection, datagram, flag, posts, run_line, stages};
 use crossbeam_channel::{Receiver, Sender, unbounded};
 use dns_name::Octets;
-use edge_io::{ListWires, Wake, WireStage};
+use edge_io::{ListSink, ListSource, ListWires, Wake, WireStage};
 use rpz_program::status::Status;
 use std::alloc::Global;
 use std::collections::VecDeque;
@@ -23,6 +23,9 @@ const TWO_ASKERS: &str =
 const ONE_ASKER: &str =
     "serve --askers 1 127.0.0.1:5300 127.0.0.1:53 2 1 rpz.example@127.0.0.1:5301";
 
+const ONE_CONNECTION: &str =
+    "serve --askers 1 127.0.0.1:5300 127.0.0.1:53 1 1 rpz.example@127.0.0.1:5301";
+
 // The zone is taken before the workers are started.
 static FIRST_PASS: [Moment; 1] = [Moment {
     datagrams: &[],
@@ -38,6 +41,14 @@ const SECOND: &[u8] = b"\0\x02\x01\0\0\x01\0\0\0\0\0\0\x01x\x07example\0\0\x01\0
 // What the upstream gives, in a message of the ID 0: 192.0.2.9.
 const GIVEN: &[u8] = b"\0\0\x81\x80\0\x01\0\x01\0\0\0\0\x01x\x07example\0\0\x01\0\x01\
     \x01x\x07example\0\0\x01\0\x01\0\0\0<\0\x04\xc0\0\x02\x09";
+
+// The first query, and then that of a name that a rule decides, as messages of one connection (RFC 1035, section 4.2.2).
+const BOTH_FRAMED: &[u8] = b"\0\x1b\0\x01\x01\0\0\x01\0\0\0\0\0\0\x01x\x07example\0\0\x01\0\x01\
+    \0\x1d\x12\x34\x01\0\0\x01\0\0\0\0\0\0\x03BAD\x07example\0\0\x01\0\x01";
+
+// The reply to the second of them, behind its length.
+const DENIAL_FRAMED: &[u8] = b"\0\x4a\x12\x34\x81\x83\0\x01\0\0\0\0\0\x01\x03BAD\x07example\0\0\x01\0\x01\
+    \x03rpz\x07example\0\0\x06\0\x01\0\0\0<\0\x16\0\0\0\0\0\x01\0\0\x0e\x10\0\0\x02X\0\x01Q\x80\0\0\0<";
 
 // The replies to both.
 const FIRST_REPLY: &[u8] = b"\0\x01\x81\x80\0\x01\0\x01\0\0\0\0\x01x\x07example\0\0\x01\0\x01\
@@ -60,12 +71,29 @@ fn upstream<R: Clock + Drop>(rt: R, asked: &Flag, replied: &Flag) -> Result<Upst
     })
 }
 
+// What comes once the zone was taken: these datagrams, and a connection with these bytes, if there are any.
+fn last_stage(
+    alloc: Global,
+    queries: &[&'static [u8]],
+    framed: &'static [u8],
+) -> Result<WireStage<ListSource, ListSink>, Fail> {
+    let mut stage = WireStage::new(alloc, Some(Wake::Due));
+    for query in queries {
+        stage.datagrams.push(datagram(alloc, query)?)?;
+    }
+    if !framed.is_empty() {
+        stage.connections.push(connection(alloc, framed)?)?;
+    }
+    Ok(stage)
+}
+
 // The question that comes first waits for a reply, which only another worker can send.
 fn wires<R: Threads + Wait + Clock + Copy + Drop + Send + Sync + 'static>(
     rt: R,
     alloc: Global,
     sender: &Sender<Octets>,
-    queries: [&'static [u8]; 2],
+    queries: &[&'static [u8]],
+    framed: &'static [u8],
 ) -> Result<Memory<R>, Fail> {
     let (asked, replied) = (flag(alloc)?, flag(alloc)?);
     let (mut links, mut backs) = (VecDeque::new(alloc), VecDeque::new(alloc));
@@ -74,11 +102,7 @@ fn wires<R: Threads + Wait + Clock + Copy + Drop + Send + Sync + 'static>(
         backs.push_back(posts(rt, alloc, sender, &replied)?)?;
     }
     let mut stages = stages(alloc, &FIRST_PASS)?;
-    let mut stage = WireStage::new(alloc, Some(Wake::Due));
-    for query in queries {
-        stage.datagrams.push(datagram(alloc, query)?)?;
-    }
-    stages.push_back(stage)?;
+    stages.push_back(last_stage(alloc, queries, framed)?)?;
     let wires = ListWires::new(
         rt,
         alloc,
@@ -116,11 +140,12 @@ fn meet<R: Threads + Wait + Abort + Clock + RandomSource + Copy + Drop + Send + 
     rt: R,
     alloc: Global,
     line: &str,
-    queries: [&'static [u8]; 2],
+    queries: &[&'static [u8]],
+    framed: &'static [u8],
     expected: [&'static [u8]; 2],
 ) -> Result<(), Fail> {
     let (sender, replies) = unbounded(alloc)?;
-    let mut wires = wires(rt, alloc, &sender, queries)?;
+    let mut wires = wires(rt, alloc, &sender, queries, framed)?;
     let (status, _written) = run_line(rt, alloc, line, &mut wires, NEVER, NEVER)?;
     assert_eq!(rt; status, Status::Done);
     assert_both(&rt, &replies, expected)
@@ -132,7 +157,8 @@ fn workers_that_ask_run_beside_each_other(rt: HostRuntime) -> Result<(), Fail> {
         rt,
         rt.alloc(),
         TWO_ASKERS,
-        [FIRST, SECOND],
+        &[FIRST, SECOND],
+        &[],
         [FIRST_REPLY, SECOND_REPLY],
     )
 }
@@ -144,7 +170,21 @@ fn what_a_rule_decides_waits_for_no_question(rt: HostRuntime) -> Result<(), Fail
         rt,
         rt.alloc(),
         ONE_ASKER,
-        [FIRST, DENIED],
+        &[FIRST, DENIED],
+        &[],
         [FIRST_REPLY, DENIAL],
+    )
+}
+
+// The same of the next message of a connection, which doesn't wait for the one before it (RFC 7766, section 6.2.1.1).
+#[test]
+fn a_message_waits_for_no_question_of_its_connection(rt: HostRuntime) -> Result<(), Fail> {
+    meet(
+        rt,
+        rt.alloc(),
+        ONE_CONNECTION,
+        &[],
+        BOTH_FRAMED,
+        [FIRST_REPLY, DENIAL_FRAMED],
     )
 }

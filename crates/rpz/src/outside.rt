@@ -4,9 +4,11 @@ ghost use Rattle.std.specs.Prelude.{◌≡◌, None, ⊤};
 
 use crossbeam_channel::Sender;
 use dns_name::Octets;
-use edge_io::{Endpoint, Link, LinkError, ListSink, ListSource, Replies, SendError, StreamEnd};
+use edge_io::{
+    Deadline, Endpoint, Link, LinkError, ListSink, ListSource, Replies, SendError, StreamEnd,
+};
 use ip_prefix::Transport;
-use std::alloc::Global;
+use std::alloc::{AllocError, Global};
 use std::sync::atomic::{AtomicBool, Ordering};
 use std::sync::{Arc, Wait};
 use std::thread;
@@ -18,7 +20,7 @@ pub type Flag = Arc<AtomicBool, Global>;
 /// How long a link waits at most, in milliseconds.
 const MOST_TURNS: u32 = 10_000;
 
-/// Replies that a channel takes. Each sets a flag.
+/// Replies that a channel takes, and what was written on connections. Each sets a flag.
 #[derive(Drop)]
 pub struct Posts<R: Wait + Drop> {
     pub rt: R,
@@ -41,19 +43,28 @@ impl<R: Wait + Drop> Replies<ListSource, ListSink> for Posts<R> {
         _transport: Transport,
         bytes: &[u8],
     ) -> Result<(), SendError> {
+        if self.post(bytes)? {
+            return Ok(());
+        }
+        self.faults = self.faults.saturating_add(1);
+        Err(SendError::Failed)
+    }
+
+    fn close(&mut self, _source: ListSource, sink: ListSink, _end: StreamEnd) {
+        let _ = self.post(&sink.bytes);
+    }
+}
+
+impl<R: Wait + Drop> Posts<R> {
+    // Posts these bytes, and says whether somebody takes them.
+    fn post(&mut self, bytes: &[u8]) -> Result<bool, AllocError>
+        ensures { self.new.faults ≡ self.old.faults }
+    {
         let reply = Octets::from_slice(self.alloc, bytes)?;
         let sent = self.sender.send(&self.rt, reply);
         self.replied.store(true, Ordering::SeqCst);
-        match sent {
-            Ok(()) => Ok(()),
-            Err(_) => {
-                self.faults = self.faults.saturating_add(1);
-                Err(SendError::Failed)
-            }
-        }
+        Ok(sent.is_ok())
     }
-
-    fn close(&mut self, _source: ListSource, _sink: ListSink, _end: StreamEnd) {}
 }
 
 /// What the first question of several links waits for: that a reply was sent.
@@ -106,6 +117,9 @@ impl<R: Clock + Drop> Link for Upstream<R> {
     ghost gave = { λ sent received now. ⊤ };
 
     ghost faults = { λ link. link.faults };
+
+    // its waits have a limit of their own
+    fn keep_to(&mut self, _deadline: Deadline) {}
 
     fn exchange(&mut self, alloc: Global, _sent: &[u8], _now: u32) -> Result<Octets, LinkError> {
         match self.next() {

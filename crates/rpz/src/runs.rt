@@ -8,7 +8,7 @@ use edge_io::{
     Arrival, Bytes, Endpoint, ListClock, ListIds, ListSink, ListSource, ListWires, Order,
     SentOrder, SentReply, TaskSpawner, Wake, WireStage, Wires,
 };
-use ip_prefix::Addr;
+use ip_prefix::{Addr, Transport};
 use rpz_program::run::run;
 use rpz_program::status::Status;
 use rpz_workers::Report;
@@ -53,6 +53,21 @@ pub fn datagram(alloc: Global, bytes: &[u8]) -> Result<Arrival<ListSource, ListS
     })
 }
 
+/// A connection of 192.0.2.8, on which these bytes come.
+pub fn connection(
+    alloc: Global,
+    bytes: &[u8],
+) -> Result<Arrival<ListSource, ListSink>, AllocError> {
+    Ok(Arrival::Connection {
+        source: ListSource::new(bytes.to_vec(alloc)?, 8_192, Vec::new(alloc)),
+        sink: ListSink::new(Vec::new(alloc), 8_192, Vec::new(alloc)),
+        client: Endpoint {
+            addr: Addr::V4(0xc000_0208),
+            port: 53_000,
+        },
+    })
+}
+
 // The message of a frame.
 fn message_in(frame: &'static [u8]) -> &'static [u8] {
     match frame {
@@ -77,6 +92,7 @@ fn wake_of(alloc: Global, woken: &Woken) -> Result<Option<Wake>, AllocError> {
                 addr: Addr::V4(0x7f00_0000 + u32::from(*last)),
                 port: 53_001,
             },
+            transport: Transport::Udp,
             bytes: Octets::from_slice(alloc, bytes)?,
         },
         Woken::Fails => return Ok(None),
