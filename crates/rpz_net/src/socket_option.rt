@@ -1,7 +1,7 @@
 //! Options of sockets that std doesn't set.
 
 use libc::net as c;
-use std::net::UdpSocket;
+use std::net::{TcpListener, TcpStream, UdpSocket};
 use std::os::fd::AsRawFd;
 
 // The value of an option that is a number.
@@ -22,6 +22,25 @@ pub(crate) fn ask_receive_buffer(socket: &UdpSocket, bytes: i32) {
 pub(crate) fn ask_send_buffer(socket: &UdpSocket, bytes: i32) {
     let value = option_value(bytes);
     let _ = unsafe { c::setsockopt(socket.as_raw_fd(), c::SOL_SOCKET, c::SO_SNDBUF, &value, 4) };
+}
+
+/// Asks the system to keep so many bytes of a connection that have not gone out, likewise.
+pub(crate) fn ask_stream_send_buffer(stream: &TcpStream, bytes: i32) {
+    let value = option_value(bytes);
+    let _ = unsafe { c::setsockopt(stream.as_raw_fd(), c::SOL_SOCKET, c::SO_SNDBUF, &value, 4) };
+}
+
+/// Lets the system give a connection up where the peer takes nothing for so many milliseconds (TCP_USER_TIMEOUT, RFC 5482), also once
+/// it is closed here. Else it keeps bytes for minutes that a peer doesn't read.
+pub(crate) fn limit_unread(stream: &TcpStream, milliseconds: i32) {
+    let value = option_value(milliseconds);
+    let fd = stream.as_raw_fd();
+    let _ = unsafe { c::setsockopt(fd, c::IPPROTO_TCP, c::TCP_USER_TIMEOUT, &value, 4) };
+}
+
+/// Asks the system to keep so many new connections until they are accepted. It keeps no more than its own limit.
+pub(crate) fn ask_backlog(listener: &TcpListener, connections: i32) {
+    let _ = c::listen(listener.as_raw_fd(), connections);
 }
 
 /// Ends all waits for datagrams on the socket, those that are under way and those that begin later (SHUT_RD). Datagrams still go out.
