@@ -115,9 +115,15 @@ impl ClientConnection {
         self.end_is_near = self.end_is_near || is_end;
     }
 
-    /// The system says that the connection has failed, or that both sides have closed it.
+    /// The system says that the connection has failed.
     pub(crate) fn hear_of_failure(&mut self) {
         self.has_failed = true;
+    }
+
+    /// Whether it would read bytes, where it may.
+    pub(crate) fn wants_bytes(&self) -> bool {
+        let has_message = self.prepared.is_some() || self.received.first().is_some();
+        self.may_read && !has_message && !self.is_with_worker && !self.is_lingering
     }
 
     /// Sends what the client takes, reads some of what it has sent, where that is wanted, and says what has to be done next. It doesn't

@@ -142,6 +142,14 @@ impl ConnectionTable {
         self.gathered >= GATHERED_BYTES
     }
 
+    /// Whether a connection would read bytes, where it may.
+    pub(crate) fn wants_bytes(&self, index: usize) -> bool {
+        match self.places.get(index) {
+            Some(Some(connection)) => connection.wants_bytes(),
+            _ => false,
+        }
+    }
+
     /// Puts a connection among those that wait for the same.
     pub(crate) fn sort(&mut self, index: usize, now: Instant) {
         let Some(connection) = self.get_mut(index) else {

@@ -43,9 +43,11 @@ pub const OUTBOX_BYTES: usize = 8 * (FRAME_MAX + 2);
 /// no more are taken, so that the memory is bounded also before that is done.
 pub const OUTBOX_BYTES_ALL: u64 = 64 << 20;
 
-/// The bytes of replies that the system is asked to keep of one connection until the client has them (SO_SNDBUF). Else it may keep
-/// megabytes of each that doesn't read.
+/// The bytes of replies that the system is asked to keep of one connection until the client has them (SO_SNDBUF), and those of messages
+/// until they are read here (SO_RCVBUF). Else it may keep megabytes of each.
 pub const CLIENT_SEND_BUFFER: i32 = 128 << 10;
+
+pub const CLIENT_RECEIVE_BUFFER: i32 = 64 << 10;
 
 /// Milliseconds after which the system gives up a connection whose client takes nothing, also one that is closed here: as many as
 /// `OUTBOX_SECONDS`.

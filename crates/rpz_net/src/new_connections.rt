@@ -4,10 +4,9 @@ use crate::address::endpoint_of;
 use crate::client_connection::ClientConnection;
 use crate::client_counts::Client;
 use crate::connection_changes::ConnectionPlace;
-use crate::limits::{ACCEPT_RUN, CLIENT_SEND_BUFFER, UNREAD_MILLISECONDS};
+use crate::limits::ACCEPT_RUN;
 use crate::reception::{FIRST, Reception, TurnError};
 use crate::shared_connection::SharedConnection;
-use crate::socket_option::{ask_stream_send_buffer, limit_unread};
 use edge_io::Endpoint;
 use mio::unix::SourceFd;
 use mio::{Interest, Registry, Token};
@@ -74,7 +73,7 @@ impl<R: time::Clock + Wait + Copy + Drop> Reception<R> {
         place: ConnectionPlace,
     ) -> Option<Arc<SharedConnection>> {
         let token = Token(place.index.saturating_add(FIRST));
-        set_options(&stream).ok()?;
+        stream.set_nonblocking(true).ok()?;
         register(self.sockets.poll.registry(), &stream, token).ok()?;
         let changes = Arc::try_clone(&self.service.changes).ok()?;
         let shared = SharedConnection::new(self.alloc, stream, peer, place, changes);
@@ -83,15 +82,6 @@ impl<R: time::Clock + Wait + Copy + Drop> Reception<R> {
         let is_added = self.service.peers.lock(&self.rt).add(again);
         is_added.then_some(shared)
     }
-}
-
-// No call on the socket waits. What is written goes out at once, and waits for no acknowledgement of what was written before
-// (TCP_NODELAY).
-fn set_options(stream: &TcpStream) -> io::Result<()> {
-    ask_stream_send_buffer(stream, CLIENT_SEND_BUFFER);
-    limit_unread(stream, UNREAD_MILLISECONDS);
-    stream.set_nodelay(true)?;
-    stream.set_nonblocking(true)
 }
 
 // Both what comes and that more may be written is reported, each time anew.

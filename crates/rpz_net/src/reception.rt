@@ -106,11 +106,12 @@ impl<R: time::Clock + Wait + Copy + Drop> Reception<R> {
         }
     }
 
-    // Waits until something new is there, takes new connections, and looks at those on which something happened.
+    // Waits until something new is there, looks at the connections on which something happened, and takes new ones. Those that have
+    // ended give their places up before.
     fn turn(&mut self) -> Result<(), TurnError> {
         let now = self.wait(self.longest_wait())?;
-        let accepted = self.accept_some(now);
         self.attend_pending(now);
+        let accepted = self.accept_some(now);
         self.hand_on(now);
         self.limit_outboxes();
         accepted
@@ -221,12 +222,7 @@ impl<R: time::Clock + Wait + Copy + Drop> Reception<R> {
 
     // What has to be done next for a connection.
     fn step(&mut self, index: usize, now: Instant) -> Next {
-        if self.table.is_full()
-            && let Some(oldest) = self.table.oldest_begun()
-        {
-            self.close(oldest);
-        }
-        let may_gather = !self.table.is_full();
+        let may_gather = self.make_room(index);
         let Some(connection) = self.table.get_mut(index) else {
             return Next::Wait;
         };
@@ -236,6 +232,18 @@ impl<R: time::Clock + Wait + Copy + Drop> Reception<R> {
         let is_late = connection.is_late(now);
         self.table.count_gathered(before, after);
         if is_late { Next::Close } else { next }
+    }
+
+    // Whether a connection may gather bytes. Where all have gathered as much as they may, and this one wants more, the one gives way that
+    // has waited longest for the rest of a message.
+    fn make_room(&mut self, index: usize) -> bool {
+        if self.table.is_full()
+            && self.table.wants_bytes(index)
+            && let Some(oldest) = self.table.oldest_begun()
+        {
+            self.close(oldest);
+        }
+        !self.table.is_full()
     }
 
     // Passes a NOTIFY on to the thread that has the wires. It takes one of the turns, as each arrival does.
@@ -374,10 +382,9 @@ fn hear(table: &mut ConnectionTable, token: Token, event: &Event) {
         return;
     };
     if let Some(connection) = table.get_mut(index) {
-        if event.is_error() || event.is_write_closed() {
+        if event.is_error() {
             connection.hear_of_failure();
-        }
-        if event.is_readable() || event.is_read_closed() {
+        } else if event.is_readable() || event.is_read_closed() {
             connection.hear(event.is_read_closed());
         }
         table.pending.push(index);

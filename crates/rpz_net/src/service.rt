@@ -6,7 +6,7 @@ use crate::connection_inlet::ConnectionInlet;
 use crate::connection_table::ConnectionTable;
 use crate::datagram_inlet::DatagramInlet;
 use crate::limits::{
-    ARRIVAL_SECONDS, BACKLOG, CONNECTION_QUEUE, EVENTS, RECEIVE_BUFFER, RECEIVE_BYTES, SEND_BUFFER,
+    ARRIVAL_SECONDS, CONNECTION_QUEUE, EVENTS, RECEIVE_BUFFER, RECEIVE_BYTES, SEND_BUFFER,
     WAKE_SECONDS,
 };
 use crate::notices::{Notice, NoticeReceiver, NoticeSender, Noticed, notices};
@@ -14,7 +14,7 @@ use crate::orders::Orders;
 use crate::reception::{CONNECTIONS, Reception, ReceptionSockets, WAKES};
 use crate::server_replies::ServerReplies;
 use crate::service_state::ServiceState;
-use crate::socket_option::{ask_backlog, ask_receive_buffer, ask_send_buffer};
+use crate::socket_option::{ask_receive_buffer, ask_send_buffer, prepare_listener};
 use crate::stretch::Stretch;
 use crate::thread_starter::{Job, ThreadStarter};
 use crate::time_limit::{moment_after, time_until};
@@ -78,7 +78,7 @@ fn open_sockets<R: Net<Listener = TcpListener, Stream = TcpStream>>(
     let listener = rt.bind(address_of(at))?;
     udp.set_read_timeout(Some(Duration::from_secs(ARRIVAL_SECONDS)))?;
     listener.set_nonblocking(true)?;
-    ask_backlog(&listener, BACKLOG);
+    prepare_listener(&listener);
     ask_receive_buffer(&udp, RECEIVE_BUFFER);
     ask_send_buffer(&udp, SEND_BUFFER);
     let poll = Poll::new(rt)?;

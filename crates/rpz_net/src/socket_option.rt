@@ -1,7 +1,8 @@
 //! Options of sockets that std doesn't set.
 
+use crate::limits::{BACKLOG, CLIENT_RECEIVE_BUFFER, CLIENT_SEND_BUFFER, UNREAD_MILLISECONDS};
 use libc::net as c;
-use std::net::{TcpListener, TcpStream, UdpSocket};
+use std::net::{TcpListener, UdpSocket};
 use std::os::fd::AsRawFd;
 
 // The value of an option that is a number.
@@ -24,23 +25,23 @@ pub(crate) fn ask_send_buffer(socket: &UdpSocket, bytes: i32) {
     let _ = unsafe { c::setsockopt(socket.as_raw_fd(), c::SOL_SOCKET, c::SO_SNDBUF, &value, 4) };
 }
 
-/// Asks the system to keep so many bytes of a connection that have not gone out, likewise.
-pub(crate) fn ask_stream_send_buffer(stream: &TcpStream, bytes: i32) {
-    let value = option_value(bytes);
-    let _ = unsafe { c::setsockopt(stream.as_raw_fd(), c::SOL_SOCKET, c::SO_SNDBUF, &value, 4) };
-}
-
-/// Lets the system give a connection up where the peer takes nothing for so many milliseconds (TCP_USER_TIMEOUT, RFC 5482), also once
-/// it is closed here. Else it keeps bytes for minutes that a peer doesn't read.
-pub(crate) fn limit_unread(stream: &TcpStream, milliseconds: i32) {
-    let value = option_value(milliseconds);
-    let fd = stream.as_raw_fd();
-    let _ = unsafe { c::setsockopt(fd, c::IPPROTO_TCP, c::TCP_USER_TIMEOUT, &value, 4) };
-}
-
-/// Asks the system to keep so many new connections until they are accepted. It keeps no more than its own limit.
-pub(crate) fn ask_backlog(listener: &TcpListener, connections: i32) {
-    let _ = c::listen(listener.as_raw_fd(), connections);
+/// Prepares a listener for connections of clients, which have its options (`limits` has their numbers): how many of them the system
+/// keeps until they are accepted; how many bytes it keeps of each that were not read here (SO_RCVBUF) or by the client (SO_SNDBUF); how
+/// long it keeps these (TCP_USER_TIMEOUT, RFC 5482), also once the connection is closed here; and that what is written goes out at once,
+/// and waits for no acknowledgement of what was written before (TCP_NODELAY).
+pub(crate) fn prepare_listener(listener: &TcpListener) {
+    let fd = listener.as_raw_fd();
+    let received = option_value(CLIENT_RECEIVE_BUFFER);
+    let sent = option_value(CLIENT_SEND_BUFFER);
+    let unread = option_value(UNREAD_MILLISECONDS);
+    let at_once = option_value(1);
+    unsafe {
+        let _ = c::setsockopt(fd, c::SOL_SOCKET, c::SO_RCVBUF, &received, 4);
+        let _ = c::setsockopt(fd, c::SOL_SOCKET, c::SO_SNDBUF, &sent, 4);
+        let _ = c::setsockopt(fd, c::IPPROTO_TCP, c::TCP_USER_TIMEOUT, &unread, 4);
+        let _ = c::setsockopt(fd, c::IPPROTO_TCP, c::TCP_NODELAY, &at_once, 4);
+    }
+    let _ = c::listen(fd, BACKLOG);
 }
 
 /// Ends all waits for datagrams on the socket, those that are under way and those that begin later (SHUT_RD). Datagrams still go out.
