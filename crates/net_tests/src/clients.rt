@@ -2,13 +2,11 @@
 
 ghost use Rattle.std.specs.Prelude.{◌≤◌, length};
 
+use crate::connections::serve_next;
 use crate::loopback::at;
-use edge_io::{
-    Arrival, FRAME_MAX, FrameError, FrameFault, Inlet, Received, Sink, Wires, read_frame,
-    write_frame,
-};
-use rpz_net::limits::{CLIENT_BUFFER, FRAME_SECONDS};
-use rpz_net::{NetWires, TcpSink, TcpSource, address_of};
+use edge_io::{Arrival, Inlet, Received, Replies, Sink, Source, Wires};
+use rpz_net::limits::{IDLE_SECONDS, MESSAGE_SECONDS};
+use rpz_net::{NetWires, address_of};
 use std::alloc::Global;
 use std::io::{Read, Write};
 use std::net::{Net, TcpListener, TcpStream};
@@ -16,7 +14,8 @@ use std::test::Fail;
 use std::time::{Duration, Instant};
 use std::{io, thread, time};
 
-// A client that sends these bytes to the wires, which serve this port from then on, and both sides of its connection, as it comes.
+// A client that sends these bytes to the wires, which serve this port from then on, and the writing side of its connection, as it
+// comes.
 fn arrive<R: Net<Listener = TcpListener, Stream = TcpStream>, W: Wires>(
     rt: &R,
     wires: &mut W,
@@ -30,72 +29,6 @@ fn arrive<R: Net<Listener = TcpListener, Stream = TcpStream>, W: Wires>(
         Received::Arrival(Arrival::Connection { source, sink, .. }) => Ok((client, source, sink)),
         _ => Err("a connection".into()),
     }
-}
-
-// Whether reading a frame fails, and how long it takes. The connection is closed then.
-fn read_fails<R: time::Clock + Drop>(
-    rt: &R,
-    alloc: Global,
-    mut source: TcpSource<R>,
-    sink: TcpSink<R>,
-) -> io::Result<(bool, Duration)> {
-    let start = Instant::now(rt)?;
-    let read = read_frame(alloc, &mut source);
-    drop(source);
-    drop(sink);
-    let failed = matches!(read, Err(FrameError::Fault(FrameFault::ReadFault)));
-    Ok((failed, start.elapsed(rt)?))
-}
-
-// Sends a byte each 40 milliseconds, until the peer has closed, for twice the limit of a client at most.
-fn drip<R: time::Clock>(rt: &R, mut stream: &TcpStream) -> io::Result<()> {
-    for _ in 0..50 * FRAME_SECONDS {
-        thread::sleep(rt, Duration::from_millis(40));
-        stream.write_all(b"x")?;
-    }
-    Ok(())
-}
-
-// What is read ahead of a long message comes at once, and then a byte of the rest after another.
-#[test]
-fn a_message_that_drips_has_its_limit(rt: HostRuntime) -> Result<(), Fail> {
-    let alloc: Global = rt.alloc();
-    let mut wires = NetWires::new(rt, alloc);
-    let (client, source, sink) = arrive(&rt, &mut wires, 29154, &[0x20; CLIENT_BUFFER])?;
-    let (dripped, read) = thread::join(
-        &rt,
-        || drip(&rt, &client),
-        || read_fails(&rt, alloc, source, sink),
-    );
-    let (failed, took) = read?;
-    assert!(rt; failed);
-    let limit = Duration::from_secs(FRAME_SECONDS);
-    assert!(rt; took >= limit - Duration::from_millis(20), "{took:?}");
-    assert!(rt; dripped.is_err());
-    Ok(())
-}
-
-// Frames are written to a client that reads none: once the system keeps no more of them, one fails.
-#[test]
-fn a_client_that_reads_nothing_has_its_limit(rt: HostRuntime) -> Result<(), Fail> {
-    let mut wires = NetWires::new(rt, rt.alloc());
-    let (_client, _source, mut sink) = arrive(&rt, &mut wires, 29156, b"\0\x02hi")?;
-    let message = vec![in rt.alloc(); 0; 60_000]?;
-    assert_eq!(rt; message.len(), 60_000);
-    assert!(rt; write_fails(&mut sink, &message));
-    Ok(())
-}
-
-// Whether one of many frames can't be written.
-fn write_fails<R: time::Clock + Drop>(sink: &mut TcpSink<R>, message: &[u8]) -> bool
-    requires { length message.now ≤ FRAME_MAX }
-{
-    for _ in 0..400u32 {
-        if write_frame(sink, message).is_err() {
-            return true;
-        }
-    }
-    false
 }
 
 #[test]
@@ -124,4 +57,112 @@ fn read_four(mut client: &TcpStream) -> io::Result<[u8; 4]> {
     let mut bytes = [0; 4];
     client.read_exact(&mut bytes)?;
     Ok(bytes)
+}
+
+// Sends a byte of a long message each 40 milliseconds, until the peer has closed, for twice the limit at most.
+fn drip<R: time::Clock>(rt: &R, mut stream: &TcpStream) -> io::Result<Duration> {
+    stream.write_all(&60_000u16.to_be_bytes())?;
+    let start = Instant::now(rt)?;
+    for _ in 0..50 * MESSAGE_SECONDS {
+        thread::sleep(rt, Duration::from_millis(40));
+        if stream.write_all(b"x").is_err() {
+            break;
+        }
+    }
+    start.elapsed(rt)
+}
+
+// How long a connection stays on which nothing is sent.
+fn stays<R: time::Clock>(rt: &R, mut stream: &TcpStream) -> io::Result<Duration> {
+    let start = Instant::now(rt)?;
+    let _ = stream.read(&mut [0; 8])?;
+    start.elapsed(rt)
+}
+
+#[test]
+fn slow_clients_have_their_limits(rt: HostRuntime) -> Result<(), Fail> {
+    let mut wires = NetWires::new(rt, rt.alloc());
+    wires.bind(at(29154))?;
+    let slow = rt.connect(address_of(at(29154)))?;
+    let silent = rt.connect(address_of(at(29154)))?;
+    let (dripped, stayed) = thread::join(&rt, || drip(&rt, &slow), || stays(&rt, &silent));
+    assert!(rt; is_near(dripped?, MESSAGE_SECONDS));
+    assert!(rt; is_near(stayed?, IDLE_SECONDS));
+    Ok(())
+}
+
+// Whether it took so many seconds, and at most one more.
+fn is_near(took: Duration, seconds: u64) -> bool {
+    let limit = Duration::from_secs(seconds);
+    took >= limit.saturating_sub(Duration::from_millis(20))
+        && took < limit.saturating_add(Duration::from_secs(1))
+}
+
+// Clients that send the half of a message, and others that read no reply to messages of 60,000 bytes. One worker serves all, and a
+// client that is well.
+#[test]
+fn no_client_holds_a_worker(rt: HostRuntime) -> Result<(), Fail> {
+    let alloc: Global = rt.alloc();
+    let mut wires = NetWires::new(rt, alloc);
+    wires.bind(at(29156))?;
+    let mut halves: Vec<TcpStream> = Vec::new(alloc);
+    let mut unread: Vec<TcpStream> = Vec::new(alloc);
+    let message = long_frame(alloc)?;
+    for _ in 0..32u32 {
+        halves.push(begin(&rt, &message[..4_200])?)?;
+        unread.push(begin(&rt, &message)?)?;
+    }
+    let start = Instant::now(&rt)?;
+    let served = serve_many(&rt, alloc, &mut wires)?;
+    let took = start.elapsed(&rt)?;
+    assert_eq!(rt; served, 33);
+    assert!(rt; took < Duration::from_secs(5), "{took:?}");
+    drop(halves);
+    drop(unread);
+    Ok(())
+}
+
+fn long_frame(alloc: Global) -> Result<Vec<u8>, Fail> {
+    let mut frame = vec![in alloc; 0; 60_002]?;
+    frame[..2].copy_from_slice(&60_000u16.to_be_bytes());
+    Ok(frame)
+}
+
+// A client that sends this.
+fn begin<R: Net<Stream = TcpStream>>(rt: &R, bytes: &[u8]) -> io::Result<TcpStream> {
+    let mut client = rt.connect(address_of(at(29156)))?;
+    client.write_all(bytes)?;
+    Ok(client)
+}
+
+// Serves as many connections as send whole messages, and then one more: how many.
+fn serve_many<R: Net<Stream = TcpStream>, W: Wires>(
+    rt: &R,
+    alloc: Global,
+    wires: &mut W,
+) -> Result<u32, Fail> {
+    let mut inlet = wires.connections()?;
+    let mut replies = wires.replies()?;
+    let unread = serve_count(alloc, &mut inlet, &mut replies, 32);
+    let client = begin(rt, b"\0\x02hi")?;
+    let last = serve_count(alloc, &mut inlet, &mut replies, 1);
+    if read_four(&client)? != *b"\0\x02hi" {
+        return Err("a reply".into());
+    }
+    Ok(unread.saturating_add(last))
+}
+
+fn serve_count<S: Source + Drop, K: Sink + Drop, I: Inlet<S, K>, P: Replies<S, K>>(
+    alloc: Global,
+    inlet: &mut I,
+    replies: &mut P,
+    most: u32,
+) -> u32 {
+    let mut served = 0u32;
+    for _ in 0..most {
+        if serve_next(alloc, inlet, replies, true).is_some() {
+            served = served.saturating_add(1);
+        }
+    }
+    served
 }

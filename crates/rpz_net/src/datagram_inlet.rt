@@ -1,15 +1,16 @@
 //! Where a worker takes datagrams from.
 
 use crate::address::endpoint_of;
+use crate::client_sink::ClientSink;
+use crate::client_source::ClientSource;
 use crate::datagram::is_notify;
 use crate::limits::{DATAGRAM_MAX, PASSED_RUN, PASSING_ERRORS, SHORTAGE_MILLISECONDS};
-use crate::notices::{Notice, NoticeSender};
+use crate::notices::NoticeSender;
 use crate::service_state::ServiceState;
 use crate::shortage::is_shortage;
-use crate::tcp_sink::TcpSink;
-use crate::tcp_source::TcpSource;
 use dns_name::Octets;
 use edge_io::{Arrival, Endpoint, Inlet, Received};
+use ip_prefix::Transport;
 use std::alloc::{AllocError, Global};
 use std::sync::{Arc, Wait};
 use std::time::Duration;
@@ -108,11 +109,8 @@ impl<R: time::Clock + Wait + Drop> DatagramInlet<R> {
         let Some(notices) = &self.notices else {
             return false;
         };
-        let Some(origin) = notices.admit(&self.rt, peer) else {
-            return false;
-        };
         match Octets::from_slice(self.alloc, bytes) {
-            Ok(bytes) => notices.offer(&self.rt, origin, Notice { peer, bytes }),
+            Ok(bytes) => notices.pass_on(&self.rt, peer, Transport::Udp, bytes),
             Err(_) => false,
         }
     }
@@ -132,8 +130,8 @@ impl<R: time::Clock + Wait + Drop> DatagramInlet<R> {
     }
 }
 
-impl<R: time::Clock + Wait + Drop> Inlet<TcpSource<R>, TcpSink<R>> for DatagramInlet<R> {
-    fn next(&mut self) -> Received<TcpSource<R>, TcpSink<R>> {
+impl<R: time::Clock + Wait + Drop> Inlet<ClientSource<R>, ClientSink<R>> for DatagramInlet<R> {
+    fn next(&mut self) -> Received<ClientSource<R>, ClientSink<R>> {
         for _ in 0..PASSED_RUN {
             match self.step() {
                 Step::Datagram { peer, bytes } => {

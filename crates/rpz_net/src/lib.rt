@@ -1,30 +1,45 @@
 //! The edge of a server over the system's sockets, clock and random numbers: the wires of `edge_io` over a UDP socket and a TCP
-//! listener, the two sides of a TCP connection, a link to the upstream, a place for replies, a clock and IDs.
+//! listener, the two sides of a TCP connection to a server and of one of a client, a link to the upstream, a place for replies, a clock
+//! and IDs.
 //!
 //! Each counts its faults, and tells nothing of what the network gives or takes. Every wait has a limit, in `limits`. No thread that
 //! answers clients waits for one of them, nor does the thread that has the wires.
 #![tactic(auto)]
 
 mod address;
+mod client_connection;
+mod client_counts;
+mod client_phase;
+mod client_sink;
+mod client_source;
 mod connection;
+mod connection_changes;
 mod connection_inlet;
+mod connection_table;
 mod datagram;
 mod datagram_inlet;
 mod frame_gauge;
 pub mod limits;
+mod message_buffer;
 mod net_wires;
+mod new_connections;
 mod notices;
 mod notifiers;
 mod order_line;
 mod orders;
+mod outbox;
+mod peer_table;
+mod place_list;
 mod random_ids;
 mod read_buffer;
 mod reception;
 mod server_replies;
 mod service;
 mod service_state;
+mod shared_connection;
 mod shortage;
 mod socket_option;
+mod stretch;
 mod system_clock;
 mod tcp_link;
 mod tcp_sink;
@@ -32,11 +47,12 @@ mod tcp_source;
 mod thread_starter;
 mod time_limit;
 mod transfer;
-mod waiting;
 mod wake_signal;
 mod wire_state;
 
 pub use address::{address_of, endpoint_of};
+pub use client_sink::ClientSink;
+pub use client_source::ClientSource;
 pub use connection_inlet::ConnectionInlet;
 pub use datagram_inlet::DatagramInlet;
 pub use net_wires::NetWires;

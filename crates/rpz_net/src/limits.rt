@@ -1,13 +1,66 @@
 //! The limits of this edge, in one place.
 
-/// Seconds that a client may take for one message over TCP: for the pause before it (RFC 7766, section 6.2.3), again from its first
-/// byte to its last, and again for taking the reply.
-pub const FRAME_SECONDS: u64 = 5;
+use edge_io::FRAME_MAX;
 
-/// How many connections of clients may wait for their next message. One more takes the place of the one that would be closed first.
-pub const WAITING_CONNECTIONS: usize = 400;
+/// Seconds that a client may take for a message over TCP, from its first byte to its last (RFC 7766, section 6.2.3, has a few seconds).
+pub const MESSAGE_SECONDS: u64 = 10;
 
-/// How many connections on which a message has come may wait for a worker. Others wait among those that have none yet.
+/// Seconds that a connection of a client may be idle before the first byte of its next message.
+pub const IDLE_SECONDS: u64 = 10;
+
+/// Seconds within which a client must take some of the replies that wait for it.
+pub const OUTBOX_SECONDS: u64 = 10;
+
+/// Seconds after which a message that was given out counts as answered: there is no reply to some. A query takes 5 at most.
+pub const ANSWER_SECONDS: u64 = 6;
+
+/// Seconds that a client has to close a connection on which nothing more is written to it.
+pub const LINGER_SECONDS: u64 = 2;
+
+/// Milliseconds that clients have at the end of a service to take replies. With what comes behind, it ends within a second.
+pub const STOP_MILLISECONDS: u64 = 800;
+
+/// How many connections of clients may be open, unless something else is said, and how many of one client, which is an address of
+/// version 4 or a prefix of 64 bits of version 6.
+pub const CONNECTIONS_MOST: u32 = 1_000;
+
+pub const CLIENT_CONNECTIONS: u32 = 100;
+
+/// How many messages of a connection a worker gets at a time, before other connections have their turn.
+pub const TURN_MESSAGES: u32 = 8;
+
+/// How many messages of a connection may be without an answer. Behind them nothing is read until some are answered.
+pub const UNANSWERED_MESSAGES: u32 = 16;
+
+/// The bytes of memory that messages of all connections may take that no worker has yet. Where they take more, the connection is closed
+/// that has waited longest with a part of a message.
+pub const GATHERED_BYTES: usize = 16 << 20;
+
+/// The bytes of the replies that may wait for one client: as many as one turn can make.
+pub const OUTBOX_BYTES: usize = 8 * (FRAME_MAX + 2);
+
+/// The bytes of the replies that may wait for all clients. Where more wait, the connection is closed of which most do. At twice as many
+/// no more are taken, so that the memory is bounded also before that is done.
+pub const OUTBOX_BYTES_ALL: u64 = 64 << 20;
+
+/// The bytes of replies that the system is asked to keep of one connection until the client has them (SO_SNDBUF), and those of messages
+/// until they are read here (SO_RCVBUF). Else it may keep megabytes of each.
+pub const CLIENT_SEND_BUFFER: i32 = 128 << 10;
+
+pub const CLIENT_RECEIVE_BUFFER: i32 = 64 << 10;
+
+/// Milliseconds after which the system gives up a connection whose client takes nothing, also one that is closed here: as many as
+/// `OUTBOX_SECONDS`.
+pub const UNREAD_MILLISECONDS: i32 = 10_000;
+
+/// How many new connections of clients the system is asked to keep until they are accepted. It gives at most its own limit, on Linux
+/// `net.core.somaxconn`. Where it keeps no more, a client tries again after a second.
+pub const BACKLOG: i32 = 1_024;
+
+/// The bytes that are received of a client at a time.
+pub const RECEIVE_BYTES: usize = 65_536;
+
+/// How many connections with whole messages may wait in the queue to the workers. Others wait outside of it.
 pub const CONNECTION_QUEUE: usize = 64;
 
 /// Milliseconds between two looks at which connections have waited too long.
@@ -32,8 +85,12 @@ pub const WAKE_SECONDS: u64 = 1;
 /// server sends it again (section 3.6).
 pub const NOTIFY_QUEUE: usize = 64;
 
-/// Seconds between two NOTIFYs of one address that are looked at. Others are dropped, since each may cost a connection.
+/// Seconds in which one NOTIFY of an address is looked at, and of a primary server `PRIMARY_NOTIFIES`. Others are dropped, since each
+/// may cost a connection.
 pub const NOTIFY_SECONDS: u64 = 1;
+
+/// How many NOTIFYs of a primary server are looked at in `NOTIFY_SECONDS`: many of its zones may change at once.
+pub const PRIMARY_NOTIFIES: u32 = 64;
 
 /// Of how many primary servers NOTIFYs have a queue of their own, and of how many other addresses NOTIFYs are looked at in
 /// `NOTIFY_SECONDS`.
@@ -68,8 +125,7 @@ pub const PASSING_ERRORS: u32 = 1_000;
 /// Milliseconds after which arrivals are looked for again where the system has no descriptor or no memory left for them.
 pub const SHORTAGE_MILLISECONDS: u64 = 10;
 
-/// The bytes that are read ahead of a connection of a client, and of an answer of the upstream. A message of a client that is no
-/// longer than this, its length included, comes to a worker only when it is there whole.
+/// The bytes that are read ahead of an answer of the upstream.
 pub const CLIENT_BUFFER: usize = 4_096;
 
 /// The bytes that are read ahead of a connection to a primary server.

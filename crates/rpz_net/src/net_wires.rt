@@ -5,18 +5,18 @@ ghost use Rattle.edge_io.specs.Edge.{Rose};
 ghost use Rattle.edge_io.specs.Wired.{BlamesOrder};
 ghost use Rattle.edge_io.specs.declared.frame.TheConstants.{FRAME_MAX};
 
+use crate::client_sink::ClientSink;
+use crate::client_source::ClientSource;
 use crate::connection_inlet::ConnectionInlet;
-use crate::datagram::send_datagram;
 use crate::datagram_inlet::DatagramInlet;
 use crate::limits::{UPSTREAM_ANSWER_SECONDS, UPSTREAM_CONNECT_SECONDS};
 use crate::orders::Orders;
 use crate::server_replies::ServerReplies;
 use crate::service::Service;
 use crate::tcp_link::TcpLink;
-use crate::tcp_sink::TcpSink;
-use crate::tcp_source::TcpSource;
 use crate::thread_starter::{ThreadStarter, thread_starter};
-use edge_io::{Endpoint, Order, SendError, Wake, WireError, Wires};
+use edge_io::{ConnectionLimits, Endpoint, Order, SendError, Wake, WireError, Wires};
+use ip_prefix::Transport;
 use std::alloc::Global;
 use std::net::{Net, TcpListener, TcpStream};
 use std::sync::Wait;
@@ -40,6 +40,7 @@ pub struct NetWires<
     rt: R,
     alloc: Global,
     turns: Option<u32>,
+    admitted: Option<ConnectionLimits>,
     // Missing where the system had no room for it, and once these wires have stopped.
     starter: Option<ThreadStarter<R>>,
     service: Option<Service<R>>,
@@ -68,6 +69,7 @@ impl<
             rt,
             alloc,
             turns: None,
+            admitted: None,
             starter: thread_starter(rt, alloc).ok(),
             service: None,
             orders: Orders::new(alloc),
@@ -107,9 +109,9 @@ impl<
         + Send
         + 'static,
 > Wires for NetWires<R> {
-    type In = TcpSource<R>;
+    type In = ClientSource<R>;
 
-    type Out = TcpSink<R>;
+    type Out = ClientSink<R>;
 
     type Up = TcpLink<R>;
 
@@ -132,6 +134,13 @@ impl<
         }
     }
 
+    fn admit(&mut self, limits: ConnectionLimits) {
+        self.admitted = Some(limits);
+        if let Some(service) = &self.service {
+            service.state.admit(limits);
+        }
+    }
+
     fn bind(&mut self, at: Endpoint) -> Result<(), WireError> {
         let opened = match &self.starter {
             Some(starter) => Service::open(self.rt, self.alloc, at, self.turns, starter),
@@ -139,6 +148,9 @@ impl<
         };
         match opened {
             Ok(service) => {
+                if let Some(limits) = self.admitted {
+                    service.state.admit(limits);
+                }
                 if let Some(before) = self.service.replace(service) {
                     before.state.stop();
                 }
@@ -188,7 +200,7 @@ impl<
             count_fault(&mut self.faults);
             return Err(WireError::Failed);
         };
-        match service.connections(self.rt) {
+        match service.connections(self.rt, self.alloc) {
             Ok(inlet) => Ok(inlet),
             Err(_) => Err(WireError::OutOfMemory),
         }
@@ -233,16 +245,23 @@ impl<
         }
     }
 
-    fn answer(&mut self, peer: Endpoint, bytes: &[u8]) -> Result<(), SendError> {
-        let is_sent = match &self.service {
-            Some(service) => send_datagram(&service.state.socket, peer, bytes),
-            None => false,
+    fn answer(
+        &mut self,
+        peer: Endpoint,
+        transport: Transport,
+        bytes: &[u8],
+    ) -> Result<(), SendError> {
+        let sent = match &self.service {
+            Some(service) => service.state.send(&self.rt, peer, transport, bytes),
+            None => Err(SendError::Failed),
         };
-        if !is_sent {
-            count_fault(&mut self.faults);
-            return Err(SendError::Failed);
+        match sent {
+            Err(SendError::Failed) => {
+                count_fault(&mut self.faults);
+                Err(SendError::Failed)
+            }
+            sent => sent,
         }
-        Ok(())
     }
 
     fn stop(&mut self) {

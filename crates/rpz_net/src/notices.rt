@@ -6,15 +6,17 @@ use crate::wire_state::WireState;
 use crossbeam_channel::{Receiver, Sender, TryRecvError, bounded};
 use dns_name::Octets;
 use edge_io::Endpoint;
+use ip_prefix::Transport;
 use std::alloc::{AllocError, Global};
 use std::sync::{Arc, Wait};
 use std::time;
 use std::time::Instant;
 
-/// A NOTIFY, and who sent it.
+/// A NOTIFY, who sent it, and over which transport.
 #[derive(Drop)]
 pub(crate) struct Notice {
     pub(crate) peer: Endpoint,
+    pub(crate) transport: Transport,
     pub(crate) bytes: Octets,
 }
 
@@ -73,18 +75,33 @@ impl NoticeSender {
         })
     }
 
-    /// Whether a NOTIFY that comes now is looked at, and of whom it is; `None` where it comes too soon behind others.
-    pub(crate) fn admit<R: time::Clock + Wait>(
+    /// Hands a NOTIFY on to the thread that has the wires, and says whether it was taken: not where it comes too soon behind others, and
+    /// not where too many wait. It doesn't wait.
+    pub(crate) fn pass_on<R: time::Clock + Wait>(
         &self,
         rt: &R,
         peer: Endpoint,
-    ) -> Option<NotifyOrigin> {
+        transport: Transport,
+        bytes: Octets,
+    ) -> bool {
+        let notice = Notice {
+            peer,
+            transport,
+            bytes,
+        };
+        match self.admit(rt, peer) {
+            Some(origin) => self.offer(rt, origin, notice),
+            None => false,
+        }
+    }
+
+    // Whether a NOTIFY that comes now is looked at, and of whom it is; `None` where it comes too soon behind others.
+    fn admit<R: time::Clock + Wait>(&self, rt: &R, peer: Endpoint) -> Option<NotifyOrigin> {
         let now = Instant::now(rt).ok()?;
         self.state.notifiers.lock(rt).admit(peer.addr, now)
     }
 
-    /// Hands a NOTIFY on, and says whether it was taken: not where too many wait. It doesn't wait.
-    pub(crate) fn offer<R: Wait>(&self, rt: &R, origin: NotifyOrigin, notice: Notice) -> bool {
+    fn offer<R: Wait>(&self, rt: &R, origin: NotifyOrigin, notice: Notice) -> bool {
         let queue = match origin {
             NotifyOrigin::Primary => &self.primaries,
             NotifyOrigin::Stranger => &self.strangers,

@@ -42,36 +42,6 @@ impl ReadBuffer {
         Ok(())
     }
 
-    /// Receives what the stream has behind what was not yet read, at most as much as there is room for, and says how many bytes. It
-    /// says 0 at the end of the stream; and where there is no room, which `has_message` tells before.
-    pub(crate) fn receive_more(&mut self, mut stream: &TcpStream) -> io::Result<usize> {
-        self.bytes.copy_within(self.start..self.end, 0);
-        self.end -= self.start;
-        self.start = 0;
-        for _ in 0..u64::MAX {
-            match stream.read(&mut self.bytes[self.end..]) {
-                Ok(received) => {
-                    self.end += received;
-                    return Ok(received);
-                }
-                Err(error) if error.kind() == io::ErrorKind::Interrupted => {}
-                Err(error) => return Err(error),
-            }
-        }
-        Ok(0)
-    }
-
-    /// Whether a whole message stands in front, behind its length (RFC 1035, section 4.2.2), or the first part of one that is longer
-    /// than the room.
-    pub(crate) fn has_message(&self) -> bool {
-        match &self.bytes[self.start..self.end] {
-            waiting if waiting.len() == self.bytes.len() => true,
-            [high, low, message @ ..] => message.len()
-                >= usize::from(*high) * 256 + usize::from(*low),
-            _ => false,
-        }
-    }
-
     /// Reads into the front of `into`, and says how many bytes.
     pub(crate) fn take(&mut self, into: &mut [u8]) -> usize
         ensures { result ≤ length into.new }

@@ -1,23 +1,27 @@
 //! The thread that has the connections of clients.
 
-use crate::address::endpoint_of;
-use crate::connection::{Sides, client_sides};
+use crate::client_connection::Next;
+use crate::connection_changes::ConnectionPlace;
+use crate::connection_table::ConnectionTable;
 use crate::limits::{
-    ACCEPT_RUN, FRAME_SECONDS, LATE_MILLISECONDS, PASSING_ERRORS, SHORTAGE_MILLISECONDS,
-    WAITING_CONNECTIONS,
+    LATE_MILLISECONDS, OUTBOX_BYTES_ALL, PASSING_ERRORS, SHORTAGE_MILLISECONDS, STOP_MILLISECONDS,
+    TURN_MESSAGES,
 };
+use crate::notices::NoticeSender;
 use crate::service_state::ServiceState;
 use crate::shortage::is_shortage;
-use crate::tcp_source::Coming;
-use crate::waiting::WaitingConnections;
-use crossbeam_channel::{Receiver, Sender, TrySendError};
-use edge_io::WireError;
+use crate::stretch::Stretch;
+use crossbeam_channel::{Sender, TrySendError};
+use dns_name::Octets;
+use edge_io::Endpoint;
+use ip_prefix::Transport;
+use mio::event::Event;
 use mio::{Events, Poll, Token};
 use std::alloc::Global;
 use std::net::TcpListener;
 use std::sync::{Arc, Wait};
 use std::time::{Duration, Instant};
-use std::{io, time};
+use std::{io, mem, time};
 
 /// The token of the listener.
 pub(crate) const CONNECTIONS: Token = Token(0);
@@ -25,42 +29,53 @@ pub(crate) const CONNECTIONS: Token = Token(0);
 /// The token of what wakes the thread.
 pub(crate) const WAKES: Token = Token(1);
 
-/// The token of the first place for a connection that waits.
-pub(crate) const FIRST_WAITING: usize = 2;
+/// The token of the first connection.
+pub(crate) const FIRST: usize = 2;
 
-/// The connections of clients that are with no worker: those that the system has for this endpoint, and those that wait for their next
-/// message. A thread of its own has it. Where a message has come on one, it goes into a queue, from which workers take it, and they give
-/// it back once they have answered.
+/// The connections of clients. A thread of its own has them: it takes new ones, reads whole messages, and sends the replies that a client
+/// doesn't take at once. A connection with whole messages goes into a queue, from which workers take them, and comes back once they were
+/// read. The thread waits for nothing but its sockets, and all of them together.
 #[derive(Drop)]
-pub(crate) struct Reception<R: time::Clock + Drop> {
+pub(crate) struct Reception<R: time::Clock + Wait + Drop> {
     pub(crate) rt: R,
     pub(crate) alloc: Global,
     pub(crate) service: Arc<ServiceState>,
-    pub(crate) listener: TcpListener,
-    pub(crate) poll: Poll,
-    pub(crate) events: Events,
-    pub(crate) waiting: WaitingConnections<R>,
+    pub(crate) sockets: ReceptionSockets,
+    pub(crate) table: ConnectionTable,
     /// To the workers.
-    pub(crate) queue: Sender<Sides<R>>,
-    /// From the workers.
-    pub(crate) returned: Receiver<Sides<R>>,
+    pub(crate) queue: Sender<Stretch<R>>,
+    /// `None` once the service has stopped.
+    pub(crate) notices: Option<NoticeSender>,
+    /// What is received at a time.
+    pub(crate) scratch: Vec<u8>,
+    /// An empty list, for the connections that changed.
+    pub(crate) changed: Vec<ConnectionPlace>,
     /// New connections may be there: the system has reported them, and has not refused one since.
     pub(crate) connections_wait: bool,
-    /// When it is to be looked next which connections have waited too long.
+    /// When all connections are to be looked at next.
     pub(crate) next_look: Option<Instant>,
 }
 
-// Why a turn was cut short.
+/// What the thread waits for.
+#[derive(Drop)]
+pub(crate) struct ReceptionSockets {
+    pub(crate) listener: TcpListener,
+    pub(crate) poll: Poll,
+    pub(crate) events: Events,
+}
+
+/// Why a turn was cut short.
 #[derive(Clone, Copy, Debug, PartialEq, Eq)]
-enum TurnError {
-    // The system has no descriptor or no memory left, for now.
+pub(crate) enum TurnError {
+    /// The system has no descriptor or no memory left, for now.
     Shortage,
-    // Any other error of a socket.
+    /// Any other error of a socket.
     Socket,
 }
 
 impl TurnError {
-    fn of(error: &io::Error) -> TurnError {
+    /// What an error of a socket comes to.
+    pub(crate) fn of(error: &io::Error) -> TurnError {
         if is_shortage(error) {
             TurnError::Shortage
         } else {
@@ -76,6 +91,7 @@ impl<R: time::Clock + Wait + Copy + Drop> Reception<R> {
         let mut in_a_row = 0u32;
         for _ in 0..u64::MAX {
             if reception.service.is_stopped() {
+                reception.end();
                 return;
             }
             match reception.turn() {
@@ -90,141 +106,287 @@ impl<R: time::Clock + Wait + Copy + Drop> Reception<R> {
         }
     }
 
-    // Hands on what has come, takes new connections, and waits until something new is there.
+    // Waits until something new is there, looks at the connections on which something happened, and takes new ones. Those that have
+    // ended give their places up before.
     fn turn(&mut self) -> Result<(), TurnError> {
-        self.hand_on();
-        self.accept_some()?;
-        self.wait(self.longest_wait())
+        let now = self.wait(self.longest_wait())?;
+        self.attend_pending(now);
+        let accepted = self.accept_some(now);
+        self.hand_on(now);
+        self.limit_outboxes();
+        accepted
     }
 
-    // Where the system is short of something, the connection that would be closed first is closed, and a short wait follows.
+    // Where the system is short of something, the connection that has waited longest is closed, and a short wait follows.
     fn rest(&mut self) {
-        self.waiting.close_first();
+        let oldest = self.table.oldest_idle();
+        if let Some(index) = oldest.or(self.table.oldest_begun()) {
+            self.close(index);
+        }
         let _ = self.wait(Some(Duration::from_millis(SHORTAGE_MILLISECONDS)));
-    }
-
-    // Hands the connections on which a message has come to the workers, as long as there is room in the queue.
-    fn hand_on(&mut self) {
-        for _ in 0..WAITING_CONNECTIONS {
-            let Some(sides) = self.waiting.take_ready(self.poll.registry()) else {
-                return;
-            };
-            if !self.offer(sides) {
-                return;
-            }
-        }
-    }
-
-    // Puts a connection on which a message has come into the queue, or where that is full among those that wait. Says whether there was
-    // room in the queue.
-    fn offer(&mut self, sides: Sides<R>) -> bool {
-        self.service.want_room(true);
-        match self.queue.try_send(&self.rt, sides) {
-            Ok(()) => {
-                self.service.want_room(false);
-                true
-            }
-            Err(TrySendError::Full(sides)) => {
-                self.put_back(sides, true);
-                false
-            }
-            Err(TrySendError::Disconnected(_) | TrySendError::OutOfMemory(_)) => false,
-        }
-    }
-
-    // Takes some of the new connections.
-    fn accept_some(&mut self) -> Result<(), TurnError> {
-        for _ in 0..ACCEPT_RUN {
-            if !self.connections_wait {
-                return Ok(());
-            }
-            if let Some(mut sides) = self.accept()? {
-                match sides.0.look() {
-                    Coming::Message => {
-                        self.offer(sides);
-                    }
-                    Coming::Nothing => self.put_back(sides, false),
-                    Coming::End => {}
-                }
-            }
-        }
-        Ok(())
-    }
-
-    // A new connection, where the system has reported one and it is still there. One for which there is no room is closed.
-    fn accept(&mut self) -> Result<Option<Sides<R>>, TurnError> {
-        let limit = Duration::from_secs(FRAME_SECONDS);
-        match self.listener.accept() {
-            Ok((stream, peer)) => match client_sides(
-                self.rt,
-                self.alloc,
-                stream,
-                endpoint_of(peer),
-                limit,
-            ) {
-                Ok(sides) => Ok(Some(sides)),
-                Err(WireError::OutOfMemory) => Ok(None),
-                Err(WireError::Failed) => Err(TurnError::Socket),
-            },
-            Err(error) if error.kind() == io::ErrorKind::WouldBlock => {
-                self.connections_wait = false;
-                Ok(None)
-            }
-            Err(error) => Err(TurnError::of(&error)),
-        }
-    }
-
-    // The connection waits for its next message, or with one for room in the queue. It is closed where the clock can't be read.
-    fn put_back(&mut self, sides: Sides<R>, is_ready: bool) {
-        if let Ok(now) = Instant::now(&self.rt) {
-            self.waiting.put(self.poll.registry(), sides, now, is_ready);
-        }
     }
 
     // How long it may wait for something new.
     fn longest_wait(&self) -> Option<Duration> {
-        if self.connections_wait {
+        if self.connections_wait || self.table.pending.len() > 0 {
             Some(Duration::ZERO)
-        } else if self.waiting.is_empty() {
+        } else if self.table.count() == 0 {
             None
         } else {
             Some(Duration::from_millis(LATE_MILLISECONDS))
         }
     }
 
-    // Waits until something new is there, or for so long, and then looks at what came on connections that wait.
-    fn wait(&mut self, timeout: Option<Duration>) -> Result<(), TurnError> {
-        let polled = self.poll.poll(&mut self.events, timeout);
+    // Waits until something new is there, or for so long, and then sees which connections have to be looked at.
+    fn wait(&mut self, timeout: Option<Duration>) -> Result<Instant, TurnError> {
+        let sockets = &mut self.sockets;
+        let polled = sockets.poll.poll(&mut sockets.events, timeout);
         let (Ok(()), Ok(now)) = (polled, Instant::now(&self.rt)) else {
             return Err(TurnError::Socket);
         };
-        for event in self.events.iter() {
+        for event in self.sockets.events.iter() {
             match event.token() {
                 CONNECTIONS => self.connections_wait = true,
                 WAKES => {}
-                token => self.waiting.look(token, now),
+                token => hear(&mut self.table, token, event),
             }
         }
-        self.take_returned(now);
-        self.close_late(now);
-        Ok(())
+        self.take_changed();
+        self.look_at_all(now);
+        Ok(now)
     }
 
-    // Takes in the connections that workers gave back. What came on one since is seen as soon as it is registered.
-    fn take_returned(&mut self, now: Instant) {
+    // Sees which connections workers have changed.
+    fn take_changed(&mut self) {
+        let empty = mem::replace(&mut self.changed, Vec::new(self.alloc));
+        let mut changed = self.service.changes.take(&self.rt, empty);
+        for place in changed.iter() {
+            if let Some(connection) = self.table.get_mut(place.index)
+                && connection.shared().place() == *place
+            {
+                self.table.pending.push(place.index);
+            }
+        }
+        changed.clear();
+        self.changed = changed;
+    }
+
+    // Looks at all connections from time to time: which have waited too long, and whether anything was missed.
+    fn look_at_all(&mut self, now: Instant) {
+        if self.next_look.is_some_and(|next| now < next) {
+            return;
+        }
+        self.next_look = now.checked_add(Duration::from_millis(LATE_MILLISECONDS));
+        for index in 0..self.table.len() {
+            if self.table.has(index) {
+                self.table.pending.push(index);
+            }
+        }
+    }
+
+    // Looks at the connections on which something has happened, each once.
+    fn attend_pending(&mut self, now: Instant) {
+        for _ in 0..self.table.pending.len() {
+            let Some(index) = self.table.pending.take_first() else {
+                return;
+            };
+            self.attend(index, now);
+        }
+    }
+
+    /// Sends what one client takes, and sees to what it has sent.
+    pub(crate) fn attend(&mut self, index: usize, now: Instant) {
+        for _ in 0..TURN_MESSAGES {
+            match self.step(index, now) {
+                Next::Wait => break,
+                Next::Again => {
+                    self.table.pending.push(index);
+                    break;
+                }
+                Next::Ready => {
+                    self.table.ready.push(index);
+                    break;
+                }
+                Next::Notify => {
+                    self.pass_on(index, now);
+                    self.table.pending.push(index);
+                }
+                Next::Close => {
+                    self.close(index);
+                    return;
+                }
+            }
+        }
+        self.table.sort(index, now);
+    }
+
+    // What has to be done next for a connection.
+    fn step(&mut self, index: usize, now: Instant) -> Next {
+        let may_gather = self.make_room(index);
+        let Some(connection) = self.table.get_mut(index) else {
+            return Next::Wait;
+        };
+        let before = connection.gathered();
+        let next = connection.step(&self.rt, now, &mut self.scratch, may_gather);
+        let after = connection.gathered();
+        let is_late = connection.is_late(now);
+        self.table.count_gathered(before, after);
+        if is_late { Next::Close } else { next }
+    }
+
+    // Whether a connection may gather bytes. Where all have gathered as much as they may, and this one wants more, the one gives way that
+    // has waited longest for the rest of a message.
+    fn make_room(&mut self, index: usize) -> bool {
+        if self.table.is_full()
+            && self.table.wants_bytes(index)
+            && let Some(oldest) = self.table.oldest_begun()
+        {
+            self.close(oldest);
+        }
+        !self.table.is_full()
+    }
+
+    // Passes a NOTIFY on to the thread that has the wires. It takes one of the turns, as each arrival does.
+    fn pass_on(&mut self, index: usize, now: Instant) {
+        let Some((peer, message)) = self.take_notify(index, now) else {
+            self.close(index);
+            return;
+        };
+        if !self.service.take_turn() {
+            return;
+        }
+        let is_taken = match &self.notices {
+            Some(notices) => notices.pass_on(&self.rt, peer, Transport::Tcp, message),
+            None => false,
+        };
+        if !is_taken {
+            self.service.drop_one();
+        }
+    }
+
+    fn take_notify(&mut self, index: usize, now: Instant) -> Option<(Endpoint, Octets)> {
+        let connection = self.table.get_mut(index)?;
+        let before = connection.gathered();
+        let message = connection.take_notify(now);
+        let after = connection.gathered();
+        let peer = connection.peer();
+        self.table.count_gathered(before, after);
+        match message {
+            Ok(Some(message)) => Some((peer, Octets::from_vec(message))),
+            _ => None,
+        }
+    }
+
+    // Hands the connections with whole messages to the workers, as long as there is room in the queue.
+    fn hand_on(&mut self, now: Instant) {
+        for _ in 0..self.table.ready.len() {
+            let Some(index) = self.table.ready.first() else {
+                return;
+            };
+            if !self.offer(index, now) {
+                return;
+            }
+            self.table.ready.remove(index);
+            self.table.sort(index, now);
+        }
+    }
+
+    // Puts the messages of a connection into the queue, where there is room in it, and says whether there was.
+    fn offer(&mut self, index: usize, now: Instant) -> bool {
+        let Some(connection) = self.table.get_mut(index) else {
+            return true;
+        };
+        let before = connection.gathered();
+        let Some((stretch, count)) = connection.take_stretch(self.rt) else {
+            return true;
+        };
+        self.service.want_room(true);
+        match self.queue.try_send(&self.rt, stretch) {
+            Ok(()) => {
+                self.service.want_room(false);
+                connection.given_to_worker(count, now);
+                let after = connection.gathered();
+                self.table.count_gathered(before, after);
+                true
+            }
+            Err(TrySendError::Full(stretch)) => {
+                connection.put_stretch(stretch, count);
+                false
+            }
+            Err(TrySendError::Disconnected(_) | TrySendError::OutOfMemory(_)) => false,
+        }
+    }
+
+    // Closes the connections of which most bytes are to go out, while those of all are too many.
+    fn limit_outboxes(&mut self) {
+        for _ in 0..self.table.len() {
+            if self.service.changes.outbox_bytes() <= OUTBOX_BYTES_ALL {
+                return;
+            }
+            match self.table.fullest(&self.rt) {
+                Some(index) => self.close(index),
+                None => return,
+            }
+        }
+    }
+
+    /// Closes a connection.
+    pub(crate) fn close(&mut self, index: usize) {
+        if let Some(connection) = self.table.take(index) {
+            self.service.peers.lock(&self.rt).remove(connection.peer());
+            connection.shared().close(&self.rt);
+            drop(connection);
+        }
+    }
+
+    // The service has stopped. Replies may still go out for `STOP_MILLISECONDS`.
+    fn end(&mut self) {
+        self.notices = None;
+        let Ok(start) = Instant::now(&self.rt) else {
+            return;
+        };
+        let limit = Duration::from_millis(STOP_MILLISECONDS);
         for _ in 0..u64::MAX {
-            match self.returned.try_recv(&self.rt) {
-                Ok(sides) => self.waiting.put(self.poll.registry(), sides, now, false),
-                Err(_) => return,
+            let Ok(now) = Instant::now(&self.rt) else {
+                return;
+            };
+            self.close_done(now);
+            let left = limit.saturating_sub(now.saturating_duration_since(start));
+            if self.table.count() == 0 || left.is_zero() {
+                return;
+            }
+            let pause = left.min(Duration::from_millis(LATE_MILLISECONDS));
+            if self.wait(Some(pause)).is_err() {
+                return;
             }
         }
     }
 
-    // Closes the connections that have waited too long, where it is time to look.
-    fn close_late(&mut self, now: Instant) {
-        if self.next_look.is_none_or(|next| next <= now) {
-            self.waiting.close_late(now);
-            self.next_look = now.checked_add(Duration::from_millis(LATE_MILLISECONDS));
+    // Sends what clients take, and closes the connections of which nothing is to go out any more.
+    fn close_done(&mut self, now: Instant) {
+        for index in 0..self.table.len() {
+            let is_done = match self.table.get_mut(index) {
+                Some(connection) => connection.is_done(&self.rt, now, &mut self.scratch),
+                None => false,
+            };
+            if is_done {
+                self.close(index);
+            }
         }
+    }
+}
+
+// The system has something for a connection.
+fn hear(table: &mut ConnectionTable, token: Token, event: &Event) {
+    let Some(index) = token.0.checked_sub(FIRST) else {
+        return;
+    };
+    if let Some(connection) = table.get_mut(index) {
+        if event.is_error() {
+            connection.hear_of_failure();
+        } else if event.is_readable() || event.is_read_closed() {
+            connection.hear(event.is_read_closed());
+        }
+        table.pending.push(index);
     }
 }

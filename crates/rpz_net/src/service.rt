@@ -1,24 +1,25 @@
 //! The endpoint that is served.
 
 use crate::address::address_of;
-use crate::connection::Sides;
+use crate::connection_changes::ConnectionChanges;
 use crate::connection_inlet::ConnectionInlet;
+use crate::connection_table::ConnectionTable;
 use crate::datagram_inlet::DatagramInlet;
 use crate::limits::{
-    ARRIVAL_SECONDS, CONNECTION_QUEUE, EVENTS, FRAME_SECONDS, RECEIVE_BUFFER, SEND_BUFFER,
+    ARRIVAL_SECONDS, CONNECTION_QUEUE, EVENTS, RECEIVE_BUFFER, RECEIVE_BYTES, SEND_BUFFER,
     WAKE_SECONDS,
 };
 use crate::notices::{Notice, NoticeReceiver, NoticeSender, Noticed, notices};
 use crate::orders::Orders;
-use crate::reception::{CONNECTIONS, FIRST_WAITING, Reception, WAKES};
+use crate::reception::{CONNECTIONS, Reception, ReceptionSockets, WAKES};
 use crate::server_replies::ServerReplies;
 use crate::service_state::ServiceState;
-use crate::socket_option::{ask_receive_buffer, ask_send_buffer};
+use crate::socket_option::{ask_receive_buffer, ask_send_buffer, prepare_listener};
+use crate::stretch::Stretch;
 use crate::thread_starter::{Job, ThreadStarter};
 use crate::time_limit::{moment_after, time_until};
-use crate::waiting::WaitingConnections;
 use crate::wire_state::WireState;
-use crossbeam_channel::{Receiver, Sender, bounded, unbounded};
+use crossbeam_channel::{Receiver, Sender, bounded};
 use edge_io::{Endpoint, Wake, WireError};
 use mio::unix::SourceFd;
 use mio::{Events, Interest, Poll, Waker};
@@ -31,12 +32,11 @@ use std::{io, time};
 
 /// The endpoint that is served, as the thread has it that has the wires.
 #[derive(Drop)]
-pub(crate) struct Service<R: time::Clock + Drop> {
+pub(crate) struct Service<R: time::Clock + Wait + Drop> {
     pub(crate) state: Arc<ServiceState>,
     wires: Arc<WireState>,
-    // To the workers, and back from them.
-    queue: Receiver<Sides<R>>,
-    back: Sender<Sides<R>>,
+    // To the workers.
+    queue: Receiver<Stretch<R>>,
     notices: NoticeReceiver,
     // Kept until the service stops, since more inlets may be wanted till then.
     own: Option<NoticeSender>,
@@ -44,27 +44,27 @@ pub(crate) struct Service<R: time::Clock + Drop> {
 
 // The room that a service needs, for both of its threads.
 #[derive(Drop)]
-struct Rooms<R: time::Clock + Drop> {
+struct Rooms<R: time::Clock + Wait + Drop> {
     events: Events,
-    waiting: WaitingConnections<R>,
-    queue: (Sender<Sides<R>>, Receiver<Sides<R>>),
-    back: (Sender<Sides<R>>, Receiver<Sides<R>>),
+    scratch: Vec<u8>,
+    queue: (Sender<Stretch<R>>, Receiver<Stretch<R>>),
     notices: (NoticeSender, NoticeReceiver),
+    another: NoticeSender,
 }
 
-impl<R: time::Clock + Drop> Rooms<R> {
+impl<R: time::Clock + Wait + Drop> Rooms<R> {
     fn new(alloc: Global, wires: &Arc<WireState>) -> Result<Self, AllocError> {
         let events = Events::with_capacity(alloc, EVENTS)?;
-        let limit = Duration::from_secs(FRAME_SECONDS);
-        let waiting = WaitingConnections::new(alloc, FIRST_WAITING, limit)?;
+        let scratch = vec![in alloc; 0; RECEIVE_BYTES]?;
         let queue = bounded(alloc, CONNECTION_QUEUE)?;
-        let back = unbounded(alloc)?;
+        let notices = notices(alloc, Arc::try_clone(wires)?)?;
+        let another = notices.0.another()?;
         Ok(Rooms {
             events,
-            waiting,
+            scratch,
             queue,
-            back,
-            notices: notices(alloc, Arc::try_clone(wires)?)?,
+            notices,
+            another,
         })
     }
 }
@@ -78,6 +78,7 @@ fn open_sockets<R: Net<Listener = TcpListener, Stream = TcpStream>>(
     let listener = rt.bind(address_of(at))?;
     udp.set_read_timeout(Some(Duration::from_secs(ARRIVAL_SECONDS)))?;
     listener.set_nonblocking(true)?;
+    prepare_listener(&listener);
     ask_receive_buffer(&udp, RECEIVE_BUFFER);
     ask_send_buffer(&udp, SEND_BUFFER);
     let poll = Poll::new(rt)?;
@@ -95,7 +96,10 @@ fn shared(
     waker: Waker,
     wires: &Arc<WireState>,
 ) -> Result<(Arc<ServiceState>, Arc<ServiceState>), AllocError> {
-    let state = ServiceState::new(udp, waker, Arc::try_clone(wires)?);
+    let Ok(changes) = Arc::new(alloc, ConnectionChanges::new(alloc, waker)) else {
+        return Err(AllocError);
+    };
+    let state = ServiceState::new(alloc, udp, changes, Arc::try_clone(wires)?);
     let Ok(state) = Arc::new(alloc, state) else {
         return Err(AllocError);
     };
@@ -146,16 +150,15 @@ impl<R: Net<Listener = TcpListener, Stream = TcpStream> + time::Clock + Wait + C
         };
         let Rooms {
             events,
-            waiting,
+            scratch,
             queue: (to_workers, queue),
-            back: (back, returned),
             notices: (own, notices),
+            another,
         } = rooms;
         let service = Service {
             state,
             wires,
             queue,
-            back,
             notices,
             own: Some(own),
         };
@@ -163,12 +166,16 @@ impl<R: Net<Listener = TcpListener, Stream = TcpStream> + time::Clock + Wait + C
             rt,
             alloc,
             service: again,
-            listener,
-            poll,
-            events,
-            waiting,
+            sockets: ReceptionSockets {
+                listener,
+                poll,
+                events,
+            },
+            table: ConnectionTable::new(alloc),
             queue: to_workers,
-            returned,
+            notices: Some(another),
+            scratch,
+            changed: Vec::new(alloc),
             connections_wait: false,
             next_look: None,
         };
@@ -192,16 +199,20 @@ impl<R: time::Clock + Wait + Copy + Drop> Service<R> {
     }
 
     /// An inlet for connections.
-    pub(crate) fn connections(&self, rt: R) -> Result<ConnectionInlet<R>, AllocError> {
+    pub(crate) fn connections(
+        &self,
+        rt: R,
+        alloc: Global,
+    ) -> Result<ConnectionInlet<R>, AllocError> {
         let state = Arc::try_clone(&self.state)?;
         let queue = self.queue.clone()?;
-        Ok(ConnectionInlet::new(rt, state, queue, self.notice_sender()?))
+        let notices = self.notice_sender()?;
+        Ok(ConnectionInlet::new(rt, alloc, state, queue, notices))
     }
 
     /// A place for replies.
     pub(crate) fn replies(&self, rt: R) -> Result<ServerReplies<R>, AllocError> {
-        let state = Arc::try_clone(&self.state)?;
-        Ok(ServerReplies::new(rt, state, self.back.clone()?))
+        Ok(ServerReplies::new(rt, Arc::try_clone(&self.state)?))
     }
 
     /// Waits for the next wake, `WAKE_SECONDS` at most. `None` says that the service has failed, or that the clock can't be read.
@@ -229,7 +240,18 @@ impl<R: time::Clock + Wait + Copy + Drop> Service<R> {
             self.own = None;
         }
         match self.notices.take(rt) {
-            Noticed::Notice(Notice { peer, bytes }) => Some(Wake::Notify { peer, bytes }),
+            Noticed::Notice(notice) => {
+                let Notice {
+                    peer,
+                    transport,
+                    bytes,
+                } = notice;
+                Some(Wake::Notify {
+                    peer,
+                    transport,
+                    bytes,
+                })
+            }
             Noticed::End => Some(Wake::Ended {
                 dropped: self.state.dropped(),
             }),

@@ -1,11 +1,18 @@
 //! What the threads that serve an endpoint share.
 
+use crate::connection_changes::ConnectionChanges;
+use crate::datagram::send_datagram;
+use crate::limits::{CLIENT_CONNECTIONS, CONNECTIONS_MOST};
+use crate::peer_table::PeerTable;
+use crate::shared_connection::SharedConnection;
 use crate::socket_option::end_receiving;
 use crate::wire_state::WireState;
-use mio::Waker;
+use edge_io::{ConnectionLimits, Endpoint, SendError};
+use ip_prefix::Transport;
+use std::alloc::Global;
 use std::net::UdpSocket;
-use std::sync::Arc;
 use std::sync::atomic::{AtomicBool, AtomicU64, Ordering};
+use std::sync::{Arc, Mutex, Wait};
 
 // More than any limit.
 const NO_LIMIT: u64 = u64::MAX;
@@ -15,9 +22,14 @@ const NO_LIMIT: u64 = u64::MAX;
 pub(crate) struct ServiceState {
     /// The socket of the endpoint, which waits for datagrams.
     pub(crate) socket: UdpSocket,
-    // Wakes the thread that has the connections of clients.
-    waker: Waker,
+    /// What workers tell the thread that has the connections of clients.
+    pub(crate) changes: Arc<ConnectionChanges>,
+    /// The connections of clients. The lock is held for a look into this table, and for nothing that waits.
+    pub(crate) peers: Mutex<PeerTable>,
     wires: Arc<WireState>,
+    // How many connections of clients may be open, in all and of one client.
+    connections: AtomicU64,
+    client_connections: AtomicU64,
     // How many arrivals are given in all, or `NO_LIMIT`, and how many were asked for.
     turns: AtomicU64,
     taken: AtomicU64,
@@ -31,11 +43,19 @@ pub(crate) struct ServiceState {
 
 impl ServiceState {
     /// Nothing was given yet.
-    pub(crate) fn new(socket: UdpSocket, waker: Waker, wires: Arc<WireState>) -> Self {
+    pub(crate) fn new(
+        alloc: Global,
+        socket: UdpSocket,
+        changes: Arc<ConnectionChanges>,
+        wires: Arc<WireState>,
+    ) -> Self {
         ServiceState {
             socket,
-            waker,
+            changes,
+            peers: Mutex::new(PeerTable::new(alloc)),
             wires,
+            connections: AtomicU64::new(u64::from(CONNECTIONS_MOST)),
+            client_connections: AtomicU64::new(u64::from(CLIENT_CONNECTIONS)),
             turns: AtomicU64::new(NO_LIMIT),
             taken: AtomicU64::new(0),
             dropped: AtomicU64::new(0),
@@ -52,6 +72,48 @@ impl ServiceState {
         if turns == 0 {
             self.stop();
         }
+    }
+
+    /// At most so many connections of clients are open from now on.
+    pub(crate) fn admit(&self, limits: ConnectionLimits) {
+        let ConnectionLimits { all, of_client } = limits;
+        self.connections.store(u64::from(all), Ordering::SeqCst);
+        self.client_connections
+            .store(u64::from(of_client), Ordering::SeqCst);
+    }
+
+    /// How many connections of clients may be open.
+    pub(crate) fn connection_limits(&self) -> ConnectionLimits {
+        let all = self.connections.load(Ordering::SeqCst);
+        let of_client = self.client_connections.load(Ordering::SeqCst);
+        ConnectionLimits {
+            all: u32::try_from(all).unwrap_or(u32::MAX),
+            of_client: u32::try_from(of_client).unwrap_or(u32::MAX),
+        }
+    }
+
+    /// Sends a reply: as one datagram, or over TCP as a frame on the connection of the peer. It doesn't wait. `Failed` comes where the
+    /// datagram didn't go out, where the peer has no connection, and where that takes no more.
+    pub(crate) fn send<R: Wait>(
+        &self,
+        rt: &R,
+        peer: Endpoint,
+        transport: Transport,
+        message: &[u8],
+    ) -> Result<(), SendError> {
+        match transport {
+            Transport::Udp if send_datagram(&self.socket, peer, message) => Ok(()),
+            Transport::Udp => Err(SendError::Failed),
+            Transport::Tcp => match self.connection_of(rt, peer) {
+                Some(connection) => connection.put(rt, message),
+                None => Err(SendError::Failed),
+            },
+        }
+    }
+
+    // The connection of a peer. The lock is not held behind this.
+    fn connection_of<R: Wait>(&self, rt: &R, peer: Endpoint) -> Option<Arc<SharedConnection>> {
+        self.peers.lock(rt).find(peer)
     }
 
     /// Whether one more arrival may be given. With the last one the service stops. Without a limit nothing is counted, so that the
@@ -116,6 +178,6 @@ impl ServiceState {
 
     /// Wakes the thread that has the connections. It doesn't wait.
     pub(crate) fn wake_connections(&self) {
-        let _ = self.waker.wake();
+        self.changes.wake();
     }
 }

@@ -1,7 +1,8 @@
 //! Options of sockets that std doesn't set.
 
+use crate::limits::{BACKLOG, CLIENT_RECEIVE_BUFFER, CLIENT_SEND_BUFFER, UNREAD_MILLISECONDS};
 use libc::net as c;
-use std::net::UdpSocket;
+use std::net::{TcpListener, UdpSocket};
 use std::os::fd::AsRawFd;
 
 // The value of an option that is a number.
@@ -22,6 +23,25 @@ pub(crate) fn ask_receive_buffer(socket: &UdpSocket, bytes: i32) {
 pub(crate) fn ask_send_buffer(socket: &UdpSocket, bytes: i32) {
     let value = option_value(bytes);
     let _ = unsafe { c::setsockopt(socket.as_raw_fd(), c::SOL_SOCKET, c::SO_SNDBUF, &value, 4) };
+}
+
+/// Prepares a listener for connections of clients, which have its options (`limits` has their numbers): how many of them the system
+/// keeps until they are accepted; how many bytes it keeps of each that were not read here (SO_RCVBUF) or by the client (SO_SNDBUF); how
+/// long it keeps these (TCP_USER_TIMEOUT, RFC 5482), also once the connection is closed here; and that what is written goes out at once,
+/// and waits for no acknowledgement of what was written before (TCP_NODELAY).
+pub(crate) fn prepare_listener(listener: &TcpListener) {
+    let fd = listener.as_raw_fd();
+    let received = option_value(CLIENT_RECEIVE_BUFFER);
+    let sent = option_value(CLIENT_SEND_BUFFER);
+    let unread = option_value(UNREAD_MILLISECONDS);
+    let at_once = option_value(1);
+    unsafe {
+        let _ = c::setsockopt(fd, c::SOL_SOCKET, c::SO_RCVBUF, &received, 4);
+        let _ = c::setsockopt(fd, c::SOL_SOCKET, c::SO_SNDBUF, &sent, 4);
+        let _ = c::setsockopt(fd, c::IPPROTO_TCP, c::TCP_USER_TIMEOUT, &unread, 4);
+        let _ = c::setsockopt(fd, c::IPPROTO_TCP, c::TCP_NODELAY, &at_once, 4);
+    }
+    let _ = c::listen(fd, BACKLOG);
 }
 
 /// Ends all waits for datagrams on the socket, those that are under way and those that begin later (SHUT_RD). Datagrams still go out.

@@ -11,12 +11,12 @@ use std::net::TcpStream;
 use std::sync::Arc;
 use std::{io, time};
 
-/// The writing side of a TCP connection. It doesn't tell its bytes. It holds back the length of a frame and sends it with the message
+/// The writing side of a TCP connection to a server. It doesn't tell its bytes. It holds back the length of a frame and sends it with the message
 /// that follows, so that a frame mostly costs one system call and no packet of two bytes. The call that is given the last byte of a
 /// frame has sent all of it.
 ///
-/// Each error of the socket is a fault, and so is a wait that runs into a limit. A client may take `FRAME_SECONDS` for a frame that the
-/// system doesn't take at once, a primary server `TRANSFER_IDLE_SECONDS` for each write, and the upstream the time of the exchange.
+/// Each error of the socket is a fault, and so is a wait that runs into a limit. A primary server may take
+/// `TRANSFER_IDLE_SECONDS` for each write, and the upstream the time of the exchange.
 #[derive(Drop)]
 pub struct TcpSink<R: time::Clock + Drop> {
     // In a place of its own, as the reading side has it.
@@ -34,21 +34,16 @@ struct Writing<R: time::Clock + Drop> {
     length: [u8; 2],
     held_back: usize,
     time: TimeLimit,
-    // It is the side of a client, whose socket doesn't wait but for the rest of a frame that the system doesn't take at once.
-    of_client: bool,
-    // The socket doesn't wait.
-    is_quick: bool,
     ghost within: { held_back ≤ 2 },
 }
 
 impl<R: time::Clock + Drop> TcpSink<R> {
-    // Writes to a server over a socket whose writes wait as the limit says, or to a client over one that doesn't wait.
+    // Writes to a server over a socket whose writes wait as the limit says.
     pub(crate) fn new(
         rt: R,
         alloc: Global,
         stream: Arc<TcpStream>,
         time: TimeLimit,
-        of_client: bool,
     ) -> Result<Self, AllocError>
         ensures no_fault { IfOk result (λ s. ⟦<TcpSink<R> as Sink>⟧.faults s ≡ 0) }
     {
@@ -59,8 +54,6 @@ impl<R: time::Clock + Drop> TcpSink<R> {
             length: [0; 2],
             held_back: 0,
             time,
-            of_client,
-            is_quick: of_client,
         };
         Ok(TcpSink {
             writing: Box::new(alloc, writing)?,
@@ -106,15 +99,10 @@ impl<R: time::Clock + Drop> Writing<R> {
         }
     }
 
-    // Sends what is still held back, which is the length of a message of no bytes. The socket of a client doesn't wait then.
+    // Sends what is still held back, which is the length of a message of no bytes.
     fn end_frame(&mut self) -> io::Result<()> {
         if self.held_back > 0 {
             self.send(&[])?;
-        }
-        self.time.end_frame();
-        if self.of_client && !self.is_quick {
-            self.stream.set_nonblocking(true)?;
-            self.is_quick = true;
         }
         Ok(())
     }
@@ -135,9 +123,7 @@ impl<R: time::Clock + Drop> Writing<R> {
 
     // One call of the system: how many bytes went out, of those that are held back and then of the part. A signal lets none go out.
     fn send_once(&mut self, part: &[u8]) -> io::Result<usize> {
-        if !self.is_quick
-            && let Some(wait) = self.time.next_wait(&self.rt)?
-        {
+        if let Some(wait) = self.time.next_wait(&self.rt)? {
             self.stream.set_write_timeout(Some(wait))?;
         }
         let pieces = [
@@ -146,11 +132,6 @@ impl<R: time::Clock + Drop> Writing<R> {
         ];
         match self.stream.write_vectored(&pieces) {
             Err(error) if error.kind() == io::ErrorKind::Interrupted => Ok(0),
-            Err(error) if self.is_quick && error.kind() == io::ErrorKind::WouldBlock => {
-                self.stream.set_nonblocking(false)?;
-                self.is_quick = false;
-                Ok(0)
-            }
             sent => sent,
         }
     }

@@ -15,7 +15,7 @@ use std::{thread, time};
 /// What a thread is started for.
 #[derive(Drop)]
 pub(crate) enum Job<
-    R: Net<Listener = TcpListener, Stream = TcpStream> + time::Clock + Copy + Drop,
+    R: Net<Listener = TcpListener, Stream = TcpStream> + time::Clock + Wait + Copy + Drop,
 > {
     /// To have the connections of clients.
     Serve(Reception<R>),
@@ -27,7 +27,7 @@ pub(crate) enum Job<
 /// that is started in a method of a trait.
 #[derive(Drop)]
 pub(crate) struct ThreadStarter<
-    R: Net<Listener = TcpListener, Stream = TcpStream> + time::Clock + Copy + Drop,
+    R: Net<Listener = TcpListener, Stream = TcpStream> + time::Clock + Wait + Copy + Drop,
 > {
     pub(crate) state: Arc<WireState>,
     jobs: Sender<Job<R>>,

@@ -12,8 +12,6 @@ const SLACK: u32 = 8;
 pub(crate) enum Span {
     /// Each call by itself, and all together up to a moment.
     Call(Instant),
-    /// Each frame, from the first wait inside it to its last byte.
-    Frame,
     /// All calls together, up to a moment.
     Whole(Instant),
 }
@@ -23,8 +21,6 @@ pub(crate) enum Span {
 pub(crate) struct TimeLimit {
     span: Span,
     limit: Duration,
-    // When the frame that has begun must have ended.
-    frame_end: Option<Instant>,
     // How long a call of the socket waits.
     wait: Duration,
 }
@@ -35,24 +31,8 @@ impl TimeLimit {
         TimeLimit {
             span,
             limit,
-            frame_end: None,
             wait: limit,
         }
-    }
-
-    /// A socket that was never told how long its calls may wait.
-    pub(crate) fn untold(span: Span, limit: Duration) -> Self {
-        TimeLimit {
-            span,
-            limit,
-            frame_end: None,
-            wait: Duration::ZERO,
-        }
-    }
-
-    /// A frame has ended.
-    pub(crate) fn end_frame(&mut self) {
-        self.frame_end = None;
     }
 
     /// How long the socket has to be told to wait from now on; `None` where what it was told last will do. `TimedOut` comes where no
@@ -66,18 +46,11 @@ impl TimeLimit {
         Ok(Some(left))
     }
 
-    // What is left for the next call. A frame's time begins with the first call inside it.
-    fn left<R: time::Clock>(&mut self, rt: &R) -> io::Result<Duration> {
+    // What is left for the next call.
+    fn left<R: time::Clock>(&self, rt: &R) -> io::Result<Duration> {
         match self.span {
             Span::Call(end) => Ok(self.limit.min(time_until(rt, end)?)),
             Span::Whole(end) => time_until(rt, end),
-            Span::Frame => match self.frame_end {
-                Some(end) => time_until(rt, end),
-                None => {
-                    self.frame_end = Some(moment_after(rt, self.limit)?);
-                    Ok(self.limit)
-                }
-            },
         }
     }
 }

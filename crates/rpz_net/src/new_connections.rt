@@ -1,0 +1,92 @@
+//! New connections of clients.
+
+use crate::address::endpoint_of;
+use crate::client_connection::ClientConnection;
+use crate::client_counts::Client;
+use crate::connection_changes::ConnectionPlace;
+use crate::limits::ACCEPT_RUN;
+use crate::reception::{FIRST, Reception, TurnError};
+use crate::shared_connection::SharedConnection;
+use edge_io::Endpoint;
+use mio::unix::SourceFd;
+use mio::{Interest, Registry, Token};
+use std::net::TcpStream;
+use std::os::fd::AsRawFd;
+use std::sync::{Arc, Wait};
+use std::time::Instant;
+use std::{io, time};
+
+impl<R: time::Clock + Wait + Copy + Drop> Reception<R> {
+    /// Takes some of the new connections.
+    pub(crate) fn accept_some(&mut self, now: Instant) -> Result<(), TurnError> {
+        for _ in 0..ACCEPT_RUN {
+            if !self.connections_wait {
+                return Ok(());
+            }
+            match self.sockets.listener.accept() {
+                Ok((stream, peer)) => self.take_in(stream, endpoint_of(peer), now),
+                Err(error) if error.kind() == io::ErrorKind::WouldBlock => {
+                    self.connections_wait = false;
+                }
+                Err(error) => return Err(TurnError::of(&error)),
+            }
+        }
+        Ok(())
+    }
+
+    // Takes a new connection in. It is closed where there is no room for it, or where it can't be served.
+    fn take_in(&mut self, stream: TcpStream, peer: Endpoint, now: Instant) {
+        let limits = self.service.connection_limits();
+        let client = Client::of(peer.addr);
+        let Some(place) = self.table.open(client, limits.of_client) else {
+            return;
+        };
+        if !self.has_room(limits.all) {
+            self.table.give_up(place.index, client);
+            return;
+        }
+        match self.begin(stream, peer, place) {
+            Some(shared) => {
+                let connection = ClientConnection::new(self.alloc, shared, client, now);
+                self.table.put(place.index, connection);
+                self.attend(place.index, now);
+            }
+            None => self.table.give_up(place.index, client),
+        }
+    }
+
+    // Whether one more may be open where so many may be. The one that has been idle for longest gives way.
+    fn has_room(&mut self, all: u32) -> bool {
+        if self.table.count() >= all
+            && let Some(oldest) = self.table.oldest_idle()
+        {
+            self.close(oldest);
+        }
+        self.table.count() < all
+    }
+
+    // What workers have of a new connection.
+    fn begin(
+        &mut self,
+        stream: TcpStream,
+        peer: Endpoint,
+        place: ConnectionPlace,
+    ) -> Option<Arc<SharedConnection>> {
+        let token = Token(place.index.saturating_add(FIRST));
+        stream.set_nonblocking(true).ok()?;
+        register(self.sockets.poll.registry(), &stream, token).ok()?;
+        let changes = Arc::try_clone(&self.service.changes).ok()?;
+        let shared = SharedConnection::new(self.alloc, stream, peer, place, changes);
+        let shared = Arc::new(self.alloc, shared).ok()?;
+        let again = Arc::try_clone(&shared).ok()?;
+        let is_added = self.service.peers.lock(&self.rt).add(again);
+        is_added.then_some(shared)
+    }
+}
+
+// Both what comes and that more may be written is reported, each time anew.
+fn register(registry: &Registry, stream: &TcpStream, token: Token) -> io::Result<()> {
+    let fd = stream.as_raw_fd();
+    let interest = Interest::READABLE | Interest::WRITABLE;
+    registry.register(&mut SourceFd(&fd), token, interest)
+}
