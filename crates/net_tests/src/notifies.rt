@@ -41,12 +41,16 @@ fn has_ended<S: Source + Drop, K: Sink + Drop>(inlet: &mut impl Inlet<S, K>) -> 
 }
 
 fn is_answered<W: Wires>(rt: &impl Abort, wires: &mut W, client: &UdpSocket) -> Result<(), Fail> {
-    let Wake::Notify { peer, bytes } = wires.wait()? else {
+    let Wake::Notify {
+        peer,
+        transport,
+        bytes,
+    } = wires.wait()? else {
         return Err("a NOTIFY".into());
     };
     assert_eq!(rt; peer, at(29165));
     assert_eq!(rt; bytes.as_slice(), NOTIFY);
-    wires.answer(peer, b"answer")?;
+    wires.answer(peer, transport, b"answer")?;
     assert_eq!(rt; received(client)?, *b"answer\0\0");
     assert!(rt; matches!(wires.wait()?, Wake::Ended { dropped: 1 }));
     Ok(())

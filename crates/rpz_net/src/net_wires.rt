@@ -16,7 +16,8 @@ use crate::tcp_link::TcpLink;
 use crate::tcp_sink::TcpSink;
 use crate::tcp_source::TcpSource;
 use crate::thread_starter::{ThreadStarter, thread_starter};
-use edge_io::{Endpoint, Order, SendError, Wake, WireError, Wires};
+use edge_io::{ConnectionLimits, Endpoint, Order, SendError, Wake, WireError, Wires};
+use ip_prefix::Transport;
 use std::alloc::Global;
 use std::net::{Net, TcpListener, TcpStream};
 use std::sync::Wait;
@@ -132,6 +133,8 @@ impl<
         }
     }
 
+    fn admit(&mut self, _limits: ConnectionLimits) {}
+
     fn bind(&mut self, at: Endpoint) -> Result<(), WireError> {
         let opened = match &self.starter {
             Some(starter) => Service::open(self.rt, self.alloc, at, self.turns, starter),
@@ -233,10 +236,17 @@ impl<
         }
     }
 
-    fn answer(&mut self, peer: Endpoint, bytes: &[u8]) -> Result<(), SendError> {
+    fn answer(
+        &mut self,
+        peer: Endpoint,
+        transport: Transport,
+        bytes: &[u8],
+    ) -> Result<(), SendError> {
         let is_sent = match &self.service {
-            Some(service) => send_datagram(&service.state.socket, peer, bytes),
-            None => false,
+            Some(service) if transport == Transport::Udp => {
+                send_datagram(&service.state.socket, peer, bytes)
+            }
+            _ => false,
         };
         if !is_sent {
             count_fault(&mut self.faults);

@@ -20,6 +20,7 @@ use crate::waiting::WaitingConnections;
 use crate::wire_state::WireState;
 use crossbeam_channel::{Receiver, Sender, bounded, unbounded};
 use edge_io::{Endpoint, Wake, WireError};
+use ip_prefix::Transport;
 use mio::unix::SourceFd;
 use mio::{Events, Interest, Poll, Waker};
 use std::alloc::{AllocError, Global};
@@ -229,7 +230,11 @@ impl<R: time::Clock + Wait + Copy + Drop> Service<R> {
             self.own = None;
         }
         match self.notices.take(rt) {
-            Noticed::Notice(Notice { peer, bytes }) => Some(Wake::Notify { peer, bytes }),
+            Noticed::Notice(Notice { peer, bytes }) => Some(Wake::Notify {
+                peer,
+                transport: Transport::Udp,
+                bytes,
+            }),
             Noticed::End => Some(Wake::Ended {
                 dropped: self.state.dropped(),
             }),

@@ -10,7 +10,7 @@ use crate::tcp_source::TcpSource;
 use crate::time_limit::{Span, moment_after, time_until};
 use dns_name::Octets;
 use edge_io::{
-    Endpoint, FRAME_MAX, FrameError, Link, LinkError, SinkError, WireError, read_frame, write_frame,
+    Deadline, Endpoint, FRAME_MAX, FrameError, Link, LinkError, SinkError, WireError, read_frame, write_frame,
 };
 use std::alloc::Global;
 use std::net::{Net, TcpStream};
@@ -98,6 +98,8 @@ impl<R: Net<Stream = TcpStream> + time::Clock + Copy + Drop> Link for TcpLink<R>
     ghost gave = { λ _ _ _. Unit {0} };
 
     ghost faults = { λ l. l.faults };
+
+    fn keep_to(&mut self, _deadline: Deadline) {}
 
     fn exchange(&mut self, alloc: Global, sent: &[u8], _now: u32) -> Result<Octets, LinkError> {
         match self.ask(alloc, sent) {
