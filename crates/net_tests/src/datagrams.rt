@@ -60,5 +60,8 @@ fn fails<W: Wires>(rt: &impl Abort, wires: &mut W) {
     assert!(rt; matches!(wires.wait(), Err(WireError::Failed)));
     assert!(rt; matches!(wires.datagrams(), Err(WireError::Failed)));
     assert!(rt; matches!(wires.replies(), Err(WireError::Failed)));
-    assert_eq!(rt; wires.answer(at(29151), Transport::Udp, b"reply"), Err(SendError::Failed));
+    assert_eq!(rt;
+        wires.answer(at(29151), Transport::Udp, b"reply"),
+        Err(SendError::Failed)
+    );
 }

@@ -45,7 +45,8 @@ fn is_answered<W: Wires>(rt: &impl Abort, wires: &mut W, client: &UdpSocket) -> 
         peer,
         transport,
         bytes,
-    } = wires.wait()? else {
+    } = wires.wait()?
+    else {
         return Err("a NOTIFY".into());
     };
     assert_eq!(rt; peer, at(29165));

@@ -6,6 +6,7 @@
 #![tactic(auto)]
 
 mod address;
+mod answer_place;
 mod connection;
 mod connection_inlet;
 mod datagram;
@@ -19,6 +20,7 @@ mod order_line;
 mod orders;
 mod random_ids;
 mod read_buffer;
+mod reader_threads;
 mod reception;
 mod server_replies;
 mod service;
@@ -32,8 +34,19 @@ mod tcp_source;
 mod thread_starter;
 mod time_limit;
 mod transfer;
+mod upstream_asker;
+mod upstream_connection;
+mod upstream_connections;
+mod upstream_failures;
+mod upstream_frames;
+mod upstream_manner;
+mod upstream_pool;
+mod upstream_questions;
+mod upstream_reader;
+mod upstreams;
 mod waiting;
 mod wake_signal;
+mod wire_numbers;
 mod wire_state;
 
 pub use address::{address_of, endpoint_of};

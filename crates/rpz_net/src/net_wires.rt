@@ -8,7 +8,6 @@ ghost use Rattle.edge_io.specs.declared.frame.TheConstants.{FRAME_MAX};
 use crate::connection_inlet::ConnectionInlet;
 use crate::datagram::send_datagram;
 use crate::datagram_inlet::DatagramInlet;
-use crate::limits::{UPSTREAM_ANSWER_SECONDS, UPSTREAM_CONNECT_SECONDS};
 use crate::orders::Orders;
 use crate::server_replies::ServerReplies;
 use crate::service::Service;
@@ -16,6 +15,7 @@ use crate::tcp_link::TcpLink;
 use crate::tcp_sink::TcpSink;
 use crate::tcp_source::TcpSource;
 use crate::thread_starter::{ThreadStarter, thread_starter};
+use crate::upstreams::Upstreams;
 use edge_io::{ConnectionLimits, Endpoint, Order, SendError, Wake, WireError, Wires};
 use ip_prefix::Transport;
 use std::alloc::Global;
@@ -23,7 +23,6 @@ use std::net::{Net, TcpListener, TcpStream};
 use std::sync::Wait;
 use std::thread::Threads;
 use std::time;
-use std::time::Duration;
 
 /// The network of a server: a UDP socket and a TCP listener at the endpoint that it serves, TCP connections to the primary servers
 /// of its zones, and TCP connections to its upstream.
@@ -45,6 +44,7 @@ pub struct NetWires<
     starter: Option<ThreadStarter<R>>,
     service: Option<Service<R>>,
     orders: Orders,
+    upstreams: Upstreams,
     order_faults: u64,
     faults: u64,
 }
@@ -72,6 +72,7 @@ impl<
             starter: thread_starter(rt, alloc).ok(),
             service: None,
             orders: Orders::new(alloc),
+            upstreams: Upstreams::new(alloc),
             order_faults: 0,
             faults: 0,
         }
@@ -156,12 +157,14 @@ impl<
     }
 
     fn link(&mut self, upstream: Endpoint) -> Result<TcpLink<R>, WireError> {
-        Ok(TcpLink::new(
-            self.rt,
-            upstream,
-            Duration::from_secs(UPSTREAM_CONNECT_SECONDS),
-            Duration::from_secs(UPSTREAM_ANSWER_SECONDS),
-        ))
+        let Some(starter) = &self.starter else {
+            count_fault(&mut self.faults);
+            return Err(WireError::Failed);
+        };
+        match self.upstreams.link(self.rt, starter, upstream) {
+            Ok(link) => Ok(link),
+            Err(_) => Err(WireError::OutOfMemory),
+        }
     }
 
     fn replies(&mut self) -> Result<ServerReplies<R>, WireError> {
@@ -260,6 +263,7 @@ impl<
             service.state.stop();
         }
         self.orders.forget_all(&self.rt);
+        self.upstreams.stop(&self.rt);
         if let Some(starter) = self.starter.take() {
             starter.end(&self.rt);
         }

@@ -1,7 +1,7 @@
 //! Options of sockets that std doesn't set.
 
 use libc::net as c;
-use std::net::UdpSocket;
+use std::net::{TcpStream, UdpSocket};
 use std::os::fd::AsRawFd;
 
 // The value of an option that is a number.
@@ -22,6 +22,12 @@ pub(crate) fn ask_receive_buffer(socket: &UdpSocket, bytes: i32) {
 pub(crate) fn ask_send_buffer(socket: &UdpSocket, bytes: i32) {
     let value = option_value(bytes);
     let _ = unsafe { c::setsockopt(socket.as_raw_fd(), c::SOL_SOCKET, c::SO_SNDBUF, &value, 4) };
+}
+
+/// Asks the system to keep so many bytes of a stream that have not gone out (SO_SNDBUF), likewise.
+pub(crate) fn ask_stream_send_buffer(stream: &TcpStream, bytes: i32) {
+    let value = option_value(bytes);
+    let _ = unsafe { c::setsockopt(stream.as_raw_fd(), c::SOL_SOCKET, c::SO_SNDBUF, &value, 4) };
 }
 
 /// Ends all waits for datagrams on the socket, those that are under way and those that begin later (SHUT_RD). Datagrams still go out.
