@@ -115,6 +115,46 @@ fn a_silent_upstream_costs_the_time_once(rt: HostRuntime) -> Result<(), Fail> {
     Ok(())
 }
 
+// One question is answered after 600 milliseconds, and the next one on that connection at once.
+fn answer_slowly<R: time::Clock>(rt: &R, listener: &TcpListener) -> io::Result<()> {
+    let (mut stream, _) = listener.accept()?;
+    let mut frame = [0; 10];
+    stream.read_exact(&mut frame)?;
+    thread::sleep(rt, Duration::from_millis(600));
+    stream.write_all(&frame)?;
+    stream.read_exact(&mut frame)?;
+    stream.write_all(&frame)
+}
+
+// Whether a question with half a second fails, and is answered half a second later.
+fn is_answered_later<R: time::Clock>(rt: &R, alloc: Global, link: &mut impl Link) -> bool {
+    let has_failed = failure(rt, alloc, link, 500).is_ok();
+    thread::sleep(rt, Duration::from_millis(500));
+    let Ok(now) = Instant::now(rt) else {
+        return false;
+    };
+    let Ok(deadline) = Deadline::new(alloc, now) else {
+        return false;
+    };
+    link.keep_to(deadline);
+    has_failed && is_echoed(alloc, link, b"question")
+}
+
+#[test]
+fn a_late_answer_ends_what_is_remembered(rt: HostRuntime) -> Result<(), Fail> {
+    let listener = rt.bind(address_of(at(29174)))?;
+    let mut wires = NetWires::new(rt, rt.alloc());
+    let mut link = wires.link(at(29174))?;
+    let (served, answered) = thread::join(
+        &rt,
+        || answer_slowly(&rt, &listener).is_ok(),
+        || is_answered_later(&rt, rt.alloc(), &mut link),
+    );
+    assert!(rt; served);
+    assert!(rt; answered);
+    Ok(())
+}
+
 // How long a question takes that has so many milliseconds, and fails.
 fn failure<R: time::Clock>(
     rt: &R,
@@ -146,7 +186,7 @@ fn echo_all<R: time::Clock>(
     listener.set_nonblocking(true)?;
     let mut streams = Vec::new(alloc);
     let mut count = 0u64;
-    for _ in 0..20_000u32 {
+    for _ in 0..100_000u32 {
         if has_to_stop.load(Ordering::SeqCst) {
             break;
         }
@@ -176,11 +216,11 @@ fn goes_on(mut stream: &TcpStream, is_single: bool) -> bool {
     }
 }
 
-// Asks twenty times, and says how often nothing came.
+// Asks thirty times, and says how often nothing came behind the first ten.
 fn ask_often(alloc: Global, mut link: impl Link + Drop) -> u64 {
     let mut failed = 0u64;
-    for _ in 0..20u32 {
-        if !is_echoed(alloc, &mut link, b"question") {
+    for count in 0..30u32 {
+        if !is_echoed(alloc, &mut link, b"question") && count >= 10 {
             failed = failed.saturating_add(1);
         }
     }
@@ -237,13 +277,13 @@ fn many_askers_share_few_connections(rt: HostRuntime) -> Result<(), Fail> {
     Ok(())
 }
 
-// At most those fail that stood on two connections that were closed, before each question got one of its own.
+// Once two connections were closed, each question gets one of its own.
 #[test]
 fn an_upstream_that_closes_gets_one_question_each(rt: HostRuntime) -> Result<(), Fail> {
     let mut wires = NetWires::new(rt, rt.alloc());
     let (taken, failed) = ask_at_once(&rt, rt.alloc(), &mut wires, 29172, 24, true)?;
-    assert!(rt; taken >= 480 - failed.min(480), "{taken}");
-    assert!(rt; failed <= 24, "{failed}");
+    assert!(rt; taken > 24 * 20, "{taken}");
+    assert_eq!(rt; failed, 0);
     Ok(())
 }
 

@@ -3,6 +3,7 @@
 use crate::time_limit::time_until;
 use crate::wake_signal::WakeSignal;
 use dns_name::Octets;
+use std::sync::atomic::{AtomicBool, Ordering};
 use std::sync::{Mutex, Wait};
 use std::time;
 use std::time::Instant;
@@ -23,6 +24,7 @@ pub(crate) enum Answer {
 pub(crate) struct AnswerPlace {
     signal: WakeSignal,
     answer: Mutex<Option<Answer>>,
+    came_late: AtomicBool,
 }
 
 impl AnswerPlace {
@@ -31,6 +33,7 @@ impl AnswerPlace {
         AnswerPlace {
             signal: WakeSignal::new(),
             answer: Mutex::new(None),
+            came_late: AtomicBool::new(false),
         }
     }
 
@@ -39,6 +42,16 @@ impl AnswerPlace {
         let before = self.answer.lock(rt).replace(answer);
         drop(before);
         self.signal.raise();
+    }
+
+    /// The answer came when nobody waited for it any more.
+    pub(crate) fn come_late(&self) {
+        self.came_late.store(true, Ordering::SeqCst);
+    }
+
+    /// Whether the answer came when nobody waited for it any more.
+    pub(crate) fn came_late(&self) -> bool {
+        self.came_late.load(Ordering::SeqCst)
     }
 
     /// Takes the answer out, once it is there, and waits for it up to this moment; `None` where none came, or the clock can't be read.

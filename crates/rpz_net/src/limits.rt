@@ -105,6 +105,10 @@ pub const UPSTREAM_CHANGE_MILLISECONDS: u64 = 100;
 /// How many connections the upstream must close in a row behind few answers, while others are to come, to get one question on each.
 pub const UPSTREAM_CUTS: u32 = 2;
 
+/// Milliseconds behind an answer in which such a connection is closed. One that had nothing to do is closed later (RFC 7766, section
+/// 6.2.3), and a question may meet that.
+pub const UPSTREAM_CUT_MILLISECONDS: u64 = 100;
+
 /// Seconds for which it gets one question on each connection then.
 pub const UPSTREAM_SINGLE_SECONDS: u64 = 60;
 

@@ -28,8 +28,8 @@ use std::time;
 /// of its zones, and TCP connections to its upstream.
 ///
 /// It tells nothing of what comes and goes. The limits of time are those of `limits`. It has a thread for the connections of clients, one
-/// for each transfer that is under way, and one that starts these. No call waits for any of them, but for `stop`, which joins the first
-/// and the last.
+/// for each connection to an upstream, one for each transfer that is under way, and one that starts these. No call waits for any of
+/// them, but for `stop`, which joins all but those of transfers.
 ///
 /// Where the host has several addresses, each is bound by wires of its own: from the unspecified address (0.0.0.0 or ::) the system
 /// sends a reply from the address that it would choose, and not from the one that was asked.

@@ -43,9 +43,7 @@ pub(crate) fn start_reader<R: time::Clock + Wait + Threads + Copy + Drop + Send 
         Ok(thread) => {
             let _ = readers.push(ReaderThread { connection, thread });
         }
-        Err(_) => {
-            connection.close(&rt);
-        }
+        Err(_) => connection.close(&rt),
     }
 }
 

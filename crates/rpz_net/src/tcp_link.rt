@@ -2,7 +2,7 @@
 
 ghost use Rattle.std.specs.Prelude.{◌≡◌};
 
-use crate::limits::{UPSTREAM_ANSWER_SECONDS, UPSTREAM_FAILURE_MILLISECONDS};
+use crate::limits::UPSTREAM_ANSWER_SECONDS;
 use crate::upstream_asker::{AskError, UpstreamAsker};
 use dns_name::Octets;
 use edge_io::{Deadline, FRAME_MAX, Link, LinkError};
@@ -18,7 +18,7 @@ use std::time::{Duration, Instant};
 ///
 /// An exchange fails, and counts one fault, where no answer came within `UPSTREAM_ANSWER_SECONDS`, or at its deadline, if that is
 /// earlier; where the upstream takes no connection, or closes it before the answer, and another one, too; where the same question was
-/// not answered in time in the last `UPSTREAM_FAILURE_SECONDS`; once the wires have stopped; and for a question of fewer than two bytes
+/// not answered in time in the last `UPSTREAM_FAILURE_SECONDS`, nor since; once the wires have stopped; and for a question of fewer than two bytes
 /// or more than `FRAME_MAX`.
 #[derive(Drop)]
 pub struct TcpLink<R: Net<Listener = TcpListener, Stream = TcpStream> + time::Clock + Copy + Drop> {
@@ -66,24 +66,10 @@ impl<R: Net<Listener = TcpListener, Stream = TcpStream> + time::Clock + Wait + C
         if !fits || asker.pool.has_failed(&asker.rt, sent, now) {
             return Err(LinkError::Failed);
         }
-        match asker.ask(alloc, sent, end) {
+        match asker.ask(alloc, sent, now, end) {
             Ok(received) => Ok(received),
             Err(AskError::OutOfMemory) => Err(LinkError::OutOfMemory),
-            Err(AskError::Failed) => Err(LinkError::Failed),
-            Err(AskError::Late) => {
-                self.remember(sent, end.saturating_duration_since(now));
-                Err(LinkError::Failed)
-            }
-        }
-    }
-
-    // The question was not answered in its time, which was so long.
-    fn remember(&self, sent: &[u8], time: Duration) {
-        let asker = &self.asker;
-        if time >= Duration::from_millis(UPSTREAM_FAILURE_MILLISECONDS)
-            && let Ok(now) = Instant::now(&asker.rt)
-        {
-            asker.pool.remember(&asker.rt, sent, now);
+            Err(AskError::Failed | AskError::Late) => Err(LinkError::Failed),
         }
     }
 }

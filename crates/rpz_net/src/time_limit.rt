@@ -14,8 +14,6 @@ pub(crate) enum Span {
     Call(Instant),
     /// Each frame, from the first wait inside it to its last byte.
     Frame,
-    /// All calls together, up to a moment.
-    Whole(Instant),
 }
 
 /// The limit of one direction of a connection, and how long its socket waits at present.
@@ -70,7 +68,6 @@ impl TimeLimit {
     fn left<R: time::Clock>(&mut self, rt: &R) -> io::Result<Duration> {
         match self.span {
             Span::Call(end) => Ok(self.limit.min(time_until(rt, end)?)),
-            Span::Whole(end) => time_until(rt, end),
             Span::Frame => match self.frame_end {
                 Some(end) => time_until(rt, end),
                 None => {

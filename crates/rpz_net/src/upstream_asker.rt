@@ -3,7 +3,8 @@
 use crate::address::address_of;
 use crate::answer_place::{Answer, AnswerPlace};
 use crate::limits::{
-    START_MILLISECONDS, UPSTREAM_CONNECT_MILLISECONDS, UPSTREAM_CONNECT_TRIES, UPSTREAM_TRIES,
+    START_MILLISECONDS, UPSTREAM_CONNECT_MILLISECONDS, UPSTREAM_CONNECT_TRIES,
+    UPSTREAM_FAILURE_MILLISECONDS, UPSTREAM_TRIES,
 };
 use crate::shortage::is_shortage;
 use crate::thread_starter::Job;
@@ -75,26 +76,52 @@ fn id_of(message: &[u8]) -> u16 {
 impl<
     R: Net<Listener = TcpListener, Stream = TcpStream> + time::Clock + Wait + Copy + Drop,
 > UpstreamAsker<R> {
-    /// Asks, and gives the answer with the ID of the message, at most up to this moment. Where a connection is closed before the answer
-    /// came, the question goes over another one, `UPSTREAM_TRIES` in all.
+    /// Asks from now on up to `end`, and gives the answer with the ID of the message. Where a connection is closed before the answer came,
+    /// the question goes over another one, `UPSTREAM_TRIES` in all. What fails by time is remembered.
     pub(crate) fn ask(
         &self,
         alloc: Global,
         message: &[u8],
+        now: Instant,
         end: Instant,
     ) -> Result<Octets, AskError> {
         for _ in 0..UPSTREAM_TRIES {
             let place = Arc::new(alloc, AnswerPlace::new())?;
-            let asked = self.find(alloc, id_of(message), &place, end)?;
-            let answer = self.send(alloc, message, &asked, &place, end)?;
-            self.pool.tell_one();
-            match answer {
-                Answer::Message(message) => return Ok(message),
-                Answer::OutOfMemory => return Err(AskError::OutOfMemory),
-                Answer::Closed => {}
+            match self.ask_once(alloc, message, &place, end) {
+                Ok(Answer::Message(message)) => return Ok(message),
+                Ok(Answer::OutOfMemory) => return Err(AskError::OutOfMemory),
+                Ok(Answer::Closed) => {}
+                Err(AskError::Late) => {
+                    self.remember(message, place, end.saturating_duration_since(now));
+                    return Err(AskError::Late);
+                }
+                Err(error) => return Err(error),
             }
         }
         Err(AskError::Failed)
+    }
+
+    // The question was not answered in its time, which was so long.
+    fn remember(&self, message: &[u8], place: Arc<AnswerPlace>, time: Duration) {
+        if time >= Duration::from_millis(UPSTREAM_FAILURE_MILLISECONDS)
+            && let Ok(now) = Instant::now(&self.rt)
+        {
+            self.pool.remember(&self.rt, message, place, now);
+        }
+    }
+
+    // Asks over one connection, and says what became of the question.
+    fn ask_once(
+        &self,
+        alloc: Global,
+        message: &[u8],
+        place: &Arc<AnswerPlace>,
+        end: Instant,
+    ) -> Result<Answer, AskError> {
+        let asked = self.find(alloc, id_of(message), place, end)?;
+        let answer = self.send(alloc, message, &asked, place, end);
+        self.pool.tell_one();
+        answer
     }
 
     // Sends the question, and waits for its answer.
@@ -110,7 +137,10 @@ impl<
             self.give_up(asked);
             return Err(AskError::OutOfMemory);
         };
-        asked.connection.send(&self.rt, frame.as_slice());
+        if !asked.connection.send(&self.rt, frame.as_slice()) {
+            self.give_up(asked);
+            return Ok(Answer::Closed);
+        }
         match place.wait(&self.rt, end) {
             Some(answer) => Ok(answer),
             None => {
@@ -124,11 +154,8 @@ impl<
     fn give_up(&self, asked: &Asked) {
         match Instant::now(&self.rt) {
             Ok(now) => asked.connection.give_up(&self.rt, asked.number, now),
-            Err(_) => {
-                asked.connection.close(&self.rt);
-            }
+            Err(_) => self.pool.close(&self.rt, &asked.connection),
         }
-        self.pool.tell_one();
     }
 
     // Finds a connection for the question with this ID, and opens one where that is wanted.

@@ -3,7 +3,7 @@
 use crate::answer_place::AnswerPlace;
 use crate::limits::{UPSTREAM_LOOK_MILLISECONDS, UPSTREAM_SEND_BUFFER};
 use crate::socket_option::ask_stream_send_buffer;
-use crate::upstream_questions::{Load, UpstreamQuestions};
+use crate::upstream_questions::{Closing, Load, UpstreamQuestions};
 use crate::wire_numbers::WireNumbers;
 use libc::net as c;
 use std::alloc::{AllocError, Global};
@@ -27,15 +27,6 @@ pub(crate) struct UpstreamConnection {
     questions: Mutex<UpstreamQuestions>,
     // Its thread has nothing more to do.
     has_ended: AtomicBool,
-}
-
-/// How a connection was closed.
-#[derive(Clone, Copy, Debug)]
-pub(crate) struct Closing {
-    /// How many questions were answered on it.
-    pub(crate) answered: u64,
-    /// Somebody still waited for an answer.
-    pub(crate) was_awaited: bool,
 }
 
 // A read waits a moment only, so that the reader looks whether the connection is still wanted. What is written goes out at once.
@@ -88,18 +79,13 @@ impl UpstreamConnection {
         self.questions.lock(rt).ask(numbers, id, place, now)
     }
 
-    /// Sends a frame. Where the system doesn't take it whole, the upstream reads nothing or is gone, and the connection is closed. It
-    /// doesn't wait.
-    pub(crate) fn send<R: Wait>(&self, rt: &R, frame: &[u8]) {
-        if !self.send_whole(rt, frame) {
-            self.close(rt);
-        }
-    }
-
-    fn send_whole<R: Wait>(&self, rt: &R, frame: &[u8]) -> bool {
+    /// Sends a frame, and says whether the system took it whole. Else the upstream reads nothing or is gone, and the connection takes no
+    /// more questions; answers may still be there to be read. It doesn't wait.
+    pub(crate) fn send<R: Wait>(&self, rt: &R, frame: &[u8]) -> bool {
         let mut is_cut = self.is_cut.lock(rt);
-        if !*is_cut {
-            *is_cut = !send_all(&self.stream, frame);
+        if !*is_cut && !send_all(&self.stream, frame) {
+            *is_cut = true;
+            self.retire(rt);
         }
         !*is_cut
     }
@@ -134,14 +120,15 @@ impl UpstreamConnection {
         self.questions.lock(rt).close_if_done(now)
     }
 
+    /// It takes no more questions, since it is to be closed. Says how.
+    pub(crate) fn begin_close<R: Wait>(&self, rt: &R, now: Instant) -> Closing {
+        self.questions.lock(rt).begin_close(now)
+    }
+
     /// Closes it: whoever waits for an answer is told, and its thread ends at once. It may be called again.
-    pub(crate) fn close<R: Wait>(&self, rt: &R) -> Closing {
-        let (answered, was_awaited) = self.questions.lock(rt).close(rt);
+    pub(crate) fn close<R: Wait>(&self, rt: &R) {
+        self.questions.lock(rt).close(rt);
         let _ = self.stream.shutdown(Shutdown::Both);
-        Closing {
-            answered,
-            was_awaited,
-        }
     }
 
     /// Its thread has nothing more to do.

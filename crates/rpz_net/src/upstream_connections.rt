@@ -5,8 +5,9 @@ use crate::limits::{
     UPSTREAM_ALL_CONNECTIONS, UPSTREAM_CONNECTIONS, UPSTREAM_FEW_QUESTIONS, UPSTREAM_QUESTIONS,
     UPSTREAM_REST_SECONDS,
 };
-use crate::upstream_connection::{Closing, UpstreamConnection};
+use crate::upstream_connection::UpstreamConnection;
 use crate::upstream_manner::UpstreamManner;
+use crate::upstream_questions::Closing;
 use crate::wire_numbers::WireNumbers;
 use std::alloc::{AllocError, Global};
 use std::sync::atomic::{AtomicU64, Ordering};

@@ -1,12 +1,12 @@
 //! How the upstream takes questions.
 
 use crate::limits::{UPSTREAM_CUTS, UPSTREAM_FEW_QUESTIONS, UPSTREAM_SINGLE_SECONDS};
-use crate::upstream_connection::Closing;
+use crate::upstream_questions::Closing;
 use std::time::{Duration, Instant};
 
 /// How the upstream takes questions: several at a time on one connection (RFC 7766, section 6.2.1.1), or one on each. The latter is
-/// assumed for `UPSTREAM_SINGLE_SECONDS` where it has closed `UPSTREAM_CUTS` connections in a row, on each of which it had answered one
-/// question at least and only few, while others were waited for.
+/// assumed for `UPSTREAM_SINGLE_SECONDS` where it has closed `UPSTREAM_CUTS` connections in a row, each behind few answers
+/// while others were waited for. One that ends behind many answers has other reasons, as an upstream that was started anew.
 #[derive(Drop)]
 pub(crate) struct UpstreamManner {
     // How many connections it has closed so in a row.
@@ -32,7 +32,7 @@ impl UpstreamManner {
     /// The upstream has closed a connection, so.
     pub(crate) fn note(&mut self, closing: Closing, now: Instant) {
         let few = UPSTREAM_FEW_QUESTIONS as u64;
-        if closing.was_awaited && 0 < closing.answered && closing.answered < few {
+        if closing.was_cut && closing.answered < few {
             self.cuts = self.cuts.saturating_add(1);
         } else if closing.answered > 1 {
             self.cuts = 0;

@@ -113,13 +113,14 @@ impl UpstreamPool {
         choice
     }
 
-    /// Closes a connection, and forgets it.
+    /// Closes a connection, and forgets it. Whoever waits for an answer on it is told last, so that its next choice knows of this.
     pub(crate) fn close<R: time::Clock + Wait>(&self, rt: &R, connection: &UpstreamConnection) {
-        let closing = connection.close(rt);
         if let Ok(now) = Instant::now(rt) {
+            let closing = connection.begin_close(rt, now);
             let mut connections = self.connections.lock(rt);
             connections.remove(connection.serial, closing, now);
         }
+        connection.close(rt);
         self.tell_one();
     }
 
@@ -129,13 +130,19 @@ impl UpstreamPool {
         self.changed.raise_all();
     }
 
-    /// Whether the upstream did not answer the question of this message lately.
+    /// Whether the upstream did not answer the question of this message lately, in time or since.
     pub(crate) fn has_failed<R: Wait>(&self, rt: &R, message: &[u8], now: Instant) -> bool {
         self.failures.lock(rt).has(message, now)
     }
 
-    /// The upstream did not answer the question of this message in time.
-    pub(crate) fn remember<R: Wait>(&self, rt: &R, message: &[u8], now: Instant) {
-        self.failures.lock(rt).add(message, now);
+    /// The upstream did not answer the question of this message in time. Its answer would come to this place.
+    pub(crate) fn remember<R: Wait>(
+        &self,
+        rt: &R,
+        message: &[u8],
+        place: Arc<AnswerPlace>,
+        now: Instant,
+    ) {
+        self.failures.lock(rt).add(message, place, now);
     }
 }

@@ -1,7 +1,9 @@
 //! The questions of a connection to the upstream.
 
 use crate::answer_place::{Answer, AnswerPlace};
-use crate::limits::{UPSTREAM_ABANDONED, UPSTREAM_IDLE_SECONDS, UPSTREAM_SILENCE_SECONDS};
+use crate::limits::{
+    UPSTREAM_ABANDONED, UPSTREAM_CUT_MILLISECONDS, UPSTREAM_IDLE_SECONDS, UPSTREAM_SILENCE_SECONDS,
+};
 use crate::wire_numbers::WireNumbers;
 use std::alloc::{AllocError, Global};
 use std::sync::{Arc, Wait};
@@ -14,8 +16,10 @@ struct Question {
     number: u16,
     // The ID of the message that is asked.
     id: u16,
-    // Who waits for the answer; nobody, once it was given up.
-    place: Option<Arc<AnswerPlace>>,
+    // Where its answer comes.
+    place: Arc<AnswerPlace>,
+    // Somebody waits for it: it wasn't given up.
+    is_awaited: bool,
 }
 
 /// How many questions of a connection are not answered.
@@ -27,6 +31,15 @@ pub(crate) struct Load {
     pub(crate) awaited: usize,
 }
 
+/// How a connection was closed.
+#[derive(Clone, Copy, Debug)]
+pub(crate) struct Closing {
+    /// How many questions were answered on it.
+    pub(crate) answered: u64,
+    /// It was closed right behind an answer, while others were to come.
+    pub(crate) was_cut: bool,
+}
+
 /// The questions of a connection to the upstream whose answers have not come, in no order, and whether it takes more of them.
 #[derive(Drop)]
 pub(crate) struct UpstreamQuestions {
@@ -35,6 +48,8 @@ pub(crate) struct UpstreamQuestions {
     awaited: usize,
     // How many were answered.
     answered: u64,
+    // It was closed as `Closing` says.
+    was_cut: bool,
     // When something came last; or, where no answer was to come then, when the first question was asked since.
     heard: Instant,
     // Since when nobody waits, where nobody does.
@@ -55,6 +70,7 @@ impl UpstreamQuestions {
             questions: Vec::new(alloc),
             awaited: 0,
             answered: 0,
+            was_cut: false,
             heard: now,
             idle_since: now,
             is_retired: false,
@@ -114,8 +130,12 @@ impl UpstreamQuestions {
         if self.questions.is_empty() {
             self.heard = now;
         }
-        let place = Some(place);
-        self.questions.push(Question { number, id, place })?;
+        self.questions.push(Question {
+            number,
+            id,
+            place,
+            is_awaited: true,
+        })?;
         self.awaited = self.awaited.saturating_add(1);
         Ok(Some(number))
     }
@@ -136,11 +156,15 @@ impl UpstreamQuestions {
             number: _,
             id,
             place,
+            is_awaited,
         } = self.questions.swap_remove(index);
         self.answered = self.answered.saturating_add(1);
-        let place = place?;
-        self.leave_one(now);
-        Some((id, place))
+        if is_awaited {
+            self.leave_one(now);
+        } else {
+            place.come_late();
+        }
+        if is_awaited { Some((id, place)) } else { None }
     }
 
     /// Nobody waits for the answer of this number any more. The number stays taken until its answer comes.
@@ -148,7 +172,8 @@ impl UpstreamQuestions {
         let mut was_awaited = false;
         for known in self.questions.iter_mut() {
             if known.number == number {
-                was_awaited = known.place.take().is_some();
+                was_awaited = known.is_awaited;
+                known.is_awaited = false;
             }
         }
         if was_awaited {
@@ -177,18 +202,27 @@ impl UpstreamQuestions {
         self.is_closed
     }
 
-    /// Closes the connection. Says how many questions were answered on it, and whether somebody still waited: all of them are told.
-    pub(crate) fn close<R: Wait>(&mut self, rt: &R) -> (u64, bool) {
+    /// Takes no more questions, since the connection is to be closed, and says how.
+    pub(crate) fn begin_close(&mut self, now: Instant) -> Closing {
+        if !self.is_closed && !self.questions.is_empty() && self.answered > 0 {
+            let since = now.saturating_duration_since(self.heard);
+            self.was_cut = since < Duration::from_millis(UPSTREAM_CUT_MILLISECONDS);
+        }
         self.is_closed = true;
-        let was_awaited = self.awaited > 0;
+        Closing {
+            answered: self.answered,
+            was_cut: self.was_cut,
+        }
+    }
+
+    /// Tells whoever waits that the connection is closed. It may be called again.
+    pub(crate) fn close<R: Wait>(&mut self, rt: &R) {
+        self.is_closed = true;
         self.awaited = 0;
         for _ in 0..self.questions.len() {
-            if let Some(question) = self.questions.pop()
-                && let Some(place) = question.place
-            {
-                place.give(rt, Answer::Closed);
+            if let Some(question) = self.questions.pop() {
+                question.place.give(rt, Answer::Closed);
             }
         }
-        (self.answered, was_awaited)
     }
 }
