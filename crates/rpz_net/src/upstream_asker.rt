@@ -145,7 +145,8 @@ impl<
             Some(answer) => Ok(answer),
             None => {
                 self.give_up(asked);
-                Err(AskError::Late)
+                // It may have come meanwhile.
+                place.wait(&self.rt, end).ok_or(AskError::Late)
             }
         }
     }

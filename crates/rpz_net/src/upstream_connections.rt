@@ -73,7 +73,7 @@ struct Room {
     few: Option<usize>,
     // That with the fewest, of those that take one more, and how many it has.
     least: Option<(usize, usize)>,
-    // How many take questions, at times.
+    // How many have not stopped taking questions.
     taking: usize,
 }
 
@@ -245,12 +245,14 @@ impl UpstreamConnections {
         self.ask(rt, &room, id, place, now)
     }
 
-    /// The connection of this serial was closed so.
-    pub(crate) fn remove(&mut self, serial: u64, closing: Closing, now: Instant) {
+    /// The connection of this serial was closed, so and at this moment, where the clock can be read.
+    pub(crate) fn remove(&mut self, serial: u64, closing: Option<(Closing, Instant)>) {
         if let Some(place) = self.open.iter().position(|known| known.serial == serial) {
             let connection = self.open.swap_remove(place);
             drop(connection);
-            self.manner.note(closing, now);
+            if let Some((closing, now)) = closing {
+                self.manner.note(closing, now);
+            }
         }
     }
 

@@ -115,11 +115,11 @@ impl UpstreamPool {
 
     /// Closes a connection, and forgets it. Whoever waits for an answer on it is told last, so that its next choice knows of this.
     pub(crate) fn close<R: time::Clock + Wait>(&self, rt: &R, connection: &UpstreamConnection) {
-        if let Ok(now) = Instant::now(rt) {
-            let closing = connection.begin_close(rt, now);
-            let mut connections = self.connections.lock(rt);
-            connections.remove(connection.serial, closing, now);
-        }
+        let closing = match Instant::now(rt) {
+            Ok(now) => Some((connection.begin_close(rt, now), now)),
+            Err(_) => None,
+        };
+        self.connections.lock(rt).remove(connection.serial, closing);
         connection.close(rt);
         self.tell_one();
     }
