@@ -1,7 +1,7 @@
 //! Datagrams that come over the wires of a server, and replies to them.
 
 use crate::loopback::at;
-use edge_io::{Arrival, Inlet, Received, Replies, SendError, Sink, Source, WireError, Wires};
+use edge_io::{Arrival, Inlet, Received, Replies, SendError, Sink, Source, Wake, WireError, Wires};
 use ip_prefix::Transport;
 use rpz_net::{NetWires, address_of};
 use std::io;
@@ -57,7 +57,8 @@ fn wires_that_are_not_bound_fail(rt: HostRuntime) {
 }
 
 fn fails<W: Wires>(rt: &impl Abort, wires: &mut W) {
-    assert!(rt; matches!(wires.wait(), Err(WireError::Failed)));
+    // transfers may be ordered all the same
+    assert!(rt; matches!(wires.wait(), Ok(Wake::Due)));
     assert!(rt; matches!(wires.datagrams(), Err(WireError::Failed)));
     assert!(rt; matches!(wires.replies(), Err(WireError::Failed)));
     assert_eq!(rt;

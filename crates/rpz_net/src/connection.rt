@@ -3,12 +3,12 @@
 use crate::read_buffer::ReadBuffer;
 use crate::tcp_sink::TcpSink;
 use crate::tcp_source::TcpSource;
-use crate::time_limit::{Span, TimeLimit};
+use crate::time_limit::TimeLimit;
 use edge_io::WireError;
 use std::alloc::{AllocError, Global};
 use std::net::TcpStream;
 use std::sync::Arc;
-use std::time::Duration;
+use std::time::{Duration, Instant};
 use std::{io, time};
 
 /// A connection to a server: the reading side, and the writing side.
@@ -38,14 +38,14 @@ fn share(
     Ok((stream, again, buffer))
 }
 
-/// Both sides of a connection to a server, whose source reads so many bytes ahead, and whose calls have this limit. `Failed` comes
-/// where the socket takes no option.
+/// Both sides of a connection to a server, whose source reads so many bytes ahead, and whose calls have this limit, and end at this
+/// moment at the latest. `Failed` comes where the socket takes no option.
 pub(crate) fn sides_of<R: time::Clock + Copy + Drop>(
     rt: R,
     alloc: Global,
     stream: TcpStream,
     ahead: usize,
-    span: Span,
+    end: Instant,
     limit: Duration,
 ) -> Result<Sides<R>, WireError> {
     if set_options(&stream, limit).is_err() {
@@ -54,8 +54,8 @@ pub(crate) fn sides_of<R: time::Clock + Copy + Drop>(
     let Ok((stream, again, buffer)) = share(alloc, stream, ahead) else {
         return Err(WireError::OutOfMemory);
     };
-    let source = TcpSource::new(rt, alloc, stream, buffer, TimeLimit::new(span, limit));
-    let sink = TcpSink::new(rt, alloc, again, TimeLimit::new(span, limit));
+    let source = TcpSource::new(rt, alloc, stream, buffer, TimeLimit::new(end, limit));
+    let sink = TcpSink::new(rt, alloc, again, TimeLimit::new(end, limit));
     match (source, sink) {
         (Ok(source), Ok(sink)) => Ok((source, sink)),
         _ => Err(WireError::OutOfMemory),

@@ -7,6 +7,7 @@
 #![tactic(auto)]
 
 mod address;
+mod answer_place;
 mod client_connection;
 mod client_counts;
 mod client_phase;
@@ -32,6 +33,7 @@ mod peer_table;
 mod place_list;
 mod random_ids;
 mod read_buffer;
+mod reader_threads;
 mod reception;
 mod server_replies;
 mod service;
@@ -47,7 +49,18 @@ mod tcp_source;
 mod thread_starter;
 mod time_limit;
 mod transfer;
+mod upstream_asker;
+mod upstream_connection;
+mod upstream_connections;
+mod upstream_failures;
+mod upstream_frames;
+mod upstream_manner;
+mod upstream_pool;
+mod upstream_questions;
+mod upstream_reader;
+mod upstreams;
 mod wake_signal;
+mod wire_numbers;
 mod wire_state;
 
 pub use address::{address_of, endpoint_of};

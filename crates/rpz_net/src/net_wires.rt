@@ -9,12 +9,12 @@ use crate::client_sink::ClientSink;
 use crate::client_source::ClientSource;
 use crate::connection_inlet::ConnectionInlet;
 use crate::datagram_inlet::DatagramInlet;
-use crate::limits::{UPSTREAM_ANSWER_SECONDS, UPSTREAM_CONNECT_SECONDS};
 use crate::orders::Orders;
 use crate::server_replies::ServerReplies;
 use crate::service::Service;
 use crate::tcp_link::TcpLink;
 use crate::thread_starter::{ThreadStarter, thread_starter};
+use crate::upstreams::Upstreams;
 use edge_io::{ConnectionLimits, Endpoint, Order, SendError, Wake, WireError, Wires};
 use ip_prefix::Transport;
 use std::alloc::Global;
@@ -22,14 +22,13 @@ use std::net::{Net, TcpListener, TcpStream};
 use std::sync::Wait;
 use std::thread::Threads;
 use std::time;
-use std::time::Duration;
 
 /// The network of a server: a UDP socket and a TCP listener at the endpoint that it serves, TCP connections to the primary servers
 /// of its zones, and TCP connections to its upstream.
 ///
 /// It tells nothing of what comes and goes. The limits of time are those of `limits`. It has a thread for the connections of clients, one
-/// for each transfer that is under way, and one that starts these. No call waits for any of them, but for `stop`, which joins the first
-/// and the last.
+/// for each connection to an upstream, one for each transfer that is under way, and one that starts these. No call waits for any of
+/// them, but for `stop`, which joins all but those of transfers.
 ///
 /// Where the host has several addresses, each is bound by wires of its own: from the unspecified address (0.0.0.0 or ::) the system
 /// sends a reply from the address that it would choose, and not from the one that was asked.
@@ -45,6 +44,7 @@ pub struct NetWires<
     starter: Option<ThreadStarter<R>>,
     service: Option<Service<R>>,
     orders: Orders,
+    upstreams: Upstreams,
     order_faults: u64,
     faults: u64,
 }
@@ -73,6 +73,7 @@ impl<
             starter: thread_starter(rt, alloc).ok(),
             service: None,
             orders: Orders::new(alloc),
+            upstreams: Upstreams::new(alloc),
             order_faults: 0,
             faults: 0,
         }
@@ -165,12 +166,14 @@ impl<
     }
 
     fn link(&mut self, upstream: Endpoint) -> Result<TcpLink<R>, WireError> {
-        Ok(TcpLink::new(
-            self.rt,
-            upstream,
-            Duration::from_secs(UPSTREAM_CONNECT_SECONDS),
-            Duration::from_secs(UPSTREAM_ANSWER_SECONDS),
-        ))
+        let Some(starter) = &self.starter else {
+            count_fault(&mut self.faults);
+            return Err(WireError::Failed);
+        };
+        match self.upstreams.link(self.rt, starter, upstream) {
+            Ok(link) => Ok(link),
+            Err(_) => Err(WireError::OutOfMemory),
+        }
     }
 
     fn replies(&mut self) -> Result<ServerReplies<R>, WireError> {
@@ -231,7 +234,10 @@ impl<
     fn wait(&mut self) -> Result<Wake, WireError> {
         let next = match &mut self.service {
             Some(service) => service.next_wake(&self.rt, &mut self.orders),
-            None => None,
+            None => match &self.starter {
+                Some(starter) => self.orders.next_wake(&self.rt, &starter.state),
+                None => None,
+            },
         };
         match next {
             Some(wake) => {
@@ -269,6 +275,7 @@ impl<
             service.state.stop();
         }
         self.orders.forget_all(&self.rt);
+        self.upstreams.stop(&self.rt);
         if let Some(starter) = self.starter.take() {
             starter.end(&self.rt);
         }

@@ -3,8 +3,10 @@
 ghost use Rattle.std.specs.Prelude.{◌≤◌, length};
 ghost use Rattle.edge_io.specs.declared.frame.TheConstants.{FRAME_MAX};
 
+use crate::limits::WAKE_SECONDS;
 use crate::order_line::{OrderHandle, OrderLine, Piece, TransferPlace, order_ends};
 use crate::thread_starter::{Job, ThreadStarter};
+use crate::time_limit::{moment_after, time_until};
 use crate::transfer::Transfer;
 use crate::wire_state::WireState;
 use dns_name::Octets;
@@ -13,6 +15,7 @@ use std::alloc::{AllocError, Global};
 use std::net::{Net, TcpListener, TcpStream};
 use std::sync::{Arc, Wait};
 use std::time;
+use std::time::Duration;
 
 // An order, and where what comes of it is taken from.
 #[derive(Drop)]
@@ -143,6 +146,26 @@ impl Orders {
             }
         }
         None
+    }
+
+    /// Waits for what comes of one of them, `WAKE_SECONDS` at most, while no endpoint is open. `None` says that the clock can't be read.
+    pub(crate) fn next_wake<R: time::Clock + Wait>(
+        &mut self,
+        rt: &R,
+        wires: &WireState,
+    ) -> Option<Wake> {
+        let end = moment_after(rt, Duration::from_secs(WAKE_SECONDS)).ok()?;
+        for _ in 0..u64::MAX {
+            let count = wires.signal.count();
+            if let Some(wake) = self.take(rt) {
+                return Some(wake);
+            }
+            match time_until(rt, end) {
+                Ok(left) => wires.signal.wait(rt, count, left),
+                Err(_) => return Some(Wake::Due),
+            }
+        }
+        Some(Wake::Due)
     }
 
     fn take_at<R: Wait>(&mut self, rt: &R, place: usize) -> Option<Wake> {

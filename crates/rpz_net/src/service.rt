@@ -21,6 +21,7 @@ use crate::time_limit::{moment_after, time_until};
 use crate::wire_state::WireState;
 use crossbeam_channel::{Receiver, Sender, bounded};
 use edge_io::{Endpoint, Wake, WireError};
+use ip_prefix::Transport;
 use mio::unix::SourceFd;
 use mio::{Events, Interest, Poll, Waker};
 use std::alloc::{AllocError, Global};

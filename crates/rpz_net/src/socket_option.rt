@@ -2,7 +2,7 @@
 
 use crate::limits::{BACKLOG, CLIENT_RECEIVE_BUFFER, CLIENT_SEND_BUFFER, UNREAD_MILLISECONDS};
 use libc::net as c;
-use std::net::{TcpListener, UdpSocket};
+use std::net::{TcpListener, TcpStream, UdpSocket};
 use std::os::fd::AsRawFd;
 
 // The value of an option that is a number.
@@ -42,6 +42,12 @@ pub(crate) fn prepare_listener(listener: &TcpListener) {
         let _ = c::setsockopt(fd, c::IPPROTO_TCP, c::TCP_NODELAY, &at_once, 4);
     }
     let _ = c::listen(fd, BACKLOG);
+}
+
+/// Asks the system to keep so many bytes of a stream that have not gone out (SO_SNDBUF), likewise.
+pub(crate) fn ask_stream_send_buffer(stream: &TcpStream, bytes: i32) {
+    let value = option_value(bytes);
+    let _ = unsafe { c::setsockopt(stream.as_raw_fd(), c::SOL_SOCKET, c::SO_SNDBUF, &value, 4) };
 }
 
 /// Ends all waits for datagrams on the socket, those that are under way and those that begin later (SHUT_RD). Datagrams still go out.

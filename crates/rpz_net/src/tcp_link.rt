@@ -2,105 +2,89 @@
 
 ghost use Rattle.std.specs.Prelude.{◌≡◌};
 
-use crate::address::address_of;
-use crate::connection::sides_of;
-use crate::limits::CLIENT_BUFFER;
-use crate::tcp_sink::TcpSink;
-use crate::tcp_source::TcpSource;
-use crate::time_limit::{Span, moment_after, time_until};
+use crate::limits::UPSTREAM_ANSWER_SECONDS;
+use crate::upstream_asker::{AskError, UpstreamAsker};
 use dns_name::Octets;
-use edge_io::{
-    Deadline, Endpoint, FRAME_MAX, FrameError, Link, LinkError, SinkError, WireError, read_frame,
-    write_frame,
-};
+use edge_io::{Deadline, FRAME_MAX, Link, LinkError};
 use std::alloc::Global;
-use std::net::{Net, TcpStream};
+use std::net::{Net, TcpListener, TcpStream};
+use std::sync::Wait;
+use std::time;
 use std::time::{Duration, Instant};
-use std::{io, time};
 
-/// A link to the upstream. Each question has a TCP connection of its own, over which it goes as one frame (RFC 7766, section 8), and
-/// the first frame that comes back is the answer.
+/// A link to the upstream. All links to one upstream share its connections, on each of which several questions may wait for their
+/// answers, which come in any order (RFC 7766, sections 6.2.1.1 and 7). A question goes out as one frame (section 8), with an ID that
+/// is random and free on its connection.
 ///
-/// An exchange fails, and counts one fault, where the upstream takes no connection within the first limit; where the answer isn't
-/// whole within the second limit, which counts from the start of the connection; where the upstream closes before; at each error of
-/// the socket; and for a question of more than `FRAME_MAX` bytes.
+/// An exchange fails, and counts one fault, where no answer came within `UPSTREAM_ANSWER_SECONDS`, or at its deadline, if that is
+/// earlier; where the upstream takes no connection, or closes it before the answer, and another one, too; where the same question was
+/// not answered in time in the last `UPSTREAM_FAILURE_SECONDS`, nor since; once the wires have stopped; and for a question of fewer than two bytes
+/// or more than `FRAME_MAX`.
 #[derive(Drop)]
-pub struct TcpLink<R: Net<Stream = TcpStream> + time::Clock + Copy + Drop> {
-    rt: R,
-    upstream: Endpoint,
-    connect_limit: Duration,
-    answer_limit: Duration,
+pub struct TcpLink<
+    R: Net<Listener = TcpListener, Stream = TcpStream> + time::Clock + Wait + Copy + Drop,
+> {
+    asker: UpstreamAsker<R>,
+    deadline: Option<Deadline>,
     faults: u64,
 }
 
-impl<R: Net<Stream = TcpStream> + time::Clock + Copy + Drop> TcpLink<R> {
-    /// A link to this upstream, with these two limits. No exchange has failed yet. Where a limit is 0, each fails.
-    pub fn new(rt: R, upstream: Endpoint, connect_limit: Duration, answer_limit: Duration) -> Self
+impl<R: Net<Listener = TcpListener, Stream = TcpStream> + time::Clock + Wait + Copy + Drop> TcpLink<
+    R,
+> {
+    // A link that asks so. No exchange has failed yet.
+    pub(crate) fn new(asker: UpstreamAsker<R>) -> Self
         ensures no_fault { ⟦<TcpLink<R> as Link>⟧.faults result ≡ 0 }
     {
         TcpLink {
-            rt,
-            upstream,
-            connect_limit,
-            answer_limit,
+            asker,
+            deadline: None,
             faults: 0,
         }
     }
 
-    // A connection to the upstream, and the time that is then left of an exchange that has to end at this moment.
-    fn connect(&self, end: Instant) -> io::Result<(TcpStream, Duration)> {
-        let within = self.connect_limit.min(self.answer_limit);
-        let stream = self.rt.connect_timeout(address_of(self.upstream), within)?;
-        Ok((stream, time_until(&self.rt, end)?))
-    }
-
-    // Both sides of a connection to the upstream, for one exchange.
-    fn open(&self, alloc: Global) -> Result<(TcpSource<R>, TcpSink<R>), LinkError> {
-        let Ok(end) = moment_after(&self.rt, self.answer_limit) else {
-            return Err(LinkError::Failed);
-        };
-        let Ok((stream, left)) = self.connect(end) else {
-            return Err(LinkError::Failed);
-        };
-        match sides_of(
-            self.rt,
-            alloc,
-            stream,
-            CLIENT_BUFFER,
-            Span::Whole(end),
-            left,
-        ) {
-            Ok(sides) => Ok(sides),
-            Err(WireError::OutOfMemory) => Err(LinkError::OutOfMemory),
-            Err(WireError::Failed) => Err(LinkError::Failed),
+    // When an exchange has to end that begins now.
+    fn end(&self, now: Instant) -> Option<Instant> {
+        let latest = now.checked_add(Duration::from_secs(UPSTREAM_ANSWER_SECONDS))?;
+        match &self.deadline {
+            Some(deadline) => match deadline.end() {
+                Some(end) if end < latest => Some(end),
+                _ => Some(latest),
+            },
+            None => Some(latest),
         }
     }
 
     // One exchange.
     fn ask(&self, alloc: Global, sent: &[u8]) -> Result<Octets, LinkError> {
-        if sent.len() > FRAME_MAX {
+        let asker = &self.asker;
+        let Ok(now) = Instant::now(&asker.rt) else {
+            return Err(LinkError::Failed);
+        };
+        let Some(end) = self.end(now) else {
+            return Err(LinkError::Failed);
+        };
+        let fits = 2 <= sent.len() && sent.len() <= FRAME_MAX;
+        if !fits || asker.pool.has_failed(&asker.rt, sent, now) {
             return Err(LinkError::Failed);
         }
-        let (mut source, mut sink) = self.open(alloc)?;
-        match write_frame(&mut sink, sent) {
-            Ok(()) => {}
-            Err(SinkError::OutOfMemory) => return Err(LinkError::OutOfMemory),
-            Err(SinkError::WriteFault) => return Err(LinkError::Failed),
-        }
-        match read_frame(alloc, &mut source) {
-            Ok(Some(received)) => Ok(received),
-            Err(FrameError::OutOfMemory) => Err(LinkError::OutOfMemory),
-            Ok(None) | Err(FrameError::Fault(_)) => Err(LinkError::Failed),
+        match asker.ask(alloc, sent, now, end) {
+            Ok(received) => Ok(received),
+            Err(AskError::OutOfMemory) => Err(LinkError::OutOfMemory),
+            Err(AskError::Failed | AskError::Late) => Err(LinkError::Failed),
         }
     }
 }
 
-impl<R: Net<Stream = TcpStream> + time::Clock + Copy + Drop> Link for TcpLink<R> {
+impl<R: Net<Listener = TcpListener, Stream = TcpStream> + time::Clock + Wait + Copy + Drop> Link
+    for TcpLink<R> {
     ghost gave = { λ _ _ _. Unit {0} };
 
     ghost faults = { λ l. l.faults };
 
-    fn keep_to(&mut self, _deadline: Deadline) {}
+    fn keep_to(&mut self, deadline: Deadline) {
+        self.deadline = Some(deadline);
+    }
 
     fn exchange(&mut self, alloc: Global, sent: &[u8], _now: u32) -> Result<Octets, LinkError> {
         match self.ask(alloc, sent) {

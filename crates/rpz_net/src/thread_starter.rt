@@ -1,15 +1,18 @@
 //! What starts the threads of wires.
 
-use crate::limits::THREAD_QUEUE;
+use crate::limits::{START_MILLISECONDS, THREAD_QUEUE};
+use crate::reader_threads::{ReaderThread, end_readers, start_reader};
 use crate::reception::Reception;
 use crate::service_state::ServiceState;
 use crate::transfer::Transfer;
+use crate::upstream_reader::UpstreamReader;
 use crate::wire_state::WireState;
 use crossbeam_channel::{Receiver, Sender, bounded};
 use std::alloc::{AllocError, Global};
 use std::net::{Net, TcpListener, TcpStream};
 use std::sync::{Arc, Wait};
 use std::thread::{JoinHandle, Threads};
+use std::time::Duration;
 use std::{thread, time};
 
 /// What a thread is started for.
@@ -21,6 +24,10 @@ pub(crate) enum Job<
     Serve(Reception<R>),
     /// To run a transfer.
     Transfer(Transfer<R>),
+    /// To read a connection to an upstream.
+    Upstream(UpstreamReader<R>),
+    /// For nothing more.
+    End,
 }
 
 /// A thread that starts the others, and what they share. It is there from the start of the wires on, since the prover covers no thread
@@ -37,12 +44,19 @@ pub(crate) struct ThreadStarter<
 impl<
     R: Net<Listener = TcpListener, Stream = TcpStream> + time::Clock + Wait + Copy + Drop,
 > ThreadStarter<R> {
-    /// Starts a thread for a job, soon. `false` says that too many wait, or that it has ended; then the job is dropped. It doesn't wait.
+    /// Starts a thread for a job, soon. `false` says that too many wait for longer than `START_MILLISECONDS`, or that it has ended; then
+    /// the job is dropped.
     pub(crate) fn start(&self, rt: &R, job: Job<R>) -> bool {
-        self.jobs.try_send(rt, job).is_ok()
+        let most = Duration::from_millis(START_MILLISECONDS);
+        self.jobs.send_timeout(rt, job, most).is_ok()
     }
 
-    /// Ends it, and with it the thread that has the connections of clients. Transfers go on.
+    /// Where jobs are given to it.
+    pub(crate) fn jobs(&self) -> Result<Sender<Job<R>>, AllocError> {
+        self.jobs.clone()
+    }
+
+    /// Ends it, and with it the threads that have the connections of clients and to upstreams. Transfers go on.
     pub(crate) fn end(self, rt: &R)
     where
         R: Threads,
@@ -52,6 +66,7 @@ impl<
             jobs,
             thread,
         } = self;
+        let _ = jobs.send(rt, Job::End);
         drop(jobs);
         thread.join(rt);
     }
@@ -70,7 +85,7 @@ pub(crate) fn thread_starter<
 >(rt: R, alloc: Global) -> Result<ThreadStarter<R>, AllocError> {
     let state = WireState::new(alloc)?;
     let (jobs, receiver) = bounded(alloc, THREAD_QUEUE)?;
-    match thread::spawn(&rt, move || start_threads(rt, receiver)) {
+    match thread::spawn(&rt, move || start_threads(rt, alloc, receiver)) {
         Ok(thread) => Ok(ThreadStarter {
             state,
             jobs,
@@ -106,8 +121,9 @@ fn start_threads<
         + Drop
         + Send
         + 'static,
->(rt: R, jobs: Receiver<Job<R>>) {
+>(rt: R, alloc: Global, jobs: Receiver<Job<R>>) {
     let mut serving: Option<Serving> = None;
+    let mut readers: Vec<ReaderThread> = Vec::new(alloc);
     for _ in 0..u64::MAX {
         match jobs.recv(&rt) {
             Ok(Job::Serve(reception)) => {
@@ -117,9 +133,11 @@ fn start_threads<
                 serving = serve(rt, reception);
             }
             Ok(Job::Transfer(transfer)) => run_transfer(rt, transfer),
-            Err(_) => break,
+            Ok(Job::Upstream(reader)) => start_reader(rt, &mut readers, reader),
+            Ok(Job::End) | Err(_) => break,
         }
     }
+    end_readers(&rt, readers);
     if let Some(serving) = serving {
         serving.end(&rt);
     }

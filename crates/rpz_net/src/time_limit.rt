@@ -7,29 +7,21 @@ use std::{io, time};
 // call.
 const SLACK: u32 = 8;
 
-/// What has to be done within a limit.
-#[derive(Clone, Copy, Debug, PartialEq, Eq)]
-pub(crate) enum Span {
-    /// Each call by itself, and all together up to a moment.
-    Call(Instant),
-    /// All calls together, up to a moment.
-    Whole(Instant),
-}
-
-/// The limit of one direction of a connection, and how long its socket waits at present.
+/// The limit of one direction of a connection: for each call by itself, and for all together. And how long its socket waits at present.
 #[derive(Drop)]
 pub(crate) struct TimeLimit {
-    span: Span,
+    // Until when all calls have to end.
+    end: Instant,
     limit: Duration,
     // How long a call of the socket waits.
     wait: Duration,
 }
 
 impl TimeLimit {
-    /// A socket whose calls wait for the whole limit.
-    pub(crate) fn new(span: Span, limit: Duration) -> Self {
+    /// A socket whose calls wait for the whole limit, and end at this moment at the latest.
+    pub(crate) fn new(end: Instant, limit: Duration) -> Self {
         TimeLimit {
-            span,
+            end,
             limit,
             wait: limit,
         }
@@ -48,10 +40,7 @@ impl TimeLimit {
 
     // What is left for the next call.
     fn left<R: time::Clock>(&self, rt: &R) -> io::Result<Duration> {
-        match self.span {
-            Span::Call(end) => Ok(self.limit.min(time_until(rt, end)?)),
-            Span::Whole(end) => time_until(rt, end),
-        }
+        Ok(self.limit.min(time_until(rt, self.end)?))
     }
 }
 

@@ -9,7 +9,7 @@ use crate::limits::{CONNECT_SECONDS, TRANSFER_BUFFER, TRANSFER_IDLE_SECONDS, TRA
 use crate::order_line::OrderLine;
 use crate::tcp_sink::TcpSink;
 use crate::tcp_source::TcpSource;
-use crate::time_limit::{Span, moment_after};
+use crate::time_limit::moment_after;
 use dns_name::Octets;
 use edge_io::{
     Endpoint, FrameError, FrameFault, OrderEnd, SinkError, WireError, read_frame, write_frame,
@@ -84,14 +84,7 @@ impl<
             return Err(OrderEnd::FetchFault);
         };
         let limit = Duration::from_secs(TRANSFER_IDLE_SECONDS);
-        match sides_of(
-            self.rt,
-            self.alloc,
-            stream,
-            TRANSFER_BUFFER,
-            Span::Call(end),
-            limit,
-        ) {
+        match sides_of(self.rt, self.alloc, stream, TRANSFER_BUFFER, end, limit) {
             Ok(sides) => Ok(sides),
             Err(WireError::OutOfMemory) => Err(OrderEnd::OutOfMemory),
             Err(WireError::Failed) => Err(OrderEnd::FetchFault),

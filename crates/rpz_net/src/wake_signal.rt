@@ -1,10 +1,10 @@
-//! What ends the wait of the thread that has the wires.
+//! What ends the wait of a thread.
 
 use std::sync::Wait;
 use std::sync::atomic::{AtomicU64, Ordering};
 use std::time::Duration;
 
-/// What ends the wait of the thread that has the wires, raised by others once they have something for it.
+/// What ends the wait of a thread, as of the one that has the wires, raised by others once they have something for it.
 ///
 /// The thread takes the count, looks whether there is something, and else waits with that count, so that it misses nothing that was
 /// there before a raise.
@@ -26,10 +26,16 @@ impl WakeSignal {
         self.raised.load(Ordering::SeqCst)
     }
 
-    /// Ends the wait. It doesn't wait itself.
+    /// Ends the wait of one thread. It doesn't wait itself.
     pub(crate) fn raise(&self) {
         self.raised.fetch_add(1, Ordering::SeqCst);
         self.raised.wake_one();
+    }
+
+    /// Ends the waits of all threads. It doesn't wait itself.
+    pub(crate) fn raise_all(&self) {
+        self.raised.fetch_add(1, Ordering::SeqCst);
+        self.raised.wake_all();
     }
 
     /// Waits until it was raised more often than this, so long at most. It may also end before.

@@ -1,0 +1,228 @@
+//! The questions of a connection to the upstream.
+
+use crate::answer_place::{Answer, AnswerPlace};
+use crate::limits::{
+    UPSTREAM_ABANDONED, UPSTREAM_CUT_MILLISECONDS, UPSTREAM_IDLE_SECONDS, UPSTREAM_SILENCE_SECONDS,
+};
+use crate::wire_numbers::WireNumbers;
+use std::alloc::{AllocError, Global};
+use std::sync::{Arc, Wait};
+use std::time::{Duration, Instant};
+
+// A question whose answer has not come.
+#[derive(Drop)]
+struct Question {
+    // Its ID on this connection.
+    number: u16,
+    // The ID of the message that is asked.
+    id: u16,
+    // Where its answer comes.
+    place: Arc<AnswerPlace>,
+    // Somebody waits for it: it wasn't given up.
+    is_awaited: bool,
+}
+
+/// How many questions of a connection are not answered.
+#[derive(Clone, Copy, Debug)]
+pub(crate) struct Load {
+    /// All of them.
+    pub(crate) asked: usize,
+    /// Those that somebody waits for.
+    pub(crate) awaited: usize,
+}
+
+/// How a connection was closed.
+#[derive(Clone, Copy, Debug)]
+pub(crate) struct Closing {
+    /// How many questions were answered on it.
+    pub(crate) answered: u64,
+    /// It was closed right behind an answer, while others were to come.
+    pub(crate) was_cut: bool,
+}
+
+/// The questions of a connection to the upstream whose answers have not come, in no order, and whether it takes more of them.
+#[derive(Drop)]
+pub(crate) struct UpstreamQuestions {
+    questions: Vec<Question>,
+    // How many of them somebody waits for.
+    awaited: usize,
+    // How many were answered.
+    answered: u64,
+    // It was closed as `Closing` says.
+    was_cut: bool,
+    // When something came last; or, where no answer was to come then, when the first question was asked since.
+    heard: Instant,
+    // Since when nobody waits, where nobody does.
+    idle_since: Instant,
+    // It takes no more questions.
+    is_retired: bool,
+    is_closed: bool,
+}
+
+fn is_past(since: Instant, seconds: u64, now: Instant) -> bool {
+    now.saturating_duration_since(since) >= Duration::from_secs(seconds)
+}
+
+impl UpstreamQuestions {
+    /// Nothing was asked by now.
+    pub(crate) fn new(alloc: Global, now: Instant) -> Self {
+        UpstreamQuestions {
+            questions: Vec::new(alloc),
+            awaited: 0,
+            answered: 0,
+            was_cut: false,
+            heard: now,
+            idle_since: now,
+            is_retired: false,
+            is_closed: false,
+        }
+    }
+
+    // Whether an answer is to come and nothing has come for too long.
+    fn is_silent(&self, now: Instant) -> bool {
+        !self.questions.is_empty() && is_past(self.heard, UPSTREAM_SILENCE_SECONDS, now)
+    }
+
+    /// How many are not answered; `None` where no more questions are taken: it is closed or was retired, nothing came for too long, or
+    /// too many were given up.
+    pub(crate) fn load(&self, now: Instant) -> Option<Load> {
+        let asked = self.questions.len();
+        let abandoned = asked.saturating_sub(self.awaited);
+        if self.is_closed
+            || self.is_retired
+            || abandoned >= UPSTREAM_ABANDONED
+            || self.is_silent(now)
+        {
+            return None;
+        }
+        Some(Load {
+            asked,
+            awaited: self.awaited,
+        })
+    }
+
+    // A number that no question of this connection has.
+    fn free_number(&self, numbers: &mut WireNumbers) -> Option<u16> {
+        for _ in 0..u16::MAX {
+            let number = numbers.next_number();
+            if !self.questions.iter().any(|known| known.number == number) {
+                return Some(number);
+            }
+        }
+        None
+    }
+
+    /// Takes a question with this ID, whose answer comes to this place, and says under which number it goes out; `None` where the
+    /// connection is closed.
+    pub(crate) fn ask(
+        &mut self,
+        numbers: &mut WireNumbers,
+        id: u16,
+        place: Arc<AnswerPlace>,
+        now: Instant,
+    ) -> Result<Option<u16>, AllocError> {
+        let Some(number) = self.free_number(numbers) else {
+            return Ok(None);
+        };
+        if self.is_closed {
+            return Ok(None);
+        }
+        if self.questions.is_empty() {
+            self.heard = now;
+        }
+        self.questions.push(Question {
+            number,
+            id,
+            place,
+            is_awaited: true,
+        })?;
+        self.awaited = self.awaited.saturating_add(1);
+        Ok(Some(number))
+    }
+
+    // Nobody waits for one of them any more.
+    fn leave_one(&mut self, now: Instant) {
+        self.awaited = self.awaited.saturating_sub(1);
+        self.idle_since = now;
+    }
+
+    /// The answer of this number came: the ID that the question had, and who waits for it. `None` where nobody does.
+    pub(crate) fn answer(&mut self, number: u16, now: Instant) -> Option<(u16, Arc<AnswerPlace>)> {
+        let index = self
+            .questions
+            .iter()
+            .position(|known| known.number == number)?;
+        let Question {
+            number: _,
+            id,
+            place,
+            is_awaited,
+        } = self.questions.swap_remove(index);
+        self.answered = self.answered.saturating_add(1);
+        if is_awaited {
+            self.leave_one(now);
+        } else {
+            place.come_late();
+        }
+        if is_awaited { Some((id, place)) } else { None }
+    }
+
+    /// Nobody waits for the answer of this number any more. The number stays taken until its answer comes.
+    pub(crate) fn give_up(&mut self, number: u16, now: Instant) {
+        let mut was_awaited = false;
+        for known in self.questions.iter_mut() {
+            if known.number == number {
+                was_awaited = known.is_awaited;
+                known.is_awaited = false;
+            }
+        }
+        if was_awaited {
+            self.leave_one(now);
+        }
+    }
+
+    /// Something came.
+    pub(crate) fn hear(&mut self, now: Instant) {
+        self.heard = now;
+    }
+
+    /// No more questions are taken.
+    pub(crate) fn retire(&mut self) {
+        self.is_retired = true;
+    }
+
+    /// Closes the connection where nobody waits, and it takes no more questions or nobody has waited for `UPSTREAM_IDLE_SECONDS`. Says
+    /// whether it is closed.
+    pub(crate) fn close_if_done(&mut self, now: Instant) -> bool {
+        let is_done = self.load(now).is_none()
+            || is_past(self.idle_since, UPSTREAM_IDLE_SECONDS, now);
+        if self.awaited == 0 && is_done {
+            self.is_closed = true;
+        }
+        self.is_closed
+    }
+
+    /// Takes no more questions, since the connection is to be closed, and says how.
+    pub(crate) fn begin_close(&mut self, now: Instant) -> Closing {
+        if !self.is_closed && !self.questions.is_empty() && self.answered > 0 {
+            let since = now.saturating_duration_since(self.heard);
+            self.was_cut = since < Duration::from_millis(UPSTREAM_CUT_MILLISECONDS);
+        }
+        self.is_closed = true;
+        Closing {
+            answered: self.answered,
+            was_cut: self.was_cut,
+        }
+    }
+
+    /// Tells whoever waits that the connection is closed. It may be called again.
+    pub(crate) fn close<R: Wait>(&mut self, rt: &R) {
+        self.is_closed = true;
+        self.awaited = 0;
+        for _ in 0..self.questions.len() {
+            if let Some(question) = self.questions.pop() {
+                question.place.give(rt, Answer::Closed);
+            }
+        }
+    }
+}
