@@ -47,7 +47,8 @@ const BOTH_FRAMED: &[u8] = b"\0\x1b\0\x01\x01\0\0\x01\0\0\0\0\0\0\x01x\x07exampl
     \0\x1d\x12\x34\x01\0\0\x01\0\0\0\0\0\0\x03BAD\x07example\0\0\x01\0\x01";
 
 // The reply to the second of them, behind its length.
-const DENIAL_FRAMED: &[u8] = b"\0\x4a\x12\x34\x81\x83\0\x01\0\0\0\0\0\x01\x03BAD\x07example\0\0\x01\0\x01\
+const DENIAL_FRAMED: &[u8] =
+    b"\0\x4a\x12\x34\x81\x83\0\x01\0\0\0\0\0\x01\x03BAD\x07example\0\0\x01\0\x01\
     \x03rpz\x07example\0\0\x06\0\x01\0\0\0<\0\x16\0\0\0\0\0\x01\0\0\x0e\x10\0\0\x02X\0\x01Q\x80\0\0\0<";
 
 // The replies to both.

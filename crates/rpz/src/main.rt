@@ -7,6 +7,7 @@ mod alone;
 mod cases;
 #[cfg(test)]
 mod gate;
+mod line_sink;
 #[cfg(test)]
 mod loopback;
 mod output;
@@ -19,8 +20,9 @@ mod replays;
 #[cfg(test)]
 mod runs;
 
-use edge_io::{ReaderSource, TaskSpawner};
-use output::Output;
+use edge_io::{ReaderSource, TaskSpawner, WriterSink};
+use line_sink::line_sink;
+use output::{Output, Way};
 use rpz_net::{NetWires, RandomIds, SystemClock};
 use rpz_program::run::run;
 use rpz_program::status::Status;
@@ -39,10 +41,24 @@ fn words_of(rt: &HostRuntime, alloc: Global) -> io::Result<Option<Vec<String>>> 
     }
 }
 
+// Whether the words are those of a server. Its lines are written by a thread, so that it waits for no reader of them.
+fn is_server(words: &Option<Vec<String>>) -> bool {
+    match words {
+        Some(words) => words.first().is_some_and(|word| word.as_str() == "serve"),
+        None => false,
+    }
+}
+
 fn main(rt: HostRuntime) -> io::Result<ExitCode> {
     let alloc = rt.alloc();
+    let words = words_of(&rt, alloc)?;
+    let way = if is_server(&words) {
+        Way::ByThread(line_sink(rt, alloc)?)
+    } else {
+        Way::AtOnce(WriterSink::new(io::writer(&rt)))
+    };
     let mut script = ReaderSource::new(rt.reader());
-    let mut out = Output::new(io::writer(&rt), rt.stderr());
+    let mut out = Output::new(way, rt.stderr());
     let mut wires = NetWires::new(rt, alloc);
     let mut spawner: TaskSpawner<Report, HostRuntime> = TaskSpawner::new(
         rt,
@@ -53,7 +69,7 @@ fn main(rt: HostRuntime) -> io::Result<ExitCode> {
     let mut clock = SystemClock::new(rt);
     let mut ids = RandomIds::new(rt);
     let hashers = RandomState::new(&rt)?;
-    let status = match words_of(&rt, alloc)? {
+    let status = match words {
         Some(words) => run(
             &rt,
             alloc,
@@ -68,6 +84,7 @@ fn main(rt: HostRuntime) -> io::Result<ExitCode> {
         ),
         None => Status::Usage,
     };
+    out.end();
     let is_told = out.is_told && status == Status::WriteFault;
     if !is_told && let Some(text) = status.text(alloc)? {
         eprintln!(rt; "{text}")?;

@@ -1,28 +1,62 @@
 //! Standard output.
 
-ghost use Rattle.std.specs.Prelude.{None};
+ghost use Rattle.std.specs.Prelude.{◌≡◌, ◌≤◌, ◌<◌, None, IfOk, length};
 
+use crate::line_sink::LineSink;
 use edge_io::{Sink, SinkError, WriterSink};
 use std::io;
 use std::io::Write;
+use std::sync::Wait;
+use std::time::Clock;
+
+/// Where the output goes: to a writer at once, or to a thread that writes it, so that nobody waits.
+#[derive(Drop)]
+pub enum Way<W: Write + Drop, R: Wait + Drop> {
+    AtOnce(WriterSink<W>),
+    ByThread(LineSink<R>),
+}
 
 /// Standard output, of which contracts don't know the bytes. The first write that fails is said on standard error at once, since a
 /// server goes on without its lines.
 #[derive(Drop)]
-pub struct Output<W: Write + Drop, E: Write + Drop> {
-    sink: WriterSink<W>,
+pub struct Output<W: Write + Drop, R: Wait + Drop, E: Write + Drop> {
+    way: Way<W, R>,
     errors: E,
+    faults: u64,
     /// A write has failed, and that was said.
     pub is_told: bool,
 }
 
-impl<W: Write + Drop, E: Write + Drop> Output<W, E> {
-    /// Writes to the first writer, and says on the second where that fails.
-    pub fn new(writer: W, errors: E) -> Self {
+impl<W: Write + Drop, R: Wait + Drop, E: Write + Drop> Output<W, R, E> {
+    /// Writes this way, and says on the writer where that fails.
+    pub fn new(way: Way<W, R>, errors: E) -> Self {
         Output {
-            sink: WriterSink::new(writer),
+            way,
             errors,
+            faults: 0,
             is_told: false,
+        }
+    }
+
+    /// Waits until all was written, a second at most.
+    pub fn end(&self)
+    where
+        R: Clock,
+    {
+        if let Way::ByThread(lines) = &self.way {
+            lines.end();
+        }
+    }
+
+    // One write, the way that it goes.
+    fn write_on(&mut self, piece: &[u8]) -> Result<usize, SinkError>
+        requires { 0 < length piece.now }
+        ensures within { IfOk result (λ n. n ≤ length piece.now) }
+        ensures faults { self.new.faults ≡ self.old.faults }
+    {
+        match &mut self.way {
+            Way::AtOnce(sink) => sink.write(piece),
+            Way::ByThread(lines) => lines.write(piece),
         }
     }
 }
@@ -32,19 +66,25 @@ fn tell<E: Write>(errors: &mut E) -> io::Result<()> {
     errors.write_all(b"rpz: write fault\n")
 }
 
-impl<W: Write + Drop, E: Write + Drop> Sink for Output<W, E> {
+impl<W: Write + Drop, R: Wait + Drop, E: Write + Drop> Sink for Output<W, R, E> {
     ghost held = { λ _. None };
 
-    ghost faults = { λ o. ⟦<WriterSink<W> as Sink>⟧.faults o.sink };
+    ghost faults = { λ o. o.faults };
 
     ghost steady = { λ _. ⊥ };
 
     fn write(&mut self, piece: &[u8]) -> Result<usize, SinkError> {
-        let written = self.sink.write(piece);
-        if written.is_err() && !self.is_told {
-            self.is_told = true;
-            let _ = tell(&mut self.errors);
+        match self.write_on(piece) {
+            Ok(n) if n > 0 => Ok(n),
+            Err(SinkError::OutOfMemory) => Err(SinkError::OutOfMemory),
+            _ => {
+                self.faults = self.faults.saturating_add(1);
+                if !self.is_told {
+                    self.is_told = true;
+                    let _ = tell(&mut self.errors);
+                }
+                Err(SinkError::WriteFault)
+            }
         }
-        written
     }
 }
