@@ -1,6 +1,7 @@
 -- A run that goes on.
-use Rattle.std.proofs.Common.{◌≡◌, ◌+◌, ◌-◌, ◌≤◌, ◌==◌, ◌^◌, ℕ, min, Bool, true, false, List, ◌∷◌, Option, None, Result, Ok, Err, refl, sym, ap, arith, cond, subst}
+use Rattle.std.proofs.Common.{◌≡◌, ◌∙◌, ◌+◌, ◌-◌, ◌≤◌, ◌==◌, ◌^◌, ℕ, min, Bool, true, false, List, ◌∷◌, Option, None, Result, Ok, Err, refl, sym, ap, arith, cond, subst}
 use Rattle.ip_prefix.specs.declared.Transport.{Transport}
+use Rattle.ip_prefix.specs.declared.Transport.TheVariants as transport
 use Rattle.edge_io.specs.Chain.{Chain, Stage}
 use Rattle.edge_io.specs.Edge.{Rose}
 use Rattle.edge_io.specs.Told.{PlainReply}
@@ -14,7 +15,7 @@ use Rattle.rpz_workers.specs.declared.outcome.Outcome.{Outcome}
 use Rattle.rpz_workers.specs.declared.outcome.Outcome.TheVariants as outcome
 use Rattle.rpz_workers.specs.declared.took.Took.{Took}
 use Rattle.rpz_workers.specs.declared.took.Took.TheVariants as took
-use Rattle.rpz_workers.specs.Handling.{Handles, Sends, StreamViews, WorkerState, sent_after, took_of}
+use Rattle.rpz_workers.specs.Handling.{Handles, Sends, StreamViews, WorkerState, sent_after, took_of, took_over}
 use Rattle.rpz_workers.specs.Items.{NextItem}
 use Rattle.rpz_workers.specs.Replying.{bare_reply}
 use Rattle.rpz_workers.specs.Reporting.{Counts, counted, one_more_counted}
@@ -38,20 +39,45 @@ passed_sends peer transport message what sent is =
     let P : Outcome → Type 0 = λ w. Sends peer transport message w took.PassedOn sent sent in
     subst P (sym is) (record { tried = Ok tt; sent_is = refl; took_is = refl })
 
-no_stop : (what : Outcome) (tried : Result (Unit {0}) SendError) → took.Stop ≡ took_of what tried → ⊥
-no_stop (outcome.Said said.Silent) tried e = cc
-no_stop (outcome.Said (said.Reply bytes)) (Ok done) e = cc
-no_stop (outcome.Said (said.Reply bytes)) (Err send_error.Failed) e = cc
-no_stop (outcome.Said (said.Reply bytes)) (Err send_error.OutOfMemory) e = cc
-no_stop outcome.NoMemory (Ok done) e = cc
-no_stop outcome.NoMemory (Err send_error.Failed) e = cc
-no_stop outcome.NoMemory (Err send_error.OutOfMemory) e = cc
-no_stop outcome.PassedOn tried e = cc
+not_stop : (what : Outcome) (tried : Result (Unit {0}) SendError) → took.Stop ≡ took_of what tried → ⊥
+not_stop (outcome.Said said.Silent) tried e = cc
+not_stop (outcome.Said (said.Reply bytes)) (Ok done) e = cc
+not_stop (outcome.Said (said.Reply bytes)) (Err send_error.Failed) e = cc
+not_stop (outcome.Said (said.Reply bytes)) (Err send_error.OutOfMemory) e = cc
+not_stop outcome.NoMemory (Ok done) e = cc
+not_stop outcome.NoMemory (Err send_error.Failed) e = cc
+not_stop outcome.NoMemory (Err send_error.OutOfMemory) e = cc
+not_stop outcome.PassedOn tried e = cc
+
+no_stop_over : (over : Transport) (became : Took) → (took.Stop ≡ became → ⊥) → took.Stop ≡ took_over over became → ⊥
+no_stop_over transport.Udp became not e = not e
+no_stop_over transport.Tcp took.Reply not e = cc
+no_stop_over transport.Tcp took.Silent not e = cc
+no_stop_over transport.Tcp took.Memory not e = cc
+no_stop_over transport.Tcp took.Failed not e = cc
+no_stop_over transport.Tcp took.PassedOn not e = cc
+no_stop_over transport.Tcp took.Framed not e = cc
+no_stop_over transport.Tcp took.Closed not e = cc
+no_stop_over transport.Tcp took.Learnt not e = cc
+no_stop_over transport.Tcp took.Stop not e = cc
+
+-- an item comes to Failed only where its message does
+failed_over : (over : Transport) (became : Took) → took.Failed ≡ took_over over became → became ≡ took.Failed
+failed_over transport.Udp became e = sym e
+failed_over transport.Tcp took.Reply e = let no : ⊥ = cc in absurd no
+failed_over transport.Tcp took.Silent e = let no : ⊥ = cc in absurd no
+failed_over transport.Tcp took.Memory e = let no : ⊥ = cc in absurd no
+failed_over transport.Tcp took.Failed e = let no : ⊥ = cc in absurd no
+failed_over transport.Tcp took.PassedOn e = let no : ⊥ = cc in absurd no
+failed_over transport.Tcp took.Framed e = let no : ⊥ = cc in absurd no
+failed_over transport.Tcp took.Closed e = let no : ⊥ = cc in absurd no
+failed_over transport.Tcp took.Learnt e = let no : ⊥ = cc in absurd no
+failed_over transport.Tcp took.Stop e = let no : ⊥ = cc in absurd no
 
 -- Stop comes of Stop alone, and changes nothing
 pub stop_is_stop : {L N S K : Type 0} (origins : List (List (List ℕ))) (gave : List ℕ → List ℕ → ℕ → Type 0) (passes_on : Bool) (views : StreamViews S K) (before after : WorkerState L S K) (it : Item N S K)
     → Handles origins gave passes_on views before it took.Stop after → (it ≡ item.Stop) × (after ≡ before)
-stop_is_stop origins gave passes_on views before after (item.Job job) h = absurd (no_stop h.what h.sends.tried h.sends.took_is)
+stop_is_stop origins gave passes_on views before after (item.Job job) h = absurd (no_stop_over job.transport h.became (λ e. not_stop h.what h.sends.tried (e ∙ h.sends.took_is)) h.took_is)
 stop_is_stop origins gave passes_on views before after (item.Connection source sink client) h = let e = h.0 in absurd (cc)
 stop_is_stop origins gave passes_on views before after (item.Told list) h = let e = h.0 in absurd (cc)
 stop_is_stop origins gave passes_on views before after item.Stop h = (refl, h.1)
@@ -59,7 +85,7 @@ stop_is_stop origins gave passes_on views before after item.Stop h = (refl, h.1)
 -- what an item does to the count of failed sends
 pub handled_faults : {L N S K : Type 0} (origins : List (List (List ℕ))) (gave : List ℕ → List ℕ → ℕ → Type 0) (passes_on : Bool) (views : StreamViews S K) (before after : WorkerState L S K) (it : Item N S K) (t : Took)
     → Handles origins gave passes_on views before it t after → (before.send_faults ≤ after.send_faults) × (t ≡ took.Failed → Rose before.send_faults after.send_faults)
-handled_faults origins gave passes_on views before after (item.Job job) t h = (h.count, h.failed)
+handled_faults origins gave passes_on views before after (item.Job job) t h = (h.count, λ f. h.failed (failed_over job.transport h.became (sym f ∙ h.took_is)))
 handled_faults origins gave passes_on views before after (item.Connection source sink client) t h =
     let e = h.0 in let n : before.send_faults ≤ after.send_faults = omega (arith, h.1.send_faults) in (n, λ f. absurd (cc))
 handled_faults origins gave passes_on views before after (item.Told list) t h =
@@ -74,6 +100,7 @@ faults_one c took.Silent a m b was le rose = omega arith
 faults_one c took.Memory a m b was le rose = omega arith
 faults_one c took.Failed a m b was le rose = let r = rose refl in omega arith
 faults_one c took.PassedOn a m b was le rose = omega arith
+faults_one c took.Framed a m b was le rose = omega arith
 faults_one c took.Closed a m b was le rose = omega arith
 faults_one c took.Learnt a m b was le rose = omega arith
 faults_one c took.Stop a m b was le rose = omega arith

@@ -2,6 +2,7 @@
 use Rattle.std.specs.Prelude.{◌≡◌, ◌≤◌, ℕ, Bool, List, Option, Some, None, Result, Ok, Err}
 use Rattle.dns_name.specs.Labels.{Name}
 use Rattle.ip_prefix.specs.declared.Transport.{Transport}
+use Rattle.ip_prefix.specs.declared.Transport.TheVariants as transport
 use Rattle.edge_io.specs.Edge.{Rose}
 use Rattle.edge_io.specs.Told.{Closings, ComesNext, Ended, PlainReply, closed_more, more_if_ok}
 use Rattle.edge_io.specs.declared.endpoint.Endpoint.{Endpoint}
@@ -65,13 +66,13 @@ sent_after sent peer transport None tried = sent
 sent_after sent peer transport (Some bytes) tried =
     more_if_ok sent tried (record { peer = peer; transport = transport; bytes = bytes })
 
--- what became of a job whose reply was to be sent; without a fault it is what is given
+-- what became of a message whose reply was to be sent; without a fault it is what is given
 abbrev pub took_by_send : Took → Result (Unit {0}) SendError → Took
 took_by_send t (Ok done) = t
 took_by_send t (Err send_error.Failed) = took.Failed
 took_by_send t (Err send_error.OutOfMemory) = took.Memory
 
--- what became of a job, by what became of its message and by the send of its reply; where memory ran out for the answer, Memory,
+-- what became of a message, by what its query came to and by the send of its reply; where memory ran out for the answer, Memory,
 -- unless sending the bare reply failed
 abbrev pub took_of : Outcome → Result (Unit {0}) SendError → Took
 took_of (outcome.Said said.Silent) tried = took.Silent
@@ -79,7 +80,14 @@ took_of (outcome.Said (said.Reply bytes)) tried = took_by_send took.Reply tried
 took_of outcome.NoMemory tried = took_by_send took.Memory tried
 took_of outcome.PassedOn tried = took.PassedOn
 
--- How a reply went out over this transport, and what that makes of the job.
+-- what an item comes to whose message came over this transport: over UDP what became of the message; one of a connection is
+-- counted by no job, whatever became of it, unless it was passed on
+abbrev pub took_over : Transport → Took → Took
+took_over transport.Udp t = t
+took_over transport.Tcp took.PassedOn = took.PassedOn
+took_over transport.Tcp _ = took.Framed
+
+-- How a reply went out over this transport, and what that makes of the message.
 pub record Sends (peer : Endpoint) (transport : Transport) (message : List ℕ) (what : Outcome)
     (t : Took) (sent sent_then : Option (List PlainReply)) : Type 0 where
   pub tried : Result (Unit {0}) SendError
@@ -87,19 +95,21 @@ pub record Sends (peer : Endpoint) (transport : Transport) (message : List ℕ) 
   pub took_is : t ≡ took_of what tried
 
 -- A job is answered at the second that the clock gives next, and the reply is sent to its peer over its transport; or it is passed
--- on.
+-- on. Over either transport a send that fails raises the count of send faults.
 pub record HandlesJob {L S K : Type 0} (origins : List Name)
     (gave : List ℕ → List ℕ → ℕ → Type 0) (passes_on : Bool) (job : Job)
     (before : WorkerState L S K) (t : Took) (after : WorkerState L S K) : Type 0 where
   pub now : ℕ
   pub what : Outcome
+  pub became : Took
   pub second : ComesNext before.moments now after.moments
   pub settles : Settles origins gave passes_on job now what before.worker after.worker
       before.passed after.passed
-  pub sends : Sends job.peer job.transport job.message what t before.sent after.sent
+  pub sends : Sends job.peer job.transport job.message what became before.sent after.sent
+  pub took_is : t ≡ took_over job.transport became
   pub closings : after.closings ≡ before.closings
   pub count : before.send_faults ≤ after.send_faults
-  pub failed : t ≡ took.Failed → Rose before.send_faults after.send_faults
+  pub failed : became ≡ took.Failed → Rose before.send_faults after.send_faults
 
 -- A connection is served, and closed with what it ended by.
 pub record HandlesConnection {L S K : Type 0} (origins : List Name)

@@ -56,6 +56,6 @@ pub(crate) fn count(report: Report, took: Took) -> Report
             memory: report.memory,
             failed: report.failed + 1,
         },
-        Took::PassedOn | Took::Closed | Took::Learnt | Took::Stop => report,
+        Took::PassedOn | Took::Framed | Took::Closed | Took::Learnt | Took::Stop => report,
     }
 }

@@ -2,7 +2,7 @@
 
 ghost use Rattle.std.specs.Prelude.{◌≡◌, ◌≤◌, ◌+◌, ◌-◌, ◌^◌, min};
 ghost use Rattle.edge_io.specs.Edge.{Rose};
-ghost use Rattle.rpz_workers.specs.Handling.{Handles, HandlesJob, Sends, stream_views, worker_state};
+ghost use Rattle.rpz_workers.specs.Handling.{Handles, HandlesJob, Sends, stream_views, took_over as took_over_of, worker_state};
 ghost use Rattle.rpz_workers.specs.Reports.{counts_of};
 ghost use Rattle.rpz_workers.specs.Working.{Works, run_state};
 
@@ -22,7 +22,7 @@ use policy_publish::StoreName;
 use reply_build::Said;
 use std::sync::Wait;
 
-// Sends the reply to a message over its transport, where there is one here, and says what became of the job.
+// Sends the reply to a message over its transport, where there is one here, and says what became of the message.
 fn send_reply<S: Source, K: Sink, P: Replies<S, K>>(
     replies: &mut P,
     peer: Endpoint,
@@ -56,6 +56,19 @@ fn send_reply<S: Source, K: Sink, P: Replies<S, K>>(
     }
 }
 
+// What an item comes to whose message came over this transport: no job counts one of a connection.
+fn took_over(transport: Transport, took: Took) -> Took
+    ensures { result ≡ took_over_of transport took }
+{
+    match transport {
+        Transport::Udp => took,
+        Transport::Tcp => match took {
+            Took::PassedOn => Took::PassedOn,
+            _ => Took::Framed,
+        },
+    }
+}
+
 impl<N: StoreName, L: Link + Drop, A: Keeps<L> + Drop, B: Asks<L> + Drop> Worker<N, L, A, B> {
     // Answers a job, or passes it on.
     fn take_job<S: Source, K: Sink, P: Replies<S, K>, C: Clock, O: Onward<N>>(
@@ -74,13 +87,14 @@ impl<N: StoreName, L: Link + Drop, A: Keeps<L> + Drop, B: Asks<L> + Drop> Worker
     {
         let now = clock.now();
         let what = self.settle(job, now, onward);
-        send_reply(
+        let became = send_reply(
             replies,
             job.peer,
             job.transport,
             job.message.as_slice(),
             &what,
-        )
+        );
+        took_over(job.transport, became)
     }
 
     /// Handles an item: answers a job or passes it on, serves and closes a connection, learns what is told. A job or a message of a

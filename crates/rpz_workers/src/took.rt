@@ -13,6 +13,8 @@ pub enum Took {
     Failed,
     /// A job was passed on: who answers it counts it.
     PassedOn,
+    /// The message of a connection was answered, gets no reply, or could not be answered or sent to: no job counts it.
+    Framed,
     /// A connection was served, and closed.
     Closed,
     /// A list of transfers was learned.
