@@ -48,3 +48,10 @@ pub record Works {L N S K : Type 0} (origins : List Name)
   pub stops : NextItem last.coming item.Stop after.coming
   pub state : after.state ≡ last.state
   pub counts_are : counts ≡ tally stages
+
+-- A run from here ended with these numbers.
+pub record EndsRun {L N S K : Type 0} (origins : List Name)
+    (gave : List ℕ → List ℕ → ℕ → Type 0) (passes_on : Bool) (views : StreamViews S K)
+    (before : RunState L N S K) (counts : Counts) : Type 0 where
+  pub after : RunState L N S K
+  pub works : Works origins gave passes_on views before counts after

@@ -82,6 +82,17 @@ impl<
     O: Onward<N> + Drop,
     R: Wait + Drop,
 > Task<Report> for ServeTask<N, L, A, B, S, K, Q, P, C, O, R> {
+    ghost use Rattle.rpz_workers.specs.Handling.{stream_views, worker_state};
+    ghost use Rattle.rpz_workers.specs.Reports.{counts_of};
+    ghost use Rattle.rpz_workers.specs.Working.{EndsRun, run_state};
+
+    ghost ends = { λ task report. EndsRun N.store.origins L.gave B.passes_on
+        (stream_views S.left S.faults K.held K.faults)
+        (run_state (Q.coming task.items)
+        (worker_state task.worker (C.moments task.clock) (O.passed task.onward)
+        (P.sent task.replies) (P.closings task.replies) (P.faults task.replies)))
+        (counts_of report) };
+
     fn run(self) -> Report {
         let ServeTask {
             rt,
