@@ -1,22 +1,17 @@
-//! Items out of an inlet and out of a channel, and what comes before them.
+//! Items out of an inlet, and what comes before them.
 
-use crate::answers::QUERY;
 use crate::stores::{Trial, attempt};
 use crate::test_inlet::{InletStage, items_of};
-use crate::workers::{client, job};
-use crossbeam_channel::bounded;
-use dns_message::Question;
-use dns_name::{Name, Octets};
-use dns_record::{class, rtype};
+use crate::workers::client;
+use dns_name::Octets;
 use edge_io::{Arrival, ListSink, ListSource, Received};
-use policy_publish::{Latest, PolicyReader, Publisher, StoreName};
-use rpz_workers::{ChannelOnward, Item, Items, Job, Onward, PassedItems};
+use policy_publish::{Latest, Publisher, StoreName};
+use rpz_workers::{Item, Items, Job};
 use std::alloc::Global;
 use std::collections::VecDeque;
 use std::process::Abort;
 use std::sync::Wait;
 use std::test::Fail;
-use std::time::Clock;
 
 // An item in one letter: a job, a connection, a list that was published, or Stop.
 fn letter<N: StoreName>(item: Item<N, ListSource, ListSink>) -> char {
@@ -150,74 +145,5 @@ pub fn take_all<N: StoreName, R: Wait + Abort + Copy + Drop>(
     for row in &ROWS {
         assert!(rt; come_in_order(rt, alloc, publisher, row)?, "{}", row.given);
     }
-    Ok(())
-}
-
-fn question(alloc: Global) -> Result<Question, Fail> {
-    Ok(Question {
-        name: Name::from_text(alloc, b"x.example")?,
-        qtype: rtype::A,
-        qclass: class::IN,
-    })
-}
-
-// Whether two messages are passed on, and a third one isn't.
-fn takes_two<N: StoreName, R: Wait + Drop>(
-    alloc: Global,
-    onward: &mut ChannelOnward<N, R>,
-    job: &Job,
-    reader: &PolicyReader<N>,
-) -> Result<bool, Fail> {
-    for taken in [true, true, false] {
-        let passed = onward.pass_on(job, question(alloc)?, 100, reader);
-        if passed.is_ok() != taken {
-            return Ok(false);
-        }
-    }
-    Ok(true)
-}
-
-// Both ends of a channel with room for two messages.
-fn ends<N: StoreName, R: Wait + Clock + Copy + Drop>(
-    rt: &R,
-    alloc: Global,
-    publisher: &Publisher<N>,
-) -> Result<(ChannelOnward<N, R>, PassedItems<N, R>), Fail> {
-    let latest = Latest::start(alloc, publisher.tell())?;
-    let (sender, receiver) = bounded(alloc, 2)?;
-    let onward = ChannelOnward::new(*rt, alloc, sender);
-    Ok((onward, PassedItems::new(*rt, receiver, latest)))
-}
-
-// Whether the items are these once nobody passes anything on.
-fn gives_then<N: StoreName, R: Wait + Clock + Copy + Drop>(
-    onward: ChannelOnward<N, R>,
-    items: &mut PassedItems<N, R>,
-    expected: &str,
-) -> bool {
-    drop(onward);
-    gives(items, expected)
-}
-
-#[test]
-fn what_is_passed_on_comes_behind_what_was_seen(rt: HostRuntime) -> Result<(), Fail> {
-    attempt(rt, rt.alloc(), Trial::Passed)
-}
-
-/// Each message that is passed on comes behind a list, and one more than there is room for is refused.
-pub fn pass_two<N: StoreName, R: Wait + Abort + Clock + Copy + Drop>(
-    rt: &R,
-    alloc: Global,
-    publisher: &Publisher<N>,
-    readers: &[PolicyReader<N>],
-) -> Result<(), Fail> {
-    let reader = readers.first().ok_or("a reader")?;
-    let job = job(alloc, 1, QUERY)?;
-    let (mut onward, mut items) = ends(rt, alloc, publisher)?;
-    let taken = takes_two(alloc, &mut onward, &job, reader);
-    let given = gives_then(onward, &mut items, "tjtjss");
-    drop(items);
-    assert!(rt; taken?);
-    assert!(rt; given);
     Ok(())
 }

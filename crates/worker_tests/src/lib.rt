@@ -21,6 +21,12 @@ mod polls;
 #[cfg(test)]
 mod publishing;
 #[cfg(test)]
+mod request_limits;
+#[cfg(test)]
+mod request_threads;
+#[cfg(test)]
+mod requests;
+#[cfg(test)]
 mod runs;
 #[cfg(test)]
 mod stores;

@@ -210,7 +210,8 @@ fn assert_refused<N: StoreName, R: Wait + Abort + Drop>(
     onward: &mut ListOnward<N>,
 ) -> Result<(), Fail> {
     let took = taken(alloc, passing, Transport::Tcp, ASKED, Some(BARE), onward)?;
-    assert_eq!(rt; took, Some(Took::Memory));
+    // no job counts a message of a connection
+    assert_eq!(rt; took, Some(Took::Framed));
     assert!(rt; onward.passed.is_empty());
     Ok(())
 }

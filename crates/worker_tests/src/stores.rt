@@ -4,10 +4,13 @@ ghost use Rattle.std.specs.Prelude.{◌≡◌};
 
 use crate::answers::answer_all;
 use crate::faults::fail_all;
-use crate::items::{pass_two, take_all};
+use crate::items::take_all;
 use crate::passing::{pass_all, pass_one_of_two, refuse_one};
 use crate::polls::poll_all;
 use crate::publishing::follow_all;
+use crate::request_limits::{be_late, end_all, fill_all, jostle_one};
+use crate::request_threads::pass_among;
+use crate::requests::order_all;
 use crate::runs::run_all;
 use dns_name::Name;
 use policy_publish::{Parts, PolicyReader, Publisher, StoreName, start_store};
@@ -32,7 +35,12 @@ pub enum Trial {
     NoRoom,
     PassingStream,
     Inlets,
-    Passed,
+    Requests,
+    FullList,
+    Jostle,
+    Late,
+    ListEnd,
+    RequestThreads,
 }
 
 /// Tries something over a store of two readers, where nothing is published.
@@ -76,6 +84,11 @@ fn attempt_over<
         Trial::NoRoom => refuse_one(rt, alloc, readers),
         Trial::PassingStream => pass_one_of_two(rt, alloc, readers),
         Trial::Inlets => take_all(rt, alloc, publisher),
-        Trial::Passed => pass_two(rt, alloc, publisher, readers),
+        Trial::Requests => order_all(rt, alloc, publisher, readers),
+        Trial::FullList => fill_all(rt, alloc, readers),
+        Trial::Jostle => jostle_one(rt, alloc, publisher, readers),
+        Trial::Late => be_late(rt, alloc, publisher, readers),
+        Trial::ListEnd => end_all(rt, alloc, publisher, readers),
+        Trial::RequestThreads => pass_among(rt, alloc, publisher, readers),
     }
 }
