@@ -1,7 +1,7 @@
 //! Limits of the request list.
 
-/// How many queries wait for an asker at most. Each takes some 300 octets beside its message, so that all together take about a
-/// megabyte; at 10,000 of them in a second a full list is half a second's work of askers that get their answers at once.
+/// How many queries wait for an asker at most. 256 askers whose upstream takes 50 ms get through so many in less than a second. Each
+/// takes some 300 octets beside its message, so that all together take about a megabyte.
 pub const WAITING_QUERIES: usize = 4_096;
 
 /// How many octets the messages of the queries that wait have at most: 1,024 on average, twice what a query has without TCP, so that

@@ -58,14 +58,25 @@ impl<N: StoreName> ListState<N> {
         Ok(self.idle.calls(self.waiting.free()))
     }
 
-    /// The asker of this number is done with what it had, and takes what goes next. It sleeps where there is nothing.
-    pub(crate) fn turn(&mut self, asker: usize, was_asleep: bool, now: Option<Instant>) -> Turn<N> {
+    // The asker of this number is done with what it had.
+    fn end(&mut self, asker: usize, was_asleep: bool) {
         if was_asleep {
             self.idle.leave();
         }
         if let Some(marks) = self.in_hand.end(asker) {
             self.waiting.release(marks.question);
         }
+    }
+
+    /// The asker of this number takes nothing more. It says whether another one is to be woken.
+    pub(crate) fn leave(&mut self, asker: usize, was_asleep: bool) -> bool {
+        self.end(asker, was_asleep);
+        self.idle.calls(self.waiting.free())
+    }
+
+    /// The asker of this number is done with what it had, and takes what goes next. It sleeps where there is nothing.
+    pub(crate) fn turn(&mut self, asker: usize, was_asleep: bool, now: Option<Instant>) -> Turn<N> {
+        self.end(asker, was_asleep);
         let taken = self.take(asker, now);
         if taken.is_none() {
             self.idle.enter();

@@ -28,8 +28,7 @@ enum Found<N: StoreName> {
 /// Queries out of a request list, of which contracts know nothing. Before a query comes the list of transfers that the worker had seen
 /// which passed it on. Where nothing comes for [`IDLE_SECONDS`](crate::IDLE_SECONDS), the list that was published last comes, unless the
 /// worker has learned it. A list on which nobody passes on any more, and where nothing waits, reads as `Stop`. An asker is done with a
-/// query when it asks for what follows.
-#[derive(Drop)]
+/// query when it asks for what follows, or when it ends.
 pub struct RequestItems<N: StoreName, R: Wait + time::Clock + Copy + Drop> {
     rt: R,
     list: Arc<SharedList<N>, Global>,
@@ -40,6 +39,21 @@ pub struct RequestItems<N: StoreName, R: Wait + time::Clock + Copy + Drop> {
     taken: Option<Job>,
     // Whether it counts as asleep.
     is_asleep: bool,
+}
+
+impl<N: StoreName, R: Wait + time::Clock + Copy + Drop> Drop for RequestItems<N, R> {
+    fn drop(self) {
+        let RequestItems {
+            rt,
+            list,
+            asker,
+            latest: _latest,
+            deadline: _deadline,
+            taken: _taken,
+            is_asleep,
+        } = self;
+        list.leave(&rt, asker, is_asleep);
+    }
 }
 
 // The earlier of two moments, where they are known.

@@ -78,6 +78,18 @@ impl<N: StoreName> SharedList<N> {
         turn
     }
 
+    // The same under the lock as `leave`.
+    fn leave_locked<R: Wait>(&self, rt: &R, asker: usize, was_asleep: bool) -> bool {
+        self.state.lock(rt).leave(asker, was_asleep)
+    }
+
+    /// The asker of this number takes nothing more.
+    pub(crate) fn leave<R: Wait>(&self, rt: &R, asker: usize, was_asleep: bool) {
+        if self.leave_locked(rt, asker, was_asleep) {
+            self.woken.wake_one();
+        }
+    }
+
     /// What askers sleep on.
     pub(crate) fn woken(&self) -> &WakeCount {
         &self.woken
