@@ -13,7 +13,7 @@ use std::sync::Wait;
 use std::test::Fail;
 use std::thread;
 use std::thread::{JoinHandle, Threads};
-use std::time::{Clock, Duration};
+use std::time::{Clock, Duration, Instant};
 
 // How many queries each of two threads passes on.
 const QUERIES: u32 = 10_000;
@@ -168,7 +168,7 @@ fn no_query_is_lost_among_threads(rt: HostRuntime) -> Result<(), Fail> {
     attempt(rt, rt.alloc(), Trial::RequestThreads)
 }
 
-/// Two threads pass on 20,000 queries, and eight take each of them once.
+/// Two threads pass on 20,000 queries, and eight take each of them once. Then these end, without sleeping first.
 pub fn pass_among<
     N: StoreName + Send + Sync + 'static,
     R: Threads + Wait + Abort + Clock + RandomSource + Copy + Drop + Send + Sync + 'static,
@@ -186,8 +186,11 @@ pub fn pass_among<
     start_all_passing(*rt, alloc, &list, readers, &mut passing)?;
     drop(list);
     let passed = join_all(rt, passing);
+    let over = Instant::now(rt)?;
     let taken = join_all(rt, askers);
     assert_eq!(rt; passed, (20_000, 199_990_000));
     assert_eq!(rt; taken, passed);
+    // an asker that isn't woken sleeps for 5 seconds
+    assert!(rt; over.elapsed(rt)? < Duration::from_secs(4));
     Ok(())
 }
