@@ -1,7 +1,5 @@
 //! Connections of clients that are slow, and how frames go out to them.
 
-ghost use Rattle.std.specs.Prelude.{◌≤◌, length};
-
 use crate::connections::serve_next;
 use crate::loopback::at;
 use edge_io::{Arrival, Inlet, Received, Replies, Sink, Source, Wires};
