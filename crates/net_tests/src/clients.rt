@@ -1,7 +1,5 @@
 //! Connections of clients that are slow, and how frames go out to them.
 
-ghost use Rattle.std.specs.Prelude.{◌≤◌, length};
-
 use crate::connections::serve_next;
 use crate::loopback::at;
 use edge_io::{Arrival, Inlet, Received, Replies, Sink, Source, Wires};
@@ -107,10 +105,11 @@ fn no_client_holds_a_worker(rt: HostRuntime) -> Result<(), Fail> {
     wires.bind(at(29156))?;
     let mut halves: Vec<TcpStream> = Vec::new(alloc);
     let mut unread: Vec<TcpStream> = Vec::new(alloc);
-    let message = long_frame(alloc)?;
+    let half = long_frame(alloc, 4_200)?;
+    let whole = long_frame(alloc, 60_000)?;
     for _ in 0..32u32 {
-        halves.push(begin(&rt, &message[..4_200])?)?;
-        unread.push(begin(&rt, &message)?)?;
+        halves.push(begin(&rt, &half)?)?;
+        unread.push(begin(&rt, &whole)?)?;
     }
     let start = Instant::now(&rt)?;
     let served = serve_many(&rt, alloc, &mut wires)?;
@@ -122,9 +121,11 @@ fn no_client_holds_a_worker(rt: HostRuntime) -> Result<(), Fail> {
     Ok(())
 }
 
-fn long_frame(alloc: Global) -> Result<Vec<u8>, Fail> {
-    let mut frame = vec![in alloc; 0; 60_002]?;
-    frame[..2].copy_from_slice(&60_000u16.to_be_bytes());
+// So many bytes of a message of 60,000, behind its length.
+fn long_frame(alloc: Global, sent: usize) -> Result<Vec<u8>, Fail> {
+    let zeros = vec![in alloc; 0; sent]?;
+    let mut frame = Vec::from_slice(alloc, &60_000u16.to_be_bytes())?;
+    frame.extend_from_slice(&zeros)?;
     Ok(frame)
 }
 

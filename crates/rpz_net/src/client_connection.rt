@@ -311,6 +311,7 @@ impl ClientConnection {
     /// Sends what the client takes, and says whether the connection may be closed where the service ends: nothing is to go out, and no
     /// message is with anybody. What has come by then is of no use.
     pub(crate) fn is_done<R: Wait>(&mut self, rt: &R, now: Instant, scratch: &mut [u8]) -> bool {
+        self.left = 0;
         if self.look(rt, now) {
             return true;
         }

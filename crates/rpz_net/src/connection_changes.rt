@@ -1,7 +1,7 @@
 //! What workers changed about connections of clients.
 
 use mio::Waker;
-use std::alloc::{AllocError, Global};
+use std::alloc::Global;
 use std::mem;
 use std::sync::atomic::{AtomicU64, Ordering};
 use std::sync::{Mutex, Wait};

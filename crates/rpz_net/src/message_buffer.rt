@@ -1,7 +1,5 @@
 //! Bytes of a connection of a client that no worker has yet.
 
-ghost use Rattle.std.specs.Prelude.{◌≤◌, length, vec_len};
-
 use crate::datagram::is_notify;
 use edge_io::FRAME_MAX;
 use std::alloc::{AllocError, Global};

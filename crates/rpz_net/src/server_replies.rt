@@ -4,7 +4,6 @@ ghost use Rattle.std.specs.Prelude.{◌≡◌, None};
 
 use crate::client_sink::ClientSink;
 use crate::client_source::ClientSource;
-use crate::datagram::send_datagram;
 use crate::service_state::ServiceState;
 use edge_io::{Endpoint, Replies, SendError, StreamEnd};
 use ip_prefix::Transport;
