@@ -120,9 +120,9 @@ pub fn rest(mut client: &TcpStream) -> io::Result<usize> {
 #[test]
 fn connections_have_their_turns(rt: HostRuntime) -> Result<(), Fail> {
     let mut wires = NetWires::new(rt, rt.alloc());
-    wires.bind(at(29170))?;
-    let mut client = rt.connect(address_of(at(29170)))?;
-    let mut another = rt.connect(address_of(at(29170)))?;
+    wires.bind(at(29180))?;
+    let mut client = rt.connect(address_of(at(29180)))?;
+    let mut another = rt.connect(address_of(at(29180)))?;
     client.write_all(&[0; 18])?;
     another.write_all(b"\0\0")?;
     let counts = counts_of_three(rt.alloc(), &mut wires)?;
@@ -146,8 +146,8 @@ fn counts_of_three<W: Wires>(alloc: Global, wires: &mut W) -> Result<[Option<u32
 #[test]
 fn later_replies_reach_the_client(rt: HostRuntime) -> Result<(), Fail> {
     let mut wires = NetWires::new(rt, rt.alloc());
-    wires.bind(at(29171))?;
-    let mut client = rt.connect(address_of(at(29171)))?;
+    wires.bind(at(29181))?;
+    let mut client = rt.connect(address_of(at(29181)))?;
     client.write_all(FRAMES)?;
     client.shutdown(Shutdown::Write)?;
     replies_later(&rt, rt.alloc(), &mut wires)?;
@@ -177,11 +177,11 @@ fn as_many_connections_are_open_as_admitted(rt: HostRuntime) -> Result<(), Fail>
         all: 2,
         of_client: 1,
     });
-    wires.bind(at(29172))?;
+    wires.bind(at(29182))?;
     let clients = (
-        rt.connect(address_of(at(29172)))?,
-        rt.connect(address_of(at(29172)))?,
-        rt.connect(address_of(at(29172)))?,
+        rt.connect(address_of(at(29182)))?,
+        rt.connect(address_of(at(29182)))?,
+        rt.connect(address_of(at(29182)))?,
     );
     assert_eq!(rt; rest(&clients.0)?, 0);
     assert!(rt; rest(&clients.1).is_err());

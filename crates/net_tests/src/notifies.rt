@@ -80,8 +80,8 @@ fn ends_behind<W: Wires>(wires: &mut W, count: u64) -> bool {
 fn a_notify_over_tcp_is_answered(rt: HostRuntime) -> Result<(), Fail> {
     let mut wires = NetWires::new(rt, rt.alloc());
     wires.limit(2);
-    wires.bind(at(29166))?;
-    let mut client = rt.connect(address_of(at(29166)))?;
+    wires.bind(at(29183))?;
+    let mut client = rt.connect(address_of(at(29183)))?;
     client.write_all(FRAME)?;
     answers_frame(&rt, &mut wires, &client)?;
     client.write_all(FRAME)?;
@@ -121,10 +121,10 @@ fn notifies_of_a_primary_all_come(rt: HostRuntime) -> Result<(), Fail> {
 }
 
 fn count_of_primary<R: Net, W: Wires>(rt: &R, wires: &mut W) -> Result<u32, Fail> {
-    wires.bind(at(29167))?;
-    wires.order(at(29168), b"request")?;
+    wires.bind(at(29184))?;
+    wires.order(at(29185), b"request")?;
     let mut inlet = wires.datagrams()?;
-    let _client = send(rt, 29167, 3)?;
+    let _client = send(rt, 29184, 3)?;
     if !has_ended(&mut inlet) {
         return Err("three turns".into());
     }

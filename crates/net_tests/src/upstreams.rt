@@ -85,9 +85,9 @@ fn both_are_echoed<R: Threads + Sync, L: Link + Send>(
 
 #[test]
 fn answers_come_in_any_order(rt: HostRuntime) -> Result<(), Fail> {
-    let listener = rt.bind(address_of(at(29170)))?;
+    let listener = rt.bind(address_of(at(29190)))?;
     let mut wires = NetWires::new(rt, rt.alloc());
-    let (mut one, mut other) = (wires.link(at(29170))?, wires.link(at(29170))?);
+    let (mut one, mut other) = (wires.link(at(29190))?, wires.link(at(29190))?);
     let (served, answers) = thread::join(
         &rt,
         || answer_swapped(&listener).is_ok(),
@@ -142,9 +142,9 @@ fn is_answered_later<R: time::Clock>(rt: &R, alloc: Global, link: &mut impl Link
 
 #[test]
 fn a_late_answer_ends_what_is_remembered(rt: HostRuntime) -> Result<(), Fail> {
-    let listener = rt.bind(address_of(at(29174)))?;
+    let listener = rt.bind(address_of(at(29194)))?;
     let mut wires = NetWires::new(rt, rt.alloc());
-    let mut link = wires.link(at(29174))?;
+    let mut link = wires.link(at(29194))?;
     let (served, answered) = thread::join(
         &rt,
         || answer_slowly(&rt, &listener).is_ok(),
@@ -271,7 +271,7 @@ fn ask_and_stop<R: Threads + Sync, L: Link + Drop + Send>(
 #[test]
 fn many_askers_share_few_connections(rt: HostRuntime) -> Result<(), Fail> {
     let mut wires = NetWires::new(rt, rt.alloc());
-    let (taken, failed) = ask_at_once(&rt, rt.alloc(), &mut wires, 29171, 100, false)?;
+    let (taken, failed) = ask_at_once(&rt, rt.alloc(), &mut wires, 29191, 100, false)?;
     assert!(rt; taken <= UPSTREAM_CONNECTIONS, "{taken}");
     assert_eq!(rt; failed, 0);
     Ok(())
@@ -281,7 +281,7 @@ fn many_askers_share_few_connections(rt: HostRuntime) -> Result<(), Fail> {
 #[test]
 fn an_upstream_that_closes_gets_one_question_each(rt: HostRuntime) -> Result<(), Fail> {
     let mut wires = NetWires::new(rt, rt.alloc());
-    let (taken, failed) = ask_at_once(&rt, rt.alloc(), &mut wires, 29172, 24, true)?;
+    let (taken, failed) = ask_at_once(&rt, rt.alloc(), &mut wires, 29192, 24, true)?;
     assert!(rt; taken > 24 * 20, "{taken}");
     assert_eq!(rt; failed, 0);
     Ok(())
@@ -290,9 +290,9 @@ fn an_upstream_that_closes_gets_one_question_each(rt: HostRuntime) -> Result<(),
 // How long an asker waits until `stop` ends that.
 #[test]
 fn stop_ends_the_wait_for_an_answer(rt: HostRuntime) -> Result<(), Fail> {
-    let _listener = rt.bind(address_of(at(29173)))?;
+    let _listener = rt.bind(address_of(at(29193)))?;
     let mut wires = NetWires::new(rt, rt.alloc());
-    let mut link = wires.link(at(29173))?;
+    let mut link = wires.link(at(29193))?;
     let (took, ()) = thread::join(
         &rt,
         || failure(&rt, rt.alloc(), &mut link, 4_000),

@@ -83,17 +83,18 @@ pub fn line_sink<R: Print + Threads + Wait + Copy + Drop + Send + 'static>(
 }
 
 impl<R: Wait + Drop> LineSink<R> {
-    /// Waits until all lines were written, a second at most.
-    pub fn end(&self)
+    /// Waits until all lines were written, a second at most, and says whether they were.
+    pub fn end(&self) -> bool
     where
         R: Clock,
     {
         for _ in 0..LAST_PAUSES {
             if self.state.waiting.load(Ordering::SeqCst) == 0 {
-                return;
+                return !self.state.has_failed.load(Ordering::SeqCst);
             }
             thread::sleep(&self.rt, Duration::from_millis(10));
         }
+        false
     }
 
     // Gives the bytes to the thread, if there is room for them and no write has failed.

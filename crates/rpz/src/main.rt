@@ -84,7 +84,11 @@ fn main(rt: HostRuntime) -> io::Result<ExitCode> {
         ),
         None => Status::Usage,
     };
-    out.end();
+    let status = if !out.end() && status == Status::Done {
+        Status::WriteFault
+    } else {
+        status
+    };
     let is_told = out.is_told && status == Status::WriteFault;
     if !is_told && let Some(text) = status.text(alloc)? {
         eprintln!(rt; "{text}")?;

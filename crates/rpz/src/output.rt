@@ -38,13 +38,14 @@ impl<W: Write + Drop, R: Wait + Drop, E: Write + Drop> Output<W, R, E> {
         }
     }
 
-    /// Waits until all was written, a second at most.
-    pub fn end(&self)
+    /// Waits until all was written, a second at most, and says whether it was, as far as that isn't known by the writes.
+    pub fn end(&self) -> bool
     where
         R: Clock,
     {
-        if let Way::ByThread(lines) = &self.way {
-            lines.end();
+        match &self.way {
+            Way::AtOnce(_) => true,
+            Way::ByThread(lines) => lines.end(),
         }
     }
 

@@ -6,7 +6,6 @@ use crate::limits::{
     START_MILLISECONDS, UPSTREAM_CONNECT_MILLISECONDS, UPSTREAM_CONNECT_TRIES,
     UPSTREAM_FAILURE_MILLISECONDS, UPSTREAM_TRIES,
 };
-use crate::shortage::is_shortage;
 use crate::thread_starter::Job;
 use crate::time_limit::time_until;
 use crate::upstream_connection::UpstreamConnection;
@@ -204,8 +203,8 @@ impl<
             Err(error) => match self.pool.fail(&self.rt, opening, id, place, now)? {
                 Choice::Asked(asked) => Ok(asked),
                 _ if error.kind() == io::ErrorKind::OutOfMemory => Err(AskError::OutOfMemory),
-                _ if is_shortage(&error) => Err(AskError::Failed),
-                _ => Err(AskError::Late),
+                _ if error.kind() == io::ErrorKind::TimedOut => Err(AskError::Late),
+                _ => Err(AskError::Failed),
             },
         }
     }

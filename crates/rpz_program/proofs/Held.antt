@@ -9,7 +9,7 @@ use Rattle.policy_feed.specs.Feed.{PlainFeeder}
 use Rattle.policy_feed.specs.Hastening.{IsLoaded}
 use Rattle.rpz_program.specs.Serving.{Wrote}
 use Rattle.rpz_program.specs.Turning.{Advances, MayTry, Reaches, StopsAdvancing, StopsReaching}
-use Rattle.rpz_program.specs.Turns.{IsOver, RunTurn, ServerState, Turns, opened_told, opens, opens_at_once, run_lines, server_state, with_turn_notices}
+use Rattle.rpz_program.specs.Turns.{IsOver, RunTurn, ServerState, Turns, binds, opened_told, opens_at_once, run_lines, server_state, with_turn_notices}
 use Rattle.rpz_program.specs.declared.plan.ServerPlan.{ServerPlan}
 use Rattle.rpz_program.specs.declared.progress.Progress.{Progress}
 use Rattle.rpz_program.specs.declared.serve_error.ServeError.{ServeError}
@@ -29,7 +29,7 @@ pub opened_is : (plan : ServerPlan) (feeder : PlainFeeder) (told told_then : Opt
 opened_is plan feeder told told_then faults faults_then ids moments second is_open t f = rw (t, f) refl
 
 abbrev opening_of : ServerState → Stage ServerState RunTurn
-opening_of b = record { turn = opens; before = b }
+opening_of b = record { turn = binds; before = b }
 
 module _ (plan : ServerPlan) (began : ℕ) where
   -- no turn

@@ -83,7 +83,7 @@ linked_told at (suc n) told = option_map (with_linked at) (linked_told at n told
 -- A turn: the endpoint is opened; the workers are started; or a wake came at this second, these lines were written, and this became of
 -- a NOTIFY.
 pub data RunTurn : Type 0 where
-  opens : RunTurn
+  binds : RunTurn
   starts : RunTurn
   wakes : ℕ → Wake → List ℕ → Option Notice → RunTurn
 
@@ -129,14 +129,14 @@ pub record TakesNext (plan : ServerPlan) (before : ServerState) (second : ℕ) (
 
 -- what a turn of a server does that began at this second
 abbrev pub Turns : ServerPlan → ℕ → ServerState → RunTurn → ServerState → Type 0
-Turns plan began before opens after = Opens plan began before after
+Turns plan began before binds after = Opens plan began before after
 Turns plan began before starts after = Starts plan before after
 Turns plan began before (wakes second woken lines what) after =
     TakesNext plan before second woken lines what after
 
 -- the lines of a turn, and those of turns, of which the last stands first
 abbrev pub turn_lines : RunTurn → List ℕ
-turn_lines opens = []
+turn_lines binds = []
 turn_lines starts = []
 turn_lines (wakes second woken lines what) = lines
 
@@ -146,7 +146,7 @@ run_lines (stage ∷ stages) = run_lines stages ++ turn_lines stage.turn
 
 -- how often the workers were started
 abbrev pub starts_in : RunTurn → ℕ
-starts_in opens = 0
+starts_in binds = 0
 starts_in starts = 1
 starts_in (wakes second woken lines what) = 0
 
@@ -163,7 +163,7 @@ with_notice sums (Some notice.Memory) = record sums { memory = saturated sums.me
 with_notice sums (Some notice.Failed) = record sums { failed = saturated sums.failed 1 }
 
 abbrev pub with_turn_notice : Sums → RunTurn → Sums
-with_turn_notice sums opens = sums
+with_turn_notice sums binds = sums
 with_turn_notice sums starts = sums
 with_turn_notice sums (wakes second woken lines what) = with_notice sums what
 
@@ -198,7 +198,7 @@ pub record RunsTo (start : ServerStart) (stages : List (Stage ServerState RunTur
 
 -- the wake of the turn says that all inlets have ended, and so many datagrams were dropped
 abbrev pub IsEnd : RunTurn → ℕ → Type 0
-IsEnd opens dropped = ⊥
+IsEnd binds dropped = ⊥
 IsEnd starts dropped = ⊥
 IsEnd (wakes second (wake.Ended count) lines what) dropped = count ≡ dropped
 IsEnd (wakes second woken lines what) dropped = ⊥

@@ -96,8 +96,7 @@ fn order_first<N: StoreName, W: Wires, I: Ids, K: Sink, R: Wait>(
 }
 
 // Orders what is due, opens an endpoint that was held back, starts the workers once the first transfers have ended or it takes long, and
-// takes the turns of the server. Says
-// how far its lines have come, and how many datagrams were dropped.
+// takes the turns of the server. Says how far its lines have come, and how many datagrams were dropped.
 fn run_turns<
     N: StoreName + Send + Sync + 'static,
     W: Wires,
