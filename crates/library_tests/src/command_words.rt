@@ -1,10 +1,10 @@
 //! What the words of a command line ask for.
 
+use crate::asserts::assert_same;
 use edge_io::Endpoint;
 use ip_prefix::Addr;
 use rpz_words::{Command, Settings, WordsError, laws, read_words};
 use std::alloc::{AllocError, Global};
-use std::test::Fail;
 
 static SERVE: &str =
     "serve 127.0.0.1:5300 9.9.9.9:53 2 16 rpz.example@127.0.0.1:5301 b@127.0.0.2:65535";
@@ -139,18 +139,20 @@ fn replay_is_asked_for(rt: HostRuntime) {
 fn a_load_run_gets_its_settings(rt: HostRuntime) {
     match asked(rt.alloc(), "load 4294967295 1000000 0001000000 16") {
         Ok(Command::Load(settings)) => {
-            assert_eq!(rt; settings.seed, 4_294_967_295);
-            assert_eq!(rt; settings.rules, 1_000_000);
-            assert_eq!(rt; settings.queries, 1_000_000);
-            assert_eq!(rt; settings.workers, 16);
+            assert_same(&rt, settings.seed, 4_294_967_295);
+            assert_same(&rt, settings.rules, 1_000_000);
+            assert_same(&rt, settings.queries, 1_000_000);
+            assert_same(&rt, settings.workers, 16);
         }
         _ => assert!(rt; false, "no load run"),
     }
 }
 
 #[test]
-fn a_server_gets_its_settings(rt: HostRuntime) -> Result<(), Fail> {
-    let settings = served(rt.alloc(), SERVE)?.ok_or("no server")?;
+fn a_server_gets_its_settings(rt: HostRuntime) {
+    let settings = served(rt.alloc(), SERVE)
+        .expect(&rt, "no error")
+        .expect(&rt, "no server");
     let listen = Endpoint {
         addr: Addr::V4(0x7f00_0001),
         port: 5300,
@@ -159,38 +161,43 @@ fn a_server_gets_its_settings(rt: HostRuntime) -> Result<(), Fail> {
         addr: Addr::V4(0x0909_0909),
         port: 53,
     };
-    assert_eq!(rt; settings.listen, listen);
-    assert_eq!(rt; settings.upstream, upstream);
-    assert_eq!(rt; settings.turns, Some(2));
-    assert_eq!(rt; settings.workers, 16);
-    assert_eq!(rt; settings.cache, 65_536);
-    Ok(())
+    assert_same(&rt, settings.listen, listen);
+    assert_same(&rt, settings.upstream, upstream);
+    assert_same(&rt, settings.turns, Some(2));
+    assert_same(&rt, settings.workers, 16);
+    assert_same(&rt, settings.cache, 65_536);
 }
 
 #[test]
-fn a_cache_is_limited_wherever_the_option_stands(rt: HostRuntime) -> Result<(), Fail> {
+fn a_cache_is_limited_wherever_the_option_stands(rt: HostRuntime) {
     for line in CACHES {
-        let settings = served(rt.alloc(), line)?.ok_or("no server")?;
-        assert_eq!(rt; settings.cache, 64, "{line}");
+        let settings = served(rt.alloc(), line)
+            .expect(&rt, "no error")
+            .expect(&rt, "no server");
+        assert!(rt; settings.cache == 64, "{line}");
     }
-    Ok(())
 }
 
 #[test]
-fn a_server_gets_its_zones(rt: HostRuntime) -> Result<(), Fail> {
-    let settings = served(rt.alloc(), SERVE)?.ok_or("no server")?;
-    assert_eq!(rt; settings.zones.len(), 2);
+fn a_server_gets_its_zones(rt: HostRuntime) {
+    let settings = served(rt.alloc(), SERVE)
+        .expect(&rt, "no error")
+        .expect(&rt, "no server");
+    assert_same(&rt, settings.zones.len(), 2);
     let second = Endpoint {
         addr: Addr::V4(0x7f00_0002),
         port: 65_535,
     };
-    let primaries = settings.zones.primaries(rt.alloc())?;
-    assert_eq!(rt; primaries.len(), 2);
-    assert_eq!(rt; primaries[1], second);
-    let origins = settings.zones.origins(rt.alloc())?;
-    assert_eq!(rt; origins.len(), 2);
-    assert_eq!(rt; origins[0].octets(), b"\x03rpz\x07example\x00".as_slice());
-    Ok(())
+    let primaries = settings.zones.primaries(rt.alloc()).expect(&rt, "no error");
+    assert!(rt; primaries.len() == 2);
+    assert_same(&rt, primaries[1], second);
+    let origins = settings.zones.origins(rt.alloc()).expect(&rt, "no error");
+    assert!(rt; origins.len() == 2);
+    assert_same(
+        &rt,
+        origins[0].octets(),
+        b"\x03rpz\x07example\x00".as_slice(),
+    );
 }
 
 #[test]
@@ -210,11 +217,12 @@ fn other_lines_ask_for_nothing(rt: HostRuntime) {
 }
 
 #[test]
-fn at_most_32_zones_are_taken(rt: HostRuntime) -> Result<(), Fail> {
-    let most = line_of_zones(rt.alloc(), 32)?;
-    let settings = served(rt.alloc(), most.as_str())?.ok_or("no server")?;
-    assert_eq!(rt; settings.zones.len(), 32);
-    let more = line_of_zones(rt.alloc(), 33)?;
+fn at_most_32_zones_are_taken(rt: HostRuntime) {
+    let most = line_of_zones(rt.alloc(), 32).expect(&rt, "no error");
+    let settings = served(rt.alloc(), most.as_str())
+        .expect(&rt, "no error")
+        .expect(&rt, "no server");
+    assert_same(&rt, settings.zones.len(), 32);
+    let more = line_of_zones(rt.alloc(), 33).expect(&rt, "no error");
     assert!(rt; matches!(asked(rt.alloc(), more.as_str()), Err(WordsError::Usage)));
-    Ok(())
 }

@@ -1,10 +1,11 @@
 //! What is learned over a link that fails, and what it says at its age.
 
+use crate::asserts::assert_same;
 use dns_message::Question;
 use dns_name::{Name, Octets};
 use edge_io::ListLink;
 use std::alloc::Global;
-use std::test::Fail;
+use std::process::Abort;
 use upstream_link::{AskOutcome, Fact, Learned, ask};
 
 /// The response to the question (x.example, A, IN) in a message of the ID 7: x.example 60 A 192.0.2.9 (RFC 1035, section 4.1).
@@ -12,52 +13,54 @@ pub const RESPONSE: &[u8] =
     b"\0\x07\x81\x80\0\x01\0\x01\0\0\0\0\x01x\x07example\0\0\x01\0\x01\x01x\x07example\0\0\x01\0\x01\0\0\0\x3c\0\x04\xc0\0\x02\x09";
 
 /// A question for the address of `x.example`.
-pub fn question(alloc: Global) -> Result<Question, Fail> {
-    Ok(Question {
-        name: Name::from_text(alloc, b"x.example")?,
+pub fn question<R: Abort>(rt: &R, alloc: Global) -> Question {
+    Question {
+        name: Name::from_text(alloc, b"x.example").expect(rt, "no error"),
         qtype: 1,
         qclass: 1,
-    })
+    }
 }
 
 // A link that gives the response so many times, and of which the call of this number fails.
-fn link(alloc: Global, count: usize, call: u64) -> Result<ListLink, Fail> {
+fn link<R: Abort>(rt: &R, alloc: Global, count: usize, call: u64) -> ListLink {
     let mut messages = Vec::new(alloc);
     for _message in 0..count {
-        messages.push(Octets::from_slice(alloc, RESPONSE)?)?;
+        messages
+            .push(Octets::from_slice(alloc, RESPONSE).expect(rt, "no error"))
+            .expect(rt, "no error");
     }
-    Ok(ListLink::new(messages, vec![in alloc; call]?))
+    ListLink::new(messages, vec![in alloc; call].expect(rt, "no error"))
 }
 
 // What is learned of the question at the second 100.
-fn asked(alloc: Global, link: &mut ListLink) -> Result<Option<Learned<ListLink>>, Fail> {
-    match ask(alloc, link, 7, &question(alloc)?, 100)? {
-        AskOutcome::Learned(learned) => Ok(Some(learned)),
-        AskOutcome::Failed => Ok(None),
+fn asked<R: Abort>(rt: &R, alloc: Global, link: &mut ListLink) -> Option<Learned<ListLink>> {
+    match ask(alloc, link, 7, &question(rt, alloc), 100).expect(rt, "no error") {
+        AskOutcome::Learned(learned) => Some(learned),
+        AskOutcome::Failed => None,
     }
 }
 
 // What is learned of the question at the second 100, for 60 seconds.
-fn learned(alloc: Global) -> Result<Learned<ListLink>, Fail> {
-    match asked(alloc, &mut link(alloc, 1, 9)?)? {
-        Some(learned) => Ok(learned),
-        None => Err("something is learned".into()),
+fn learned<R: Abort>(rt: &R, alloc: Global) -> Learned<ListLink> {
+    match asked(rt, alloc, &mut link(rt, alloc, 1, 9)) {
+        Some(learned) => learned,
+        None => panic!(rt; "something is learned"),
     }
 }
 
 // Of four questions over a link with two responses, those of which something is learned.
-fn answered(alloc: Global, call: u64) -> Result<[bool; 4], Fail> {
-    let mut link = link(alloc, 2, call)?;
+fn answered<R: Abort>(rt: &R, alloc: Global, call: u64) -> [bool; 4] {
+    let mut link = link(rt, alloc, 2, call);
     let mut answered = [false; 4];
     for place in 0..4 {
-        answered[place] = asked(alloc, &mut link)?.is_some();
+        answered[place] = asked(rt, alloc, &mut link).is_some();
     }
-    Ok(answered)
+    answered
 }
 
 // A call that fails takes no message, and one for which no message is left fails.
 #[test]
-fn a_link_that_fails_is_told(rt: HostRuntime) -> Result<(), Fail> {
+fn a_link_that_fails_is_told(rt: HostRuntime) {
     for (call, expected) in [
         (0, [false, true, true, false]),
         (1, [true, false, true, false]),
@@ -65,40 +68,41 @@ fn a_link_that_fails_is_told(rt: HostRuntime) -> Result<(), Fail> {
         (3, [true, true, false, false]),
         (9, [true, true, false, false]),
     ] {
-        assert_eq!(rt; answered(rt.alloc(), call)?, expected, "the call {call}");
+        assert!(rt;
+            answered(&rt, rt.alloc(), call) == expected,
+            "the call {call}"
+        );
     }
-    Ok(())
 }
 
 // RFC 2308, section 5: it may be told for 60 seconds from the second 100 on.
 #[test]
-fn what_is_learned_has_a_life(rt: HostRuntime) -> Result<(), Fail> {
-    let learned = learned(rt.alloc())?.copied()?;
-    assert_eq!(rt; learned.life(), 60);
+fn what_is_learned_has_a_life(rt: HostRuntime) {
+    let learned = learned(&rt, rt.alloc()).copied().expect(&rt, "no error");
+    assert_same(&rt, learned.life(), 60);
     for (now, live) in [(99, false), (100, true), (159, true), (160, false)] {
-        assert_eq!(rt; learned.is_live(now), live, "{now}");
+        assert!(rt; learned.is_live(now) == live, "{now}");
     }
-    Ok(())
 }
 
 // The records of a fact at a second at which it may be used.
-fn records(alloc: Global, learned: &Learned<ListLink>, now: u32) -> Result<Octets, Fail> {
+fn records<R: Abort>(rt: &R, alloc: Global, learned: &Learned<ListLink>, now: u32) -> Octets {
     let mut out = Octets::new(alloc);
     if learned.is_live(now) {
-        if let Fact::Answer(answer) = learned.fact(alloc, now)? {
-            answer.write_answers(&mut out)?;
+        if let Fact::Answer(answer) = learned.fact(alloc, now).expect(rt, "no error") {
+            answer.write_answers(&mut out).expect(rt, "no error");
         }
     }
-    Ok(out)
+    out
 }
 
 // At the age of 59 seconds 1 is left of the TTL of 60.
 #[test]
-fn records_age(rt: HostRuntime) -> Result<(), Fail> {
-    let records = records(rt.alloc(), &learned(rt.alloc())?, 159)?;
-    assert_eq!(rt;
+fn records_age(rt: HostRuntime) {
+    let records = records(&rt, rt.alloc(), &learned(&rt, rt.alloc()), 159);
+    assert_same(
+        &rt,
         records.as_slice(),
-        b"\x01x\x07example\0\0\x01\0\x01\0\0\0\x01\0\x04\xc0\0\x02\x09".as_slice()
+        b"\x01x\x07example\0\0\x01\0\x01\0\0\0\x01\0\x04\xc0\0\x02\x09".as_slice(),
     );
-    Ok(())
 }

@@ -2,11 +2,11 @@
 
 ghost use Rattle.std.specs.Prelude.{◌≤◌};
 
+use crate::asserts::assert_same;
 use dns_name::Name;
 use dns_record::rtype;
 use load_gen::{Load, MOST_WORKERS, answer_all, make, write_summary};
 use std::alloc::{AllocError, Global};
-use std::test::Fail;
 use std::thread::Threads;
 
 // The owner of the one rule of the seed 0.
@@ -30,23 +30,25 @@ fn line<R: Threads + Sync>(
 }
 
 #[test]
-fn the_rule_of_the_seed_0_lets_a_client_pass(rt: HostRuntime) -> Result<(), Fail> {
-    let load = make(rt.alloc(), 0, 1, 0)?;
-    let rule = load.rows().first().ok_or("no rule")?;
-    let owner = Name::from_text(rt.alloc(), OWNER.as_bytes()).map_err(|_| "no owner")?;
-    let target = Name::from_text(rt.alloc(), b"rpz-passthru.").map_err(|_| "no target")?;
+fn the_rule_of_the_seed_0_lets_a_client_pass(rt: HostRuntime) {
+    let load = make(rt.alloc(), 0, 1, 0).expect(&rt, "no error");
+    let rule = load.rows().first().expect(&rt, "no rule");
+    let owner = Name::from_text(rt.alloc(), OWNER.as_bytes())
+        .map_err(|_| "no owner")
+        .expect(&rt, "no error");
+    let target = Name::from_text(rt.alloc(), b"rpz-passthru.")
+        .map_err(|_| "no target")
+        .expect(&rt, "no error");
     assert!(rt; rule.owner().is_same(&owner));
-    assert_eq!(rt; rule.rtype(), rtype::CNAME);
-    assert_eq!(rt; rule.rdata(), target.octets());
-    Ok(())
+    assert_same(&rt, rule.rtype(), rtype::CNAME);
+    assert_same(&rt, rule.rdata(), target.octets());
 }
 
 #[test]
-fn the_line_is_the_same_for_every_number_of_workers(rt: HostRuntime) -> Result<(), Fail> {
-    let load = make(rt.alloc(), 7, 2000, 500)?;
+fn the_line_is_the_same_for_every_number_of_workers(rt: HostRuntime) {
+    let load = make(rt.alloc(), 7, 2000, 500).expect(&rt, "no error");
     for workers in 1..17 {
-        let line = line(&rt, rt.alloc(), &load, workers)?;
-        assert_eq!(rt; line.as_slice(), SEVEN.as_bytes());
+        let line = line(&rt, rt.alloc(), &load, workers).expect(&rt, "no error");
+        assert_same(&rt, line.as_slice(), SEVEN.as_bytes());
     }
-    Ok(())
 }

@@ -1,9 +1,9 @@
 //! Look-ups among nested prefixes, in the ranges for documentation (RFC 5737, RFC 3849).
 
+use crate::asserts::assert_same;
 use ip_prefix::{Addr, Prefix};
 use prefix_index::PrefixMap;
 use std::alloc::{AllocError, Global};
-use std::test::Fail;
 
 // 192.0.2.0
 const NET: Addr = Addr::V4(0xc000_0200);
@@ -33,8 +33,8 @@ fn longest_number(map: &PrefixMap<u32>, addr: Addr) -> Option<u32> {
 }
 
 #[test]
-fn the_longest_prefix_is_found(rt: HostRuntime) -> Result<(), Fail> {
-    let map = nested(rt.alloc())?;
+fn the_longest_prefix_is_found(rt: HostRuntime) {
+    let map = nested(rt.alloc()).expect(&rt, "no error");
     for (addr, number) in [
         (Addr::V4(0xc000_020f), Some(2)),
         (Addr::V4(0xc000_0210), Some(1)),
@@ -43,33 +43,38 @@ fn the_longest_prefix_is_found(rt: HostRuntime) -> Result<(), Fail> {
         // 192.0.2.0, mapped into version 6
         (Addr::V6(0xffff_c000_0200), None),
     ] {
-        assert_eq!(rt; longest_number(&map, addr), number);
+        assert_same(&rt, longest_number(&map, addr), number);
     }
-    Ok(())
 }
 
 #[test]
-fn a_value_is_replaced_and_removed(rt: HostRuntime) -> Result<(), Fail> {
-    let mut map = nested(rt.alloc())?;
-    assert_eq!(rt; map.insert(Prefix::of(NET, 28), 9)?, Some(2));
-    assert_eq!(rt; map.get(Prefix::of(NET, 28)).copied(), Some(9));
-    assert_eq!(rt; map.remove(Prefix::of(NET, 28)), Some(9));
-    assert_eq!(rt; map.get(Prefix::of(NET, 28)).copied(), None);
-    Ok(())
+fn a_value_is_replaced_and_removed(rt: HostRuntime) {
+    let mut map = nested(rt.alloc()).expect(&rt, "no error");
+    assert_same(
+        &rt,
+        map.insert(Prefix::of(NET, 28), 9).expect(&rt, "no error"),
+        Some(2),
+    );
+    assert_same(&rt, map.get(Prefix::of(NET, 28)).copied(), Some(9));
+    assert_same(&rt, map.remove(Prefix::of(NET, 28)), Some(9));
+    assert_same(&rt, map.get(Prefix::of(NET, 28)).copied(), None);
 }
 
 // Of 192.0.2.0/24 and /28 the longer stands first; a prefix of version 4 has 96 bits more as one of version 6.
 #[test]
-fn entries_stand_in_order_of_precedence(rt: HostRuntime) -> Result<(), Fail> {
-    let entries = nested(rt.alloc())?.into_entries(rt.alloc())?;
-    assert_eq!(rt;
+fn entries_stand_in_order_of_precedence(rt: HostRuntime) {
+    let entries = nested(rt.alloc())
+        .expect(&rt, "no error")
+        .into_entries(rt.alloc())
+        .expect(&rt, "no error");
+    assert_same(
+        &rt,
         entries.as_slice(),
         [
             (Prefix::of(NET, 28), 2),
             (Prefix::of(NET, 24), 1),
             (Prefix::of(NET_OF_6, 32), 3),
         ]
-        .as_slice()
+        .as_slice(),
     );
-    Ok(())
 }

@@ -3,7 +3,7 @@
 use dns_name::Name;
 use dns_record::{Row, class, read_record};
 use std::alloc::Global;
-use std::test::Fail;
+use std::process::Abort;
 use zone_rows::Rows;
 
 /// A rule about the name server `ns.test`: an alias of `*.`, which says that there are no records.
@@ -11,24 +11,24 @@ pub const SERVER: &[u8] =
     b"\x02ns\x04test\x0brpz-nsdname\x03rpz\x07example\0\0\x05\0\x01\0\0\0\x01\0\x03\x01*\0";
 
 /// The zone's name.
-pub fn zone_name(alloc: Global) -> Result<Name, Fail> {
-    Ok(Name::from_text(alloc, b"rpz.example")?)
+pub fn zone_name<R: Abort>(rt: &R, alloc: Global) -> Name {
+    Name::from_text(alloc, b"rpz.example").expect(rt, "no error")
 }
 
 /// The row that a record is.
-pub fn row(alloc: Global, octets: &[u8]) -> Result<Row, Fail> {
-    let (rr, _) = read_record(alloc, octets, 0)?;
+pub fn row<R: Abort>(rt: &R, alloc: Global, octets: &[u8]) -> Row {
+    let (rr, _) = read_record(alloc, octets, 0).expect(rt, "no error");
     if rr.class() != class::IN {
-        return Err("a row".into());
+        return panic!(rt; "a row");
     }
-    Ok(Row::of(alloc, &rr)?)
+    Row::of(alloc, &rr).expect(rt, "no error")
 }
 
 /// The rows that these records are.
-pub fn rows(alloc: Global, records: &[&[u8]]) -> Result<Rows, Fail> {
+pub fn rows<R: Abort>(rt: &R, alloc: Global, records: &[&[u8]]) -> Rows {
     let mut rows = Rows::new(alloc);
     for octets in records {
-        rows.push(row(alloc, octets)?)?;
+        rows.push(row(rt, alloc, octets)).expect(rt, "no error");
     }
-    Ok(rows)
+    rows
 }

@@ -5,35 +5,36 @@ use action_codec::{Action, action_of};
 use dns_name::laws::case_does_not_matter;
 use dns_name::{Name, Pattern};
 use std::alloc::Global;
-use std::test::Fail;
+use std::process::Abort;
 use trigger_codec::Trigger;
 use zone_index::Rules;
 
 // For the name server `ns.test` NODATA.
-fn one(alloc: Global) -> Result<Rules, Fail> {
-    let origin = zone_name(alloc)?;
-    let rows = rows(alloc, &[SERVER])?;
-    Ok(Rules::of(alloc, &origin, rows.as_slice())?)
+fn one<R: Abort>(rt: &R, alloc: Global) -> Rules {
+    let origin = zone_name(rt, alloc);
+    let rows = rows(rt, alloc, &[SERVER]);
+    Rules::of(alloc, &origin, rows.as_slice()).expect(rt, "no error")
 }
 
 #[test]
-fn a_server_meets_its_rule(rt: HostRuntime) -> Result<(), Fail> {
-    let rules = one(rt.alloc())?;
+fn a_server_meets_its_rule(rt: HostRuntime) {
+    let rules = one(&rt, rt.alloc());
     case_does_not_matter();
-    let name = Name::from_text(rt.alloc(), b"NS.test")?.lower(rt.alloc())?;
+    let name = Name::from_text(rt.alloc(), b"NS.test")
+        .expect(&rt, "no error")
+        .lower(rt.alloc())
+        .expect(&rt, "no error");
     let found = rules.nsdname(&name);
     assert!(rt; matches!(found, Some((_, Action::NoData))));
-    let trigger = Trigger::NsDname(Pattern::new(rt.alloc(), &name, false)?);
+    let trigger = Trigger::NsDname(Pattern::new(rt.alloc(), &name, false).expect(&rt, "no error"));
     assert!(rt; matches!(rules.get(&trigger), Some(Action::NoData)));
-    Ok(())
 }
 
 #[test]
-fn live_rows_are_what_a_rule_does(rt: HostRuntime) -> Result<(), Fail> {
-    let live = row(rt.alloc(), SERVER)?;
-    let base = Name::from_text(rt.alloc(), b"ns.test")?;
-    let trigger = Trigger::NsDname(Pattern::new(rt.alloc(), &base, false)?);
-    let action = action_of(rt.alloc(), &trigger, &[&live])?;
+fn live_rows_are_what_a_rule_does(rt: HostRuntime) {
+    let live = row(&rt, rt.alloc(), SERVER);
+    let base = Name::from_text(rt.alloc(), b"ns.test").expect(&rt, "no error");
+    let trigger = Trigger::NsDname(Pattern::new(rt.alloc(), &base, false).expect(&rt, "no error"));
+    let action = action_of(rt.alloc(), &trigger, &[&live]).expect(&rt, "no error");
     assert!(rt; matches!(action, Some(Action::NoData)));
-    Ok(())
 }

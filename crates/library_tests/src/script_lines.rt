@@ -1,21 +1,22 @@
 //! Lines of a script with their number.
 
+use crate::asserts::assert_same;
 use dns_name::Name;
 use script_codec::{Line, Names, ScriptState, read_line};
-use std::test::Fail;
 
 #[test]
-fn a_line_is_read(rt: HostRuntime) -> Result<(), Fail> {
+fn a_line_is_read(rt: HostRuntime) {
     let mut origins = Names::new(rt.alloc());
-    origins.push(Name::from_text(rt.alloc(), b"rpz.example")?)?;
+    origins
+        .push(Name::from_text(rt.alloc(), b"rpz.example").expect(&rt, "no error"))
+        .expect(&rt, "no error");
     let state = ScriptState::Opening {
         origins: &origins,
         primaries: &[None],
     };
-    let line = read_line(rt.alloc(), b"xfer 001 00aB", 2, &state)?;
+    let line = read_line(rt.alloc(), b"xfer 001 00aB", 2, &state).expect(&rt, "no error");
     let Some(Line::Transfer { zone: 1, stream }) = line else {
-        return Err("a transfer".into());
+        return panic!(rt; "a transfer");
     };
-    assert_eq!(rt; stream.as_slice(), b"\0\xab".as_slice());
-    Ok(())
+    assert_same(&rt, stream.as_slice(), b"\0\xab".as_slice());
 }

@@ -1,22 +1,23 @@
 //! Owners of rules in the zone of `rpz.example`, and their canonical spelling. Addresses are those for
 //! documentation (RFC 5737, RFC 3849).
 
+use crate::asserts::assert_same;
 use crate::row_samples::zone_name;
 use dns_name::Name;
 use std::alloc::Global;
-use std::test::Fail;
+use std::process::Abort;
 use trigger_codec::{owner_of, trigger_of};
 
 // The canonical owner of the trigger that this owner has in the zone.
-fn spelling(alloc: Global, owner: &[u8], origin: &Name) -> Result<Name, Fail> {
-    let owner = Name::from_text(alloc, owner)?;
-    let trigger = trigger_of(alloc, &owner, origin)?;
-    Ok(owner_of(alloc, &trigger, origin)?)
+fn spelling<R: Abort>(rt: &R, alloc: Global, owner: &[u8], origin: &Name) -> Name {
+    let owner = Name::from_text(alloc, owner).expect(rt, "no error");
+    let trigger = trigger_of(alloc, &owner, origin).expect(rt, "no error");
+    owner_of(alloc, &trigger, origin).expect(rt, "no error")
 }
 
 #[test]
-fn a_trigger_has_one_canonical_owner(rt: HostRuntime) -> Result<(), Fail> {
-    let origin = zone_name(rt.alloc())?;
+fn a_trigger_has_one_canonical_owner(rt: HostRuntime) {
+    let origin = zone_name(&rt, rt.alloc());
     for (owner, canonical) in [
         (
             b"048.0.ZZ.101.DB8.2001.RPZ-ip.RPZ.example".as_slice(),
@@ -42,9 +43,8 @@ fn a_trigger_has_one_canonical_owner(rt: HostRuntime) -> Result<(), Fail> {
         (b"bAd.RPZ.example", b"bad.rpz.example"),
         (b"*.Rpz-Nsdname.rpz.example", b"*.rpz-nsdname.rpz.example"),
     ] {
-        let expected = Name::from_text(rt.alloc(), canonical)?;
-        let got = spelling(rt.alloc(), owner, &origin)?;
-        assert_eq!(rt; got.octets(), expected.octets());
+        let expected = Name::from_text(rt.alloc(), canonical).expect(&rt, "no error");
+        let got = spelling(&rt, rt.alloc(), owner, &origin);
+        assert_same(&rt, got.octets(), expected.octets());
     }
-    Ok(())
 }

@@ -1,12 +1,13 @@
 //! Connections of clients that come over the wires of a server.
 
-use crate::loopback::at;
+use crate::asserts::assert_same;
+use crate::loopback::{Host, at};
 use edge_io::{
     Arrival, ConnectionLimits, Endpoint, Inlet, Received, Replies, Sink, Source, StreamEnd, Wires,
     read_frame, write_frame,
 };
 use ip_prefix::Transport;
-use rpz_net::{NetWires, address_of};
+use rpz_net::address_of;
 use std::alloc::Global;
 use std::io;
 use std::io::{Read, Write};
@@ -61,26 +62,27 @@ fn serve_all<S: Source, K: Sink>(
     None
 }
 
-#[test]
-fn a_connection_comes_with_each_message(rt: HostRuntime) -> Result<(), Fail> {
-    let mut wires = NetWires::new(rt, rt.alloc());
-    let client = serves(&rt, rt.alloc(), &mut wires)?;
-    client.shutdown(Shutdown::Write)?;
-    assert_eq!(rt; rest(&client)?, 0);
-    Ok(())
+pub fn a_connection_comes_with_each_message<R: Host, W: Wires>(
+    rt: &R,
+    alloc: Global,
+    wires: &mut W,
+) {
+    let client = serves(rt, alloc, wires);
+    client.shutdown(Shutdown::Write).expect(rt, "no error");
+    assert_same(rt, rest(&client).expect(rt, "no error"), 0);
 }
 
 fn serves<R: Net<Stream = TcpStream> + Abort, W: Wires>(
     rt: &R,
     alloc: Global,
     wires: &mut W,
-) -> Result<TcpStream, Fail> {
-    wires.bind(at(29155))?;
-    let mut inlet = wires.connections()?;
-    let mut replies = wires.replies()?;
-    let client = rt.connect(address_of(at(29155)))?;
-    messages_come(rt, alloc, &mut inlet, &mut replies, &client)?;
-    Ok(client)
+) -> TcpStream {
+    wires.bind(at(29155)).expect(rt, "no error");
+    let mut inlet = wires.connections().expect(rt, "no error");
+    let mut replies = wires.replies().expect(rt, "no error");
+    let client = rt.connect(address_of(at(29155))).expect(rt, "no error");
+    messages_come(rt, alloc, &mut inlet, &mut replies, &client);
+    client
 }
 
 // Three messages at once; one behind which the next one begins; and the rest of that.
@@ -90,15 +92,14 @@ fn messages_come<S: Source + Drop, K: Sink + Drop, I: Inlet<S, K>, P: Replies<S,
     inlet: &mut I,
     replies: &mut P,
     mut client: &TcpStream,
-) -> Result<(), Fail> {
+) {
     for (sent, count) in [(FRAMES, 3u32), (b"\0\x02ho\0", 1), (b"\x02hu", 1)] {
-        client.write_all(sent)?;
-        assert_eq!(rt; count_next(alloc, inlet, replies), Some(count));
+        client.write_all(sent).expect(rt, "no error");
+        assert_same(rt, count_next(alloc, inlet, replies), Some(count));
     }
     let mut back = [0; 21];
-    client.read_exact(&mut back)?;
-    assert_eq!(rt; &back, b"\0\x02hi\0\0\0\x05there\0\x02ho\0\x02hu");
-    Ok(())
+    client.read_exact(&mut back).expect(rt, "no error");
+    assert_same(rt, &back, b"\0\x02hi\0\0\0\x05there\0\x02ho\0\x02hu");
 }
 
 fn count_next<S: Source + Drop, K: Sink + Drop, I: Inlet<S, K>, P: Replies<S, K>>(
@@ -116,74 +117,68 @@ pub fn rest(mut client: &TcpStream) -> io::Result<usize> {
     client.read(&mut [0; 8])
 }
 
-// Of 9 messages of one client 8 come at first, then those of another that came meanwhile, and then the last one.
-#[test]
-fn connections_have_their_turns(rt: HostRuntime) -> Result<(), Fail> {
-    let mut wires = NetWires::new(rt, rt.alloc());
-    wires.bind(at(29180))?;
-    let mut client = rt.connect(address_of(at(29180)))?;
-    let mut another = rt.connect(address_of(at(29180)))?;
-    client.write_all(&[0; 18])?;
-    another.write_all(b"\0\0")?;
-    let counts = counts_of_three(rt.alloc(), &mut wires)?;
-    assert_eq!(rt; counts, [Some(8), Some(1), Some(1)]);
+/// Of 9 messages of one client 8 come at first, then those of another that came meanwhile, and then the last one.
+pub fn connections_have_their_turns<R: Host, W: Wires>(rt: &R, alloc: Global, wires: &mut W) {
+    wires.bind(at(29180)).expect(rt, "no error");
+    let mut client = rt.connect(address_of(at(29180))).expect(rt, "no error");
+    let mut another = rt.connect(address_of(at(29180))).expect(rt, "no error");
+    client.write_all(&[0; 18]).expect(rt, "no error");
+    another.write_all(b"\0\0").expect(rt, "no error");
+    let counts = counts_of_three(rt, alloc, wires);
+    assert_same(rt, counts, [Some(8), Some(1), Some(1)]);
     let mut back = [1; 18];
-    client.read_exact(&mut back)?;
-    Ok(())
+    client.read_exact(&mut back).expect(rt, "no error");
 }
 
-fn counts_of_three<W: Wires>(alloc: Global, wires: &mut W) -> Result<[Option<u32>; 3], Fail> {
-    let mut inlet = wires.connections()?;
-    let mut replies = wires.replies()?;
+fn counts_of_three<W: Wires, R: Abort>(rt: &R, alloc: Global, wires: &mut W) -> [Option<u32>; 3] {
+    let mut inlet = wires.connections().expect(rt, "no error");
+    let mut replies = wires.replies().expect(rt, "no error");
     let mut counts = [None; 3];
     for place in 0..counts.len() {
         counts[place] = count_next(alloc, &mut inlet, &mut replies);
     }
-    Ok(counts)
+    counts
 }
 
-// Replies come once the worker has gone on, in another order, and to a client that sends no more. Then its connection ends.
-#[test]
-fn later_replies_reach_the_client(rt: HostRuntime) -> Result<(), Fail> {
-    let mut wires = NetWires::new(rt, rt.alloc());
-    wires.bind(at(29181))?;
-    let mut client = rt.connect(address_of(at(29181)))?;
-    client.write_all(FRAMES)?;
-    client.shutdown(Shutdown::Write)?;
-    replies_later(&rt, rt.alloc(), &mut wires)?;
+/// Replies come once the worker has gone on, in another order, and to a client that sends no more. Then its connection ends.
+pub fn later_replies_reach_the_client<R: Host, W: Wires>(rt: &R, alloc: Global, wires: &mut W) {
+    wires.bind(at(29181)).expect(rt, "no error");
+    let mut client = rt.connect(address_of(at(29181))).expect(rt, "no error");
+    client.write_all(FRAMES).expect(rt, "no error");
+    client.shutdown(Shutdown::Write).expect(rt, "no error");
+    replies_later(rt, alloc, wires);
     let mut back = [0; 11];
-    client.read_exact(&mut back)?;
-    assert_eq!(rt; &back, b"\0\x05there\0\x02hi");
-    Ok(())
+    client.read_exact(&mut back).expect(rt, "no error");
+    assert_same(rt, &back, b"\0\x05there\0\x02hi");
 }
 
-fn replies_later<W: Wires>(rt: &impl Abort, alloc: Global, wires: &mut W) -> Result<(), Fail> {
-    let mut inlet = wires.connections()?;
-    let mut replies = wires.replies()?;
+fn replies_later<W: Wires>(rt: &impl Abort, alloc: Global, wires: &mut W) {
+    let mut inlet = wires.connections().expect(rt, "no error");
+    let mut replies = wires.replies().expect(rt, "no error");
     let Some((client, count)) = serve_next(alloc, &mut inlet, &mut replies, false) else {
-        return Err("a connection".into());
+        return panic!(rt; "a connection");
     };
-    assert_eq!(rt; count, 3);
-    replies.send(client, Transport::Tcp, b"there")?;
-    wires.answer(client, Transport::Tcp, b"hi")?;
-    Ok(())
+    assert_same(rt, count, 3);
+    replies
+        .send(client, Transport::Tcp, b"there")
+        .expect(rt, "no error");
+    wires
+        .answer(client, Transport::Tcp, b"hi")
+        .expect(rt, "no error");
 }
 
-// The connection that is idle for longest gives way.
-#[test]
-fn as_many_connections_are_open_as_admitted(rt: HostRuntime) -> Result<(), Fail> {
-    let mut wires = NetWires::new(rt, rt.alloc());
+/// The connection that is idle for longest gives way.
+pub fn as_many_connections_are_open_as_admitted<R: Host, W: Wires>(rt: &R, wires: &mut W) {
     wires.admit(ConnectionLimits {
         all: 2,
         of_client: 1,
     });
-    wires.bind(at(29182))?;
+    wires.bind(at(29182)).expect(rt, "no error");
     let clients = (
-        rt.connect(address_of(at(29182)))?,
-        rt.connect(address_of(at(29182)))?,
-        rt.connect(address_of(at(29182)))?,
+        rt.connect(address_of(at(29182))).expect(rt, "no error"),
+        rt.connect(address_of(at(29182))).expect(rt, "no error"),
+        rt.connect(address_of(at(29182))).expect(rt, "no error"),
     );
-    assert_eq!(rt; rest(&clients.0)?, 0);
+    assert_same(rt, rest(&clients.0).expect(rt, "no error"), 0);
     assert!(rt; rest(&clients.1).is_err());
-    Ok(())
 }

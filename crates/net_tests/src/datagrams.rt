@@ -1,25 +1,23 @@
 //! Datagrams that come over the wires of a server, and replies to them.
 
-use crate::loopback::at;
+use crate::asserts::assert_same;
+use crate::loopback::{Host, at};
 use edge_io::{Arrival, Inlet, Received, Replies, SendError, Sink, Source, Wake, WireError, Wires};
 use ip_prefix::Transport;
-use rpz_net::{NetWires, address_of};
+use rpz_net::address_of;
 use std::io;
 use std::net::UdpSocket;
 use std::process::Abort;
-use std::test::Fail;
 
-#[test]
-fn a_datagram_is_answered(rt: HostRuntime) -> Result<(), Fail> {
-    let client = UdpSocket::bind(&rt, address_of(at(29151)))?;
-    let mut wires = NetWires::new(rt, rt.alloc());
-    serves(&rt, &client, &mut wires)
+pub fn a_datagram_is_answered<R: Host, W: Wires>(rt: &R, wires: &mut W) {
+    let client = UdpSocket::bind(rt, address_of(at(29151))).expect(rt, "no error");
+    serves(rt, &client, wires)
 }
 
-fn serves<W: Wires>(rt: &impl Abort, client: &UdpSocket, wires: &mut W) -> Result<(), Fail> {
-    wires.bind(at(29150))?;
-    let mut inlet = wires.datagrams()?;
-    let mut replies = wires.replies()?;
+fn serves<W: Wires>(rt: &impl Abort, client: &UdpSocket, wires: &mut W) {
+    wires.bind(at(29150)).expect(rt, "no error");
+    let mut inlet = wires.datagrams().expect(rt, "no error");
+    let mut replies = wires.replies().expect(rt, "no error");
     answers(rt, client, &mut inlet, &mut replies)
 }
 
@@ -29,18 +27,21 @@ fn answers<S: Source + Drop, K: Sink + Drop, I: Inlet<S, K>, P: Replies<S, K>>(
     client: &UdpSocket,
     inlet: &mut I,
     replies: &mut P,
-) -> Result<(), Fail> {
-    client.send_to(b"query", address_of(at(29150)))?;
+) {
+    client
+        .send_to(b"query", address_of(at(29150)))
+        .expect(rt, "no error");
     let Received::Arrival(Arrival::Datagram { peer, bytes }) = inlet.next() else {
-        return Err("a datagram".into());
+        return panic!(rt; "a datagram");
     };
-    assert_eq!(rt; peer, at(29151));
-    assert_eq!(rt; bytes.as_slice(), b"query".as_slice());
-    replies.send(peer, Transport::Udp, b"reply")?;
+    assert_same(rt, peer, at(29151));
+    assert_same(rt, bytes.as_slice(), b"query".as_slice());
+    replies
+        .send(peer, Transport::Udp, b"reply")
+        .expect(rt, "no error");
     let over_tcp = replies.send(peer, Transport::Tcp, b"reply");
-    assert_eq!(rt; over_tcp, Err(SendError::Failed));
-    assert_eq!(rt; received(client)?, *b"reply\0\0\0");
-    Ok(())
+    assert_same(rt, over_tcp, Err(SendError::Failed));
+    assert_same(rt, received(client).expect(rt, "no error"), *b"reply\0\0\0");
 }
 
 // The datagram that comes next to the client, with zeros behind it.
@@ -50,10 +51,8 @@ pub fn received(client: &UdpSocket) -> io::Result<[u8; 8]> {
     Ok(bytes)
 }
 
-#[test]
-fn wires_that_are_not_bound_fail(rt: HostRuntime) {
-    let mut wires = NetWires::new(rt, rt.alloc());
-    fails(&rt, &mut wires);
+pub fn wires_that_are_not_bound_fail<R: Host, W: Wires>(rt: &R, wires: &mut W) {
+    fails(rt, wires);
 }
 
 fn fails<W: Wires>(rt: &impl Abort, wires: &mut W) {
@@ -61,8 +60,9 @@ fn fails<W: Wires>(rt: &impl Abort, wires: &mut W) {
     assert!(rt; matches!(wires.wait(), Ok(Wake::Due)));
     assert!(rt; matches!(wires.datagrams(), Err(WireError::Failed)));
     assert!(rt; matches!(wires.replies(), Err(WireError::Failed)));
-    assert_eq!(rt;
+    assert_same(
+        rt,
         wires.answer(at(29151), Transport::Udp, b"reply"),
-        Err(SendError::Failed)
+        Err(SendError::Failed),
     );
 }

@@ -1,11 +1,11 @@
 //! How inlets and waits end.
 
-use crate::loopback::at;
+use crate::asserts::assert_same;
+use crate::loopback::{Host, at};
 use edge_io::{Arrival, Inlet, Received, Sink, Source, Wake, Wires};
 use rpz_net::{NetWires, address_of};
 use std::net::{Net, UdpSocket};
 use std::process::Abort;
-use std::test::Fail;
 use std::time::{Duration, Instant};
 use std::{io, thread, time};
 
@@ -25,26 +25,26 @@ fn next_of<S: Source + Drop, K: Sink + Drop>(inlet: &mut impl Inlet<S, K>) -> Gi
     }
 }
 
-#[test]
-fn the_last_turn_ends_all_inlets(rt: HostRuntime) -> Result<(), Fail> {
-    let mut wires = NetWires::new(rt, rt.alloc());
-    takes_two(&rt, &mut wires)?;
-    ends(&rt, &mut wires);
-    Ok(())
+pub fn the_last_turn_ends_all_inlets<R: Host, W: Wires>(rt: &R, wires: &mut W) {
+    takes_two(rt, wires);
+    ends(rt, wires);
 }
 
-fn takes_two<R: Net + Abort, W: Wires>(rt: &R, wires: &mut W) -> Result<(), Fail> {
+fn takes_two<R: Net + Abort, W: Wires>(rt: &R, wires: &mut W) {
     wires.limit(2);
-    wires.bind(at(29160))?;
-    let mut first = wires.datagrams()?;
-    let mut second = wires.datagrams()?;
-    send_three(rt)?;
-    assert_eq!(rt; next_of(&mut first), Given::Datagram);
-    assert_eq!(rt; next_of(&mut second), Given::Datagram);
-    assert_eq!(rt; next_of(&mut first), Given::End);
-    assert_eq!(rt; next_of(&mut second), Given::End);
-    assert_eq!(rt; next_of(&mut wires.connections()?), Given::End);
-    Ok(())
+    wires.bind(at(29160)).expect(rt, "no error");
+    let mut first = wires.datagrams().expect(rt, "no error");
+    let mut second = wires.datagrams().expect(rt, "no error");
+    send_three(rt).expect(rt, "no error");
+    assert_same(rt, next_of(&mut first), Given::Datagram);
+    assert_same(rt, next_of(&mut second), Given::Datagram);
+    assert_same(rt, next_of(&mut first), Given::End);
+    assert_same(rt, next_of(&mut second), Given::End);
+    assert_same(
+        rt,
+        next_of(&mut wires.connections().expect(rt, "no error")),
+        Given::End,
+    );
 }
 
 fn send_three<R: Net>(rt: &R) -> io::Result<()> {
@@ -84,18 +84,17 @@ fn stop_later<R: time::Clock, W: Wires>(rt: &R, wires: &mut W) {
 }
 
 #[test]
-fn stop_ends_the_waits_of_inlets(rt: HostRuntime) -> Result<(), Fail> {
+fn stop_ends_the_waits_of_inlets(rt: HostRuntime) {
     let mut wires = NetWires::new(rt, rt.alloc());
-    wires.bind(at(29162))?;
-    let mut datagrams = wires.datagrams()?;
-    let mut connections = wires.connections()?;
+    wires.bind(at(29162)).expect(&rt, "no error");
+    let mut datagrams = wires.datagrams().expect(&rt, "no error");
+    let mut connections = wires.connections().expect(&rt, "no error");
     let (waited, ((), again)) = thread::join(
         &rt,
         || waits(&rt, &mut datagrams),
         || (stop_later(&rt, &mut wires), waits(&rt, &mut connections)),
     );
-    assert!(rt; waited? < Duration::from_secs(1));
-    assert!(rt; again? < Duration::from_secs(1));
+    assert!(rt; waited.expect(&rt, "no error") < Duration::from_secs(1));
+    assert!(rt; again.expect(&rt, "no error") < Duration::from_secs(1));
     ends(&rt, &mut wires);
-    Ok(())
 }

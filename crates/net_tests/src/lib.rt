@@ -3,6 +3,8 @@
 #![tactic(auto)]
 
 #[cfg(test)]
+mod asserts;
+#[cfg(test)]
 mod clients;
 #[cfg(test)]
 mod connections;
@@ -16,6 +18,8 @@ mod loopback;
 mod notifies;
 #[cfg(test)]
 mod primaries;
+#[cfg(test)]
+mod trials;
 #[cfg(test)]
 mod upstreams;
 #[cfg(test)]

@@ -1,15 +1,15 @@
 //! NOTIFYs.
 
+use crate::asserts::assert_same;
 use crate::datagrams::received;
-use crate::loopback::at;
+use crate::loopback::{Host, at};
 use edge_io::{Inlet, Received, Sink, Source, Wake, Wires};
 use ip_prefix::Transport;
-use rpz_net::{NetWires, address_of};
+use rpz_net::address_of;
 use std::io;
 use std::io::{Read, Write};
 use std::net::{Net, TcpStream, UdpSocket};
 use std::process::Abort;
-use std::test::Fail;
 
 // The header of a request with the opcode NOTIFY.
 const NOTIFY: &[u8] = b"\x12\x34\x24\0\0\x01\0\0\0\0\0\0";
@@ -25,42 +25,41 @@ fn send<R: Net>(rt: &R, port: u16, count: u32) -> io::Result<UdpSocket> {
     Ok(client)
 }
 
-// The first comes, and the second too soon behind it. Each takes a turn.
-#[test]
-fn a_notify_is_answered(rt: HostRuntime) -> Result<(), Fail> {
-    let mut wires = NetWires::new(rt, rt.alloc());
+/// The first comes, and the second too soon behind it. Each takes a turn.
+pub fn a_notify_is_answered<R: Host, W: Wires>(rt: &R, wires: &mut W) {
     wires.limit(2);
-    let client = comes(&rt, &mut wires)?;
-    is_answered(&rt, &mut wires, &client)
+    let client = comes(rt, wires);
+    is_answered(rt, wires, &client)
 }
 
-fn comes<R: Net + Abort, W: Wires>(rt: &R, wires: &mut W) -> Result<UdpSocket, Fail> {
-    wires.bind(at(29164))?;
-    let mut inlet = wires.datagrams()?;
-    let client = send(rt, 29164, 2)?;
+fn comes<R: Net + Abort, W: Wires>(rt: &R, wires: &mut W) -> UdpSocket {
+    wires.bind(at(29164)).expect(rt, "no error");
+    let mut inlet = wires.datagrams().expect(rt, "no error");
+    let client = send(rt, 29164, 2).expect(rt, "no error");
     assert!(rt; has_ended(&mut inlet));
-    Ok(client)
+    client
 }
 
 fn has_ended<S: Source + Drop, K: Sink + Drop>(inlet: &mut impl Inlet<S, K>) -> bool {
     matches!(inlet.next(), Received::End)
 }
 
-fn is_answered<W: Wires>(rt: &impl Abort, wires: &mut W, client: &UdpSocket) -> Result<(), Fail> {
+fn is_answered<W: Wires>(rt: &impl Abort, wires: &mut W, client: &UdpSocket) {
     let Wake::Notify {
         peer,
         transport,
         bytes,
-    } = wires.wait()?
+    } = wires.wait().expect(rt, "no error")
     else {
-        return Err("a NOTIFY".into());
+        return panic!(rt; "a NOTIFY");
     };
-    assert_eq!(rt; (peer, transport), (at(29165), Transport::Udp));
-    assert_eq!(rt; bytes.as_slice(), NOTIFY);
-    wires.answer(peer, transport, b"answer")?;
-    assert_eq!(rt; received(client)?, *b"answer\0\0");
+    assert_same(rt, (peer, transport), (at(29165), Transport::Udp));
+    assert_same(rt, bytes.as_slice(), NOTIFY);
+    wires
+        .answer(peer, transport, b"answer")
+        .expect(rt, "no error");
+    assert_same(rt, received(client).expect(rt, "no error"), *b"answer\0\0");
     assert!(rt; ends_behind(wires, 1));
-    Ok(())
 }
 
 // Whether the end comes within a second or so, with so many that were dropped.
@@ -75,60 +74,51 @@ fn ends_behind<W: Wires>(wires: &mut W, count: u64) -> bool {
     false
 }
 
-// Over TCP no worker gets it, and each of the two takes a turn.
-#[test]
-fn a_notify_over_tcp_is_answered(rt: HostRuntime) -> Result<(), Fail> {
-    let mut wires = NetWires::new(rt, rt.alloc());
+/// Over TCP no worker gets it, and each of the two takes a turn.
+pub fn a_notify_over_tcp_is_answered<R: Host, W: Wires>(rt: &R, wires: &mut W) {
     wires.limit(2);
-    wires.bind(at(29183))?;
-    let mut client = rt.connect(address_of(at(29183)))?;
-    client.write_all(FRAME)?;
-    answers_frame(&rt, &mut wires, &client)?;
-    client.write_all(FRAME)?;
-    assert!(rt; ends_behind(&mut wires, 1));
-    Ok(())
+    wires.bind(at(29183)).expect(rt, "no error");
+    let mut client = rt.connect(address_of(at(29183))).expect(rt, "no error");
+    client.write_all(FRAME).expect(rt, "no error");
+    answers_frame(rt, wires, &client);
+    client.write_all(FRAME).expect(rt, "no error");
+    assert!(rt; ends_behind(wires, 1));
 }
 
-fn answers_frame<W: Wires>(
-    rt: &impl Abort,
-    wires: &mut W,
-    mut client: &TcpStream,
-) -> Result<(), Fail> {
+fn answers_frame<W: Wires>(rt: &impl Abort, wires: &mut W, mut client: &TcpStream) {
     let Wake::Notify {
         peer,
         transport,
         bytes,
-    } = wires.wait()?
+    } = wires.wait().expect(rt, "no error")
     else {
-        return Err("a NOTIFY".into());
+        return panic!(rt; "a NOTIFY");
     };
-    assert_eq!(rt; transport, Transport::Tcp);
-    assert_eq!(rt; bytes.as_slice(), NOTIFY);
-    wires.answer(peer, transport, b"answer")?;
+    assert_same(rt, transport, Transport::Tcp);
+    assert_same(rt, bytes.as_slice(), NOTIFY);
+    wires
+        .answer(peer, transport, b"answer")
+        .expect(rt, "no error");
     let mut back = [0; 8];
-    client.read_exact(&mut back)?;
-    assert_eq!(rt; &back, b"\0\x06answer");
-    Ok(())
+    client.read_exact(&mut back).expect(rt, "no error");
+    assert_same(rt, &back, b"\0\x06answer");
 }
 
-// Of a primary server several come at once, since several of its zones may have changed.
-#[test]
-fn notifies_of_a_primary_all_come(rt: HostRuntime) -> Result<(), Fail> {
-    let mut wires = NetWires::new(rt, rt.alloc());
+/// Of a primary server several come at once, since several of its zones may have changed.
+pub fn notifies_of_a_primary_all_come<R: Host, W: Wires>(rt: &R, wires: &mut W) {
     wires.limit(3);
-    assert_eq!(rt; count_of_primary(&rt, &mut wires)?, 3);
-    Ok(())
+    assert_same(rt, count_of_primary(rt, wires), 3);
 }
 
-fn count_of_primary<R: Net, W: Wires>(rt: &R, wires: &mut W) -> Result<u32, Fail> {
-    wires.bind(at(29184))?;
-    wires.order(at(29185), b"request")?;
-    let mut inlet = wires.datagrams()?;
-    let _client = send(rt, 29184, 3)?;
+fn count_of_primary<R: Abort + Net, W: Wires>(rt: &R, wires: &mut W) -> u32 {
+    wires.bind(at(29184)).expect(rt, "no error");
+    wires.order(at(29185), b"request").expect(rt, "no error");
+    let mut inlet = wires.datagrams().expect(rt, "no error");
+    let _client = send(rt, 29184, 3).expect(rt, "no error");
     if !has_ended(&mut inlet) {
-        return Err("three turns".into());
+        return panic!(rt; "three turns");
     }
-    Ok(count_notifies(wires))
+    count_notifies(wires)
 }
 
 fn count_notifies<W: Wires>(wires: &mut W) -> u32 {

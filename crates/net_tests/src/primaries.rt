@@ -1,12 +1,12 @@
 //! Transfers that are ordered of primary servers.
 
-use crate::loopback::at;
+use crate::asserts::assert_same;
+use crate::loopback::{Host, at};
 use edge_io::{Order, OrderEnd, Wake, WireError, Wires};
 use rpz_net::{NetWires, address_of};
 use std::io::{Read, Write};
 use std::net::{Net, TcpListener};
 use std::process::Abort;
-use std::test::Fail;
 use std::time::{Duration, Instant};
 use std::{io, thread, time};
 
@@ -44,7 +44,7 @@ fn take_two<W: Wires>(rt: &impl Abort, wires: &mut W) -> bool {
     for message in [b"hi".as_slice(), b"there"] {
         match next(wires) {
             Some(Wake::Frame { order, bytes }) => {
-                assert_eq!(rt; (order.number, bytes.as_slice() == message), (0, true));
+                assert_same(rt, (order.number, bytes.as_slice() == message), (0, true));
             }
             _ => return false,
         }
@@ -53,26 +53,26 @@ fn take_two<W: Wires>(rt: &impl Abort, wires: &mut W) -> bool {
 }
 
 #[test]
-fn the_messages_of_a_primary_come(rt: HostRuntime) -> Result<(), Fail> {
-    let primary = rt.bind(address_of(at(29167)))?;
+fn the_messages_of_a_primary_come(rt: HostRuntime) {
+    let primary = rt.bind(address_of(at(29167))).expect(&rt, "no error");
     let mut wires = NetWires::new(rt, rt.alloc());
-    assert_eq!(rt; begin(&mut wires, 29166, 29167)?, Order { number: 0 });
+    assert_same(
+        &rt,
+        begin(&mut wires, 29166, 29167).expect(&rt, "no error"),
+        Order { number: 0 },
+    );
     let (request, is_whole) = thread::join(
         &rt,
         || serve_two(&primary),
         || take_two(&rt, &mut wires),
     );
-    assert_eq!(rt; request?, *b"\0\x07request");
+    assert_same(&rt, request.expect(&rt, "no error"), *b"\0\x07request");
     assert!(rt; is_whole);
-    Ok(())
 }
 
-#[test]
-fn an_order_ends_where_nobody_is(rt: HostRuntime) -> Result<(), Fail> {
-    let mut wires = NetWires::new(rt, rt.alloc());
-    begin(&mut wires, 29168, 29169)?;
-    assert_eq!(rt; next_end(&mut wires), Some((0, OrderEnd::FetchFault)));
-    Ok(())
+pub fn an_order_ends_where_nobody_is<R: Host, W: Wires>(rt: &R, wires: &mut W) {
+    begin(wires, 29168, 29169).expect(rt, "no error");
+    assert_same(rt, next_end(wires), Some((0, OrderEnd::FetchFault)));
 }
 
 // Serves a port, and orders a transfer of the primary server at another one.
@@ -81,26 +81,19 @@ fn begin<W: Wires>(wires: &mut W, port: u16, primary: u16) -> Result<Order, Wire
     wires.order(at(primary), b"request")
 }
 
-// The primary server takes the connection, by its system alone, and says nothing.
-#[test]
-fn a_silent_primary_holds_nobody(rt: HostRuntime) -> Result<(), Fail> {
-    let _primary = rt.bind(address_of(at(29201)))?;
-    let mut wires = NetWires::new(rt, rt.alloc());
-    let order = begin(&mut wires, 29200, 29201)?;
+/// The primary server takes the connection, by its system alone, and says nothing.
+pub fn a_silent_primary_holds_nobody<R: Host, W: Wires>(rt: &R, wires: &mut W) {
+    let _primary = rt.bind(address_of(at(29201))).expect(rt, "no error");
+    let order = begin(wires, 29200, 29201).expect(rt, "no error");
     assert!(rt; matches!(wires.wait(), Ok(Wake::Due)));
-    assert!(rt; lets_go(&rt, &mut wires, order)? < Duration::from_millis(500));
-    Ok(())
+    assert!(rt; lets_go(rt, wires, order) < Duration::from_millis(500));
 }
 
 // How long it takes to let one order go, and then another by `stop`.
-fn lets_go<R: time::Clock, W: Wires>(
-    rt: &R,
-    wires: &mut W,
-    order: Order,
-) -> Result<Duration, Fail> {
-    wires.order(at(29201), b"request")?;
-    let start = Instant::now(rt)?;
+fn lets_go<R: Abort + time::Clock, W: Wires>(rt: &R, wires: &mut W, order: Order) -> Duration {
+    wires.order(at(29201), b"request").expect(rt, "no error");
+    let start = Instant::now(rt).expect(rt, "no error");
     wires.forget(order);
     wires.stop();
-    Ok(start.elapsed(rt)?)
+    start.elapsed(rt).expect(rt, "no error")
 }

@@ -1,15 +1,16 @@
 //! Questions to an upstream. Each question has eight bytes, and so its frame ten.
 
-use crate::loopback::at;
+use crate::asserts::assert_same;
+use crate::loopback::{Host, at};
 use edge_io::{Deadline, Link, Wires};
 use rpz_net::limits::UPSTREAM_CONNECTIONS;
 use rpz_net::{NetWires, address_of};
 use std::alloc::Global;
 use std::io::{Read, Write};
 use std::net::{Net, TcpListener, TcpStream};
+use std::process::Abort;
 use std::sync::Wait;
 use std::sync::atomic::{AtomicBool, Ordering};
-use std::test::Fail;
 use std::thread::Threads;
 use std::time::{Duration, Instant};
 use std::{io, thread, time};
@@ -34,21 +35,22 @@ fn answer_late(listener: &TcpListener) -> io::Result<[u8; 10]> {
     Ok(frame)
 }
 
-#[test]
-fn an_answer_has_the_id_of_its_question(rt: HostRuntime) -> Result<(), Fail> {
-    let listener = rt.bind(address_of(at(29152)))?;
-    let mut wires = NetWires::new(rt, rt.alloc());
-    let mut link = wires.link(at(29152))?;
+pub fn an_answer_has_the_id_of_its_question<R: Host, W: Wires>(
+    rt: &R,
+    alloc: Global,
+    wires: &mut W,
+) {
+    let listener = rt.bind(address_of(at(29152))).expect(rt, "no error");
+    let mut link = wires.link(at(29152)).expect(rt, "no error");
     let (frame, answer) = thread::join(
-        &rt,
+        rt,
         || answer_late(&listener),
-        || answer_start(rt.alloc(), &mut link),
+        || answer_start(alloc, &mut link),
     );
-    let frame = frame?;
-    assert_eq!(rt; &frame[..2], b"\0\x08".as_slice());
-    assert_eq!(rt; &frame[4..], b"estion".as_slice());
-    assert_eq!(rt; answer, Some((65_535, *b"qu  ")));
-    Ok(())
+    let frame = frame.expect(rt, "no error");
+    assert_same(rt, &frame[..2], b"\0\x08".as_slice());
+    assert_same(rt, &frame[4..], b"estion".as_slice());
+    assert_same(rt, answer, Some((65_535, *b"qu  ")));
 }
 
 // How long the answer to a question is, and its first bytes.
@@ -83,36 +85,37 @@ fn both_are_echoed<R: Threads + Sync, L: Link + Send>(
     )
 }
 
-#[test]
-fn answers_come_in_any_order(rt: HostRuntime) -> Result<(), Fail> {
-    let listener = rt.bind(address_of(at(29190)))?;
-    let mut wires = NetWires::new(rt, rt.alloc());
-    let (mut one, mut other) = (wires.link(at(29190))?, wires.link(at(29190))?);
+pub fn answers_come_in_any_order<R: Host, W: Wires>(rt: &R, alloc: Global, wires: &mut W) {
+    let listener = rt.bind(address_of(at(29190))).expect(rt, "no error");
+    let (mut one, mut other) = (
+        wires.link(at(29190)).expect(rt, "no error"),
+        wires.link(at(29190)).expect(rt, "no error"),
+    );
     let (served, answers) = thread::join(
-        &rt,
+        rt,
         || answer_swapped(&listener).is_ok(),
-        || both_are_echoed(&rt, rt.alloc(), &mut one, &mut other),
+        || both_are_echoed(rt, alloc, &mut one, &mut other),
     );
     assert!(rt; served);
-    assert_eq!(rt; answers, (true, true));
-    Ok(())
+    assert_same(rt, answers, (true, true));
 }
 
-// The upstream takes the connection, by its system alone, and says nothing. What had too little time isn't remembered.
-#[test]
-fn a_silent_upstream_costs_the_time_once(rt: HostRuntime) -> Result<(), Fail> {
-    let _listener = rt.bind(address_of(at(29153)))?;
-    let mut wires = NetWires::new(rt, rt.alloc());
-    let mut link = wires.link(at(29153))?;
+/// The upstream takes the connection, by its system alone, and says nothing. What had too little time isn't remembered.
+pub fn a_silent_upstream_costs_the_time_once<R: Host, W: Wires>(
+    rt: &R,
+    alloc: Global,
+    wires: &mut W,
+) {
+    let _listener = rt.bind(address_of(at(29153))).expect(rt, "no error");
+    let mut link = wires.link(at(29153)).expect(rt, "no error");
     for (millis, least) in [(100, 100), (500, 500), (500, 0)] {
-        let took = failure(&rt, rt.alloc(), &mut link, millis)?;
+        let took = failure(rt, alloc, &mut link, millis).expect(rt, "no error");
         let least = Duration::from_millis(least);
         assert!(rt;
             took >= least && took < least + Duration::from_millis(90),
             "{took:?}"
         );
     }
-    Ok(())
 }
 
 // One question is answered after 600 milliseconds, and the next one on that connection at once.
@@ -140,19 +143,20 @@ fn is_answered_later<R: time::Clock>(rt: &R, alloc: Global, link: &mut impl Link
     has_failed && is_echoed(alloc, link, b"question")
 }
 
-#[test]
-fn a_late_answer_ends_what_is_remembered(rt: HostRuntime) -> Result<(), Fail> {
-    let listener = rt.bind(address_of(at(29194)))?;
-    let mut wires = NetWires::new(rt, rt.alloc());
-    let mut link = wires.link(at(29194))?;
+pub fn a_late_answer_ends_what_is_remembered<R: Host, W: Wires>(
+    rt: &R,
+    alloc: Global,
+    wires: &mut W,
+) {
+    let listener = rt.bind(address_of(at(29194))).expect(rt, "no error");
+    let mut link = wires.link(at(29194)).expect(rt, "no error");
     let (served, answered) = thread::join(
-        &rt,
-        || answer_slowly(&rt, &listener).is_ok(),
-        || is_answered_later(&rt, rt.alloc(), &mut link),
+        rt,
+        || answer_slowly(rt, &listener).is_ok(),
+        || is_answered_later(rt, alloc, &mut link),
     );
     assert!(rt; served);
     assert!(rt; answered);
-    Ok(())
 }
 
 // How long a question takes that has so many milliseconds, and fails.
@@ -235,14 +239,21 @@ fn ask_at_once<R, W: Wires>(
     port: u16,
     askers: u32,
     is_single: bool,
-) -> Result<(u64, u64), Fail>
+) -> (u64, u64)
 where
-    R: Net<Listener = TcpListener, Stream = TcpStream> + time::Clock + Threads + Wait + Sync,
+    R: Net<Listener = TcpListener, Stream = TcpStream>
+        + time::Clock
+        + Threads
+        + Wait
+        + Abort
+        + Sync,
 {
-    let listener = rt.bind(address_of(at(port)))?;
+    let listener = rt.bind(address_of(at(port))).expect(rt, "no error");
     let mut links = Vec::new(alloc);
     for _ in 0..askers {
-        links.push(wires.link(at(port))?)?;
+        links
+            .push(wires.link(at(port)).expect(rt, "no error"))
+            .expect(rt, "no error");
     }
     let has_to_stop = AtomicBool::new(false);
     let (taken, failed) = thread::join(
@@ -250,7 +261,7 @@ where
         || echo_all(rt, alloc, &listener, is_single, &has_to_stop),
         || ask_and_stop(rt, alloc, links, &has_to_stop),
     );
-    Ok((taken?, failed.unwrap_or(u64::MAX)))
+    (taken.expect(rt, "no error"), failed.unwrap_or(u64::MAX))
 }
 
 fn ask_and_stop<R: Threads + Sync, L: Link + Drop + Send>(
@@ -268,38 +279,35 @@ fn ask_and_stop<R: Threads + Sync, L: Link + Drop + Send>(
     Some(sum)
 }
 
-#[test]
-fn many_askers_share_few_connections(rt: HostRuntime) -> Result<(), Fail> {
-    let mut wires = NetWires::new(rt, rt.alloc());
-    let (taken, failed) = ask_at_once(&rt, rt.alloc(), &mut wires, 29191, 100, false)?;
+pub fn many_askers_share_few_connections<R: Host, W: Wires>(rt: &R, alloc: Global, wires: &mut W) {
+    let (taken, failed) = ask_at_once(rt, alloc, wires, 29191, 100, false);
     assert!(rt; taken <= UPSTREAM_CONNECTIONS, "{taken}");
-    assert_eq!(rt; failed, 0);
-    Ok(())
+    assert_same(rt, failed, 0);
 }
 
-// Once two connections were closed, each question gets one of its own.
-#[test]
-fn an_upstream_that_closes_gets_one_question_each(rt: HostRuntime) -> Result<(), Fail> {
-    let mut wires = NetWires::new(rt, rt.alloc());
-    let (taken, failed) = ask_at_once(&rt, rt.alloc(), &mut wires, 29192, 24, true)?;
+/// Once two connections were closed, each question gets one of its own.
+pub fn an_upstream_that_closes_gets_one_question_each<R: Host, W: Wires>(
+    rt: &R,
+    alloc: Global,
+    wires: &mut W,
+) {
+    let (taken, failed) = ask_at_once(rt, alloc, wires, 29192, 24, true);
     assert!(rt; taken > 24 * 20, "{taken}");
-    assert_eq!(rt; failed, 0);
-    Ok(())
+    assert_same(rt, failed, 0);
 }
 
 // How long an asker waits until `stop` ends that.
 #[test]
-fn stop_ends_the_wait_for_an_answer(rt: HostRuntime) -> Result<(), Fail> {
-    let _listener = rt.bind(address_of(at(29193)))?;
+fn stop_ends_the_wait_for_an_answer(rt: HostRuntime) {
+    let _listener = rt.bind(address_of(at(29193))).expect(&rt, "no error");
     let mut wires = NetWires::new(rt, rt.alloc());
-    let mut link = wires.link(at(29193))?;
+    let mut link = wires.link(at(29193)).expect(&rt, "no error");
     let (took, ()) = thread::join(
         &rt,
         || failure(&rt, rt.alloc(), &mut link, 4_000),
         || stop_later(&rt, &mut wires),
     );
-    assert!(rt; took? < Duration::from_secs(1));
-    Ok(())
+    assert!(rt; took.expect(&rt, "no error") < Duration::from_secs(1));
 }
 
 fn stop_later<R: time::Clock, W: Wires>(rt: &R, wires: &mut W) {

@@ -1,24 +1,23 @@
 //! Addresses, the clock and IDs.
 
+use crate::asserts::assert_same;
 use crate::loopback::at;
 use edge_io::{Clock, Endpoint, Ids};
 use ip_prefix::Addr;
 use rpz_net::{RandomIds, SystemClock, address_of, endpoint_of};
 use std::net::SocketAddr;
-use std::test::Fail;
 
 #[test]
-fn endpoints_are_addresses(rt: HostRuntime) -> Result<(), Fail> {
+fn endpoints_are_addresses(rt: HostRuntime) {
     let v6 = Endpoint {
         addr: Addr::V6((0x2001_0db8 << 96) + 0x35),
         port: 853,
     };
     for (endpoint, text) in [(at(53), "127.0.0.1:53"), (v6, "[2001:db8::35]:853")] {
-        let address = text.parse::<SocketAddr>()?;
-        assert_eq!(rt; address_of(endpoint), address);
-        assert_eq!(rt; endpoint_of(address), endpoint);
+        let address = text.parse::<SocketAddr>().expect(&rt, "no error");
+        assert_same(&rt, address_of(endpoint), address);
+        assert_same(&rt, endpoint_of(address), endpoint);
     }
-    Ok(())
 }
 
 #[test]

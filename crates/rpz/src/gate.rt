@@ -1,5 +1,6 @@
 //! Workers of a server whose questions hold until another reply was sent.
 
+use crate::asserts::assert_same;
 use crate::cases::{DENIAL, DENIED, Moment, NEVER, TRANSFER, Woken};
 use crate::outside::{Flag, Meeting, Upstream};
 use crate::runs::{Memory, connection, datagram, flag, posts, run_line, stages};
@@ -58,53 +59,66 @@ const FIRST_REPLY: &[u8] = b"\0\x01\x81\x80\0\x01\0\x01\0\0\0\0\x01x\x07example\
 const SECOND_REPLY: &[u8] = b"\0\x02\x81\x80\0\x01\0\x01\0\0\0\0\x01x\x07example\0\0\x01\0\x01\
     \x01x\x07example\0\0\x01\0\x01\0\0\0<\0\x04\xc0\0\x02\x09";
 
-fn upstream<R: Clock + Drop>(rt: R, asked: &Flag, replied: &Flag) -> Result<Upstream<R>, Fail> {
+fn upstream<R: Abort + Clock + Drop>(rt: R, asked: &Flag, replied: &Flag) -> Upstream<R> {
     let meeting = Meeting {
-        asked: Arc::try_clone(asked)?,
-        replied: Arc::try_clone(replied)?,
+        asked: Arc::try_clone(asked).expect(&rt, "no error"),
+        replied: Arc::try_clone(replied).expect(&rt, "no error"),
     };
-    Ok(Upstream {
+    Upstream {
         rt,
         messages: &[GIVEN],
         given: 0,
         meeting: Some(meeting),
         faults: 0,
-    })
+    }
 }
 
 // What comes once the zone was taken: these datagrams, and a connection with these bytes, if there are any.
-fn last_stage(
+fn last_stage<R: Abort>(
+    rt: &R,
     alloc: Global,
     queries: &[&'static [u8]],
     framed: &'static [u8],
-) -> Result<WireStage<ListSource, ListSink>, Fail> {
+) -> WireStage<ListSource, ListSink> {
     let mut stage = WireStage::new(alloc, Some(Wake::Due));
     for query in queries {
-        stage.datagrams.push(datagram(alloc, query)?)?;
+        stage
+            .datagrams
+            .push(datagram(alloc, query).expect(rt, "no error"))
+            .expect(rt, "no error");
     }
     if !framed.is_empty() {
-        stage.connections.push(connection(alloc, framed)?)?;
+        stage
+            .connections
+            .push(connection(alloc, framed).expect(rt, "no error"))
+            .expect(rt, "no error");
     }
-    Ok(stage)
+    stage
 }
 
 // The question that comes first waits for a reply, which only another worker can send.
-fn wires<R: Threads + Wait + Clock + Copy + Drop + Send + Sync + 'static>(
+fn wires<R: Threads + Wait + Abort + Clock + Copy + Drop + Send + Sync + 'static>(
     rt: R,
     alloc: Global,
     sender: &Sender<Octets>,
     queries: &[&'static [u8]],
     framed: &'static [u8],
-) -> Result<Memory<R>, Fail> {
-    let (asked, replied) = (flag(alloc)?, flag(alloc)?);
+) -> Memory<R> {
+    let (asked, replied) = (flag(&rt, alloc), flag(&rt, alloc));
     let (mut links, mut backs) = (VecDeque::new(alloc), VecDeque::new(alloc));
     for _ in 0..24 {
-        links.push_back(upstream(rt, &asked, &replied)?)?;
-        backs.push_back(posts(rt, alloc, sender, &replied)?)?;
+        links
+            .push_back(upstream(rt, &asked, &replied))
+            .expect(&rt, "no error");
+        backs
+            .push_back(posts(rt, alloc, sender, &replied))
+            .expect(&rt, "no error");
     }
-    let mut stages = stages(alloc, &FIRST_PASS)?;
-    stages.push_back(last_stage(alloc, queries, framed)?)?;
-    let wires = ListWires::new(
+    let mut stages = stages(alloc, &FIRST_PASS).expect(&rt, "no error");
+    stages
+        .push_back(last_stage(&rt, alloc, queries, framed))
+        .expect(&rt, "no error");
+    ListWires::new(
         rt,
         alloc,
         stages,
@@ -112,18 +126,14 @@ fn wires<R: Threads + Wait + Clock + Copy + Drop + Send + Sync + 'static>(
         backs,
         Vec::new(alloc),
         Vec::new(alloc),
-    )?;
-    Ok(wires)
+    )
+    .expect(&rt, "no error")
 }
 
 // Both replies were sent, in either order.
-fn assert_both<R: Wait + Abort>(
-    rt: &R,
-    replies: &Receiver<Octets>,
-    expected: [&'static [u8]; 2],
-) -> Result<(), Fail> {
+fn assert_both<R: Wait + Abort>(rt: &R, replies: &Receiver<Octets>, expected: [&'static [u8]; 2]) {
     let (Ok(one), Ok(other)) = (replies.try_recv(rt), replies.try_recv(rt)) else {
-        return Err("two replies".into());
+        return panic!(rt; "two replies");
     };
     let [first_reply, second_reply] = expected;
     let (first, second) = if one.as_slice() == first_reply {
@@ -131,10 +141,9 @@ fn assert_both<R: Wait + Abort>(
     } else {
         (other, one)
     };
-    assert_eq!(rt; first.as_slice(), first_reply);
-    assert_eq!(rt; second.as_slice(), second_reply);
+    assert_same(rt, first.as_slice(), first_reply);
+    assert_same(rt, second.as_slice(), second_reply);
     assert!(rt; replies.try_recv(rt).is_err());
-    Ok(())
 }
 
 fn meet<R: Threads + Wait + Abort + Clock + RandomSource + Copy + Drop + Send + Sync + 'static>(
@@ -144,16 +153,16 @@ fn meet<R: Threads + Wait + Abort + Clock + RandomSource + Copy + Drop + Send + 
     queries: &[&'static [u8]],
     framed: &'static [u8],
     expected: [&'static [u8]; 2],
-) -> Result<(), Fail> {
-    let (sender, replies) = unbounded(alloc)?;
-    let mut wires = wires(rt, alloc, &sender, queries, framed)?;
-    let (status, _written) = run_line(rt, alloc, line, &mut wires, NEVER, NEVER)?;
-    assert_eq!(rt; status, Status::Done);
+) {
+    let (sender, replies) = unbounded(alloc).expect(&rt, "no error");
+    let mut wires = wires(rt, alloc, &sender, queries, framed);
+    let (status, _written) = run_line(rt, alloc, line, &mut wires, NEVER, NEVER);
+    assert_same(&rt, status, Status::Done);
     assert_both(&rt, &replies, expected)
 }
 
 #[test]
-fn workers_that_ask_run_beside_each_other(rt: HostRuntime) -> Result<(), Fail> {
+fn workers_that_ask_run_beside_each_other(rt: HostRuntime) {
     meet(
         rt,
         rt.alloc(),
@@ -166,7 +175,7 @@ fn workers_that_ask_run_beside_each_other(rt: HostRuntime) -> Result<(), Fail> {
 
 // A name that a rule decides is answered while the only worker that asks still waits for the upstream.
 #[test]
-fn what_a_rule_decides_waits_for_no_question(rt: HostRuntime) -> Result<(), Fail> {
+fn what_a_rule_decides_waits_for_no_question(rt: HostRuntime) {
     meet(
         rt,
         rt.alloc(),
@@ -179,7 +188,7 @@ fn what_a_rule_decides_waits_for_no_question(rt: HostRuntime) -> Result<(), Fail
 
 // The same of the next message of a connection, which doesn't wait for the one before it (RFC 7766, section 6.2.1.1).
 #[test]
-fn a_message_waits_for_no_question_of_its_connection(rt: HostRuntime) -> Result<(), Fail> {
+fn a_message_waits_for_no_question_of_its_connection(rt: HostRuntime) {
     meet(
         rt,
         rt.alloc(),

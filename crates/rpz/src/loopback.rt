@@ -1,5 +1,6 @@
 //! A server, its primary and its client in one process, over the loopback.
 
+use crate::asserts::assert_same;
 use crate::cases::{DENIAL, DENIED, NEVER, TRANSFER};
 use crate::runs::run_line;
 use rpz_net::NetWires;
@@ -10,7 +11,6 @@ use std::net::{IpAddr, Ipv4Addr, Net, SocketAddr, TcpListener, TcpStream, UdpSoc
 use std::process::Abort;
 use std::random::RandomSource;
 use std::sync::Wait;
-use std::test::Fail;
 use std::thread::Threads;
 use std::time::Clock;
 use std::{io, thread};
@@ -76,22 +76,21 @@ fn serve_and_ask<
         + Send
         + Sync
         + 'static,
->(rt: R, alloc: Global) -> Result<(), Fail> {
-    let primary = rt.bind(local(29172))?;
+>(rt: R, alloc: Global) {
+    let primary = rt.bind(local(29172)).expect(&rt, "no error");
     let mut wires = NetWires::new(rt, alloc);
     let (asked, served) = thread::join(
         &rt,
         || outside(&rt, &primary),
         || run_line(rt, alloc, LINE, &mut wires, NEVER, NEVER),
     );
-    let (status, written) = served?;
-    assert_eq!(rt; status, Status::Done);
-    assert_eq!(rt; written.as_slice(), WRITTEN);
-    assert_eq!(rt; asked?, (true, true));
-    Ok(())
+    let (status, written) = served;
+    assert_same(&rt, status, Status::Done);
+    assert_same(&rt, written.as_slice(), WRITTEN);
+    assert_same(&rt, asked.expect(&rt, "no error"), (true, true));
 }
 
 #[test]
-fn a_server_answers_on_the_loopback(rt: HostRuntime) -> Result<(), Fail> {
+fn a_server_answers_on_the_loopback(rt: HostRuntime) {
     serve_and_ask(rt, rt.alloc())
 }

@@ -3,10 +3,10 @@
 ghost use Rattle.std.specs.Prelude.{◌≡◌, None};
 
 use crate::alone::{replay_words, run_alone};
+use crate::asserts::assert_same;
 use edge_io::{Failed, Sink, SinkError, Source};
 use rpz_program::status::Status;
 use std::cell::Cell;
-use std::test::Fail;
 
 // A query that is met with silence, and how many bytes its output `silent 0` has.
 const QUERY: &[u8] = b"query 0 udp 192.0.2.7 -\n";
@@ -62,7 +62,7 @@ impl Sink for CountingSink<'_> {
 }
 
 #[test]
-fn each_line_is_answered_before_more_is_read(rt: HostRuntime) -> Result<(), Fail> {
+fn each_line_is_answered_before_more_is_read(rt: HostRuntime) {
     let written = Cell::new(0usize);
     let is_ahead = Cell::new(false);
     let mut source = QuerySource {
@@ -71,10 +71,9 @@ fn each_line_is_answered_before_more_is_read(rt: HostRuntime) -> Result<(), Fail
         is_ahead: &is_ahead,
     };
     let mut sink = CountingSink { written: &written };
-    let words = replay_words(rt.alloc())?;
-    let status = run_alone(rt, rt.alloc(), &words, &mut source, &mut sink)?;
-    assert_eq!(rt; status, Status::Done);
-    assert_eq!(rt; written.get(), OUTPUT * 3);
+    let words = replay_words(rt.alloc()).expect(&rt, "no error");
+    let status = run_alone(rt, rt.alloc(), &words, &mut source, &mut sink).expect(&rt, "no error");
+    assert_same(&rt, status, Status::Done);
+    assert_same(&rt, written.get(), OUTPUT * 3);
     assert!(rt; !is_ahead.get());
-    Ok(())
 }

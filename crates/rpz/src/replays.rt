@@ -1,14 +1,15 @@
 //! Runs whose reads and writes fail, and the texts of statuses. What runs answer stands in scenarios/.
 
 use crate::alone::{replay_words, run_alone};
+use crate::asserts::assert_same;
 use edge_io::{ListSink, ListSource};
 use rpz_program::laws::a_line_of_the_grammar_is_done;
 use rpz_program::replayed;
 use rpz_program::status::Status;
 use std::alloc::Global;
+use std::process::Abort;
 use std::random::RandomSource;
 use std::sync::Wait;
-use std::test::Fail;
 use std::thread::Threads;
 use std::time::Clock;
 
@@ -19,62 +20,63 @@ const SCRIPT: &[u8] = b"query 0 udp 192.0.2.7 -\nquery 1 udp 192.0.2.7 abcd11000
 const OUTPUT: &[u8] = b"silent 0\nreply 1 abcd91840000000000000000\n";
 
 // The status and the output of the script, read 10 bytes and written 5 bytes at a time, where these reads and writes fail.
-fn run_failing<R: Threads + Wait + Clock + RandomSource + Copy + Drop + Send + Sync + 'static>(
-    rt: R,
-    alloc: Global,
-    reads: Vec<u64>,
-    writes: Vec<u64>,
-) -> Result<(Status, Vec<u8>), Fail> {
-    let mut source = ListSource::new(SCRIPT.to_vec(alloc)?, 10, reads);
+fn run_failing<
+    R: Abort + Threads + Wait + Clock + RandomSource + Copy + Drop + Send + Sync + 'static,
+>(rt: R, alloc: Global, reads: Vec<u64>, writes: Vec<u64>) -> (Status, Vec<u8>) {
+    let mut source = ListSource::new(SCRIPT.to_vec(alloc).expect(&rt, "no error"), 10, reads);
     let mut sink = ListSink::new(Vec::new(alloc), 5, writes);
-    let status = run_alone(rt, alloc, &replay_words(alloc)?, &mut source, &mut sink)?;
-    Ok((status, sink.bytes))
+    let status = run_alone(
+        rt,
+        alloc,
+        &replay_words(alloc).expect(&rt, "no error"),
+        &mut source,
+        &mut sink,
+    )
+    .expect(&rt, "no error");
+    (status, sink.bytes)
 }
 
 // Each read fails in turn, that at the end too: the lines whose line feed was read are answered.
 #[test]
-fn each_read_fails(rt: HostRuntime) -> Result<(), Fail> {
+fn each_read_fails(rt: HostRuntime) {
     let alloc = rt.alloc();
     for (call, written) in [0usize, 0, 0, 9, 9, 9, 9, 9, 42].iter().enumerate() {
-        let failing = vec![in alloc; call as u64]?;
-        let (status, out) = run_failing(rt, alloc, failing, Vec::new(alloc))?;
-        assert_eq!(rt; status, Status::ReadFault, "at {call}");
-        assert_eq!(rt; out.as_slice(), &OUTPUT[..*written], "at {call}");
+        let failing = vec![in alloc; call as u64].expect(&rt, "no error");
+        let (status, out) = run_failing(rt, alloc, failing, Vec::new(alloc));
+        assert!(rt; status == Status::ReadFault, "at {call}");
+        assert!(rt; out.as_slice() == &OUTPUT[..*written], "at {call}");
     }
-    Ok(())
 }
 
 // Each write fails in turn: what was written before it stays.
 #[test]
-fn each_write_fails(rt: HostRuntime) -> Result<(), Fail> {
+fn each_write_fails(rt: HostRuntime) {
     let alloc = rt.alloc();
     for (call, written) in [0usize, 5, 9, 14, 19, 24, 29, 34, 39].iter().enumerate() {
-        let failing = vec![in alloc; call as u64]?;
-        let (status, out) = run_failing(rt, alloc, Vec::new(alloc), failing)?;
-        assert_eq!(rt; status, Status::WriteFault, "at {call}");
-        assert_eq!(rt; out.as_slice(), &OUTPUT[..*written], "at {call}");
+        let failing = vec![in alloc; call as u64].expect(&rt, "no error");
+        let (status, out) = run_failing(rt, alloc, Vec::new(alloc), failing);
+        assert!(rt; status == Status::WriteFault, "at {call}");
+        assert!(rt; out.as_slice() == &OUTPUT[..*written], "at {call}");
     }
-    Ok(())
 }
 
 #[test]
-fn a_script_in_memory_is_replayed(rt: HostRuntime) -> Result<(), Fail> {
+fn a_script_in_memory_is_replayed(rt: HostRuntime) {
     // a law of its lines, which does nothing
     a_line_of_the_grammar_is_done();
     let alloc = rt.alloc();
-    let (status, out) = run_failing(rt, alloc, Vec::new(alloc), Vec::new(alloc))?;
-    assert_eq!(rt; status, Status::Done);
-    assert_eq!(rt; out.as_slice(), OUTPUT);
-    let got = replayed(alloc, SCRIPT.to_vec(alloc)?)
+    let (status, out) = run_failing(rt, alloc, Vec::new(alloc), Vec::new(alloc));
+    assert_same(&rt, status, Status::Done);
+    assert_same(&rt, out.as_slice(), OUTPUT);
+    let got = replayed(alloc, SCRIPT.to_vec(alloc).expect(&rt, "no error"))
         .ok()
-        .ok_or("a transcript")?;
-    assert_eq!(rt; got.as_slice(), OUTPUT);
-    Ok(())
+        .expect(&rt, "a transcript");
+    assert_same(&rt, got.as_slice(), OUTPUT);
 }
 
 // The texts that no scenario shows.
 #[test]
-fn statuses_have_their_texts(rt: HostRuntime) -> Result<(), Fail> {
+fn statuses_have_their_texts(rt: HostRuntime) {
     for (status, code, text) in [
         (Status::ReadFault, 4, "rpz: read fault"),
         (Status::WriteFault, 5, "rpz: write fault"),
@@ -82,9 +84,11 @@ fn statuses_have_their_texts(rt: HostRuntime) -> Result<(), Fail> {
         (Status::StartFault, 7, "rpz: start fault"),
         (Status::OutOfMemory, 9, "rpz: out of memory"),
     ] {
-        assert_eq!(rt; status.code(), code);
-        let got = status.text(rt.alloc())?.ok_or("a text")?;
-        assert_eq!(rt; got.as_str(), text);
+        assert_same(&rt, status.code(), code);
+        let got = status
+            .text(rt.alloc())
+            .expect(&rt, "no error")
+            .expect(&rt, "a text");
+        assert_same(&rt, got.as_str(), text);
     }
-    Ok(())
 }

@@ -19,7 +19,6 @@ use std::process::Abort;
 use std::random::RandomSource;
 use std::sync::atomic::AtomicBool;
 use std::sync::{Arc, Wait};
-use std::test::Fail;
 use std::thread::Threads;
 use std::time::Clock;
 
@@ -29,17 +28,19 @@ pub type Memory<R> = ListWires<ListSource, ListSink, Upstream<R>, Posts<R>, R>;
 type Stage = WireStage<ListSource, ListSink>;
 
 /// The words that a line has.
-pub fn words_of(alloc: Global, line: &str) -> Result<Vec<String>, Fail> {
+pub fn words_of<R: Abort>(rt: &R, alloc: Global, line: &str) -> Vec<String> {
     let mut words = Vec::new(alloc);
     for word in line.split(' ') {
-        words.push(String::from_str(alloc, word)?)?;
+        words
+            .push(String::from_str(alloc, word).expect(rt, "no error"))
+            .expect(rt, "no error");
     }
-    Ok(words)
+    words
 }
 
 /// A flag that isn't set.
-pub fn flag(alloc: Global) -> Result<Flag, Fail> {
-    Ok(Arc::new(alloc, AtomicBool::new(false))?)
+pub fn flag<R: Abort>(rt: &R, alloc: Global) -> Flag {
+    Arc::new(alloc, AtomicBool::new(false)).expect(rt, "no error")
 }
 
 /// A datagram of 192.0.2.7.
@@ -121,55 +122,60 @@ pub fn stages(alloc: Global, moments: &[Moment]) -> Result<VecDeque<Stage>, Allo
 }
 
 /// A place for the replies of one worker.
-pub fn posts<R: Wait + Copy + Drop>(
+pub fn posts<R: Abort + Wait + Copy + Drop>(
     rt: R,
     alloc: Global,
     sender: &Sender<Octets>,
     replied: &Flag,
-) -> Result<Posts<R>, Fail> {
-    Ok(Posts {
+) -> Posts<R> {
+    Posts {
         rt,
         alloc,
-        sender: sender.clone()?,
-        replied: Arc::try_clone(replied)?,
+        sender: sender.clone().expect(&rt, "no error"),
+        replied: Arc::try_clone(replied).expect(&rt, "no error"),
         faults: 0,
-    })
+    }
 }
 
 // Links and places for replies, for 40 workers. All links give the same.
-fn wires<R: Threads + Wait + Clock + Copy + Drop + Send + Sync + 'static>(
+fn wires<R: Abort + Threads + Wait + Clock + Copy + Drop + Send + Sync + 'static>(
     rt: R,
     alloc: Global,
     case: &Case,
     sender: &Sender<Octets>,
-) -> Result<Memory<R>, Fail> {
-    let unused = flag(alloc)?;
+) -> Memory<R> {
+    let unused = flag(&rt, alloc);
     let (mut links, mut backs) = (VecDeque::new(alloc), VecDeque::new(alloc));
     for _ in 0..40 {
-        links.push_back(Upstream {
-            rt,
-            messages: case.upstream,
-            given: 0,
-            meeting: None,
-            faults: 0,
-        })?;
-        backs.push_back(posts(rt, alloc, sender, &unused)?)?;
+        links
+            .push_back(Upstream {
+                rt,
+                messages: case.upstream,
+                given: 0,
+                meeting: None,
+                faults: 0,
+            })
+            .expect(&rt, "no error");
+        backs
+            .push_back(posts(rt, alloc, sender, &unused))
+            .expect(&rt, "no error");
     }
     let wires = ListWires::new(
         rt,
         alloc,
-        stages(alloc, case.moments)?,
+        stages(alloc, case.moments).expect(&rt, "no error"),
         links,
         backs,
-        vec![in alloc; case.failing_bind]?,
-        vec![in alloc; case.failing_order]?,
-    )?;
-    Ok(wires)
+        vec![in alloc; case.failing_bind].expect(&rt, "no error"),
+        vec![in alloc; case.failing_order].expect(&rt, "no error"),
+    )
+    .expect(&rt, "no error");
+    wires
 }
 
 /// Runs a line of words over wires, with workers in threads: how it ends, and what it writes, one byte a call.
 pub fn run_line<
-    R: Threads + Wait + Clock + RandomSource + Copy + Drop + Send + Sync + 'static,
+    R: Abort + Threads + Wait + Clock + RandomSource + Copy + Drop + Send + Sync + 'static,
     W: Wires,
 >(
     rt: R,
@@ -178,19 +184,23 @@ pub fn run_line<
     wires: &mut W,
     failing_start: u64,
     failing_write: u64,
-) -> Result<(Status, Vec<u8>), Fail> {
-    let words = words_of(alloc, line)?;
+) -> (Status, Vec<u8>) {
+    let words = words_of(&rt, alloc, line);
     let mut script = Bytes::new(Vec::new(alloc));
-    let mut out = ListSink::new(Vec::new(alloc), 1, vec![in alloc; failing_write]?);
+    let mut out = ListSink::new(
+        Vec::new(alloc),
+        1,
+        vec![in alloc; failing_write].expect(&rt, "no error"),
+    );
     let mut spawner: TaskSpawner<Report, R> = TaskSpawner::new(
         rt,
         alloc,
         true,
-        vec![in alloc; failing_start]?,
+        vec![in alloc; failing_start].expect(&rt, "no error"),
     );
     let mut clock = ListClock::new(alloc, VecDeque::new(alloc));
     let mut ids = ListIds::new(alloc, VecDeque::new(alloc));
-    let hashers = RandomState::new(&rt)?;
+    let hashers = RandomState::new(&rt).expect(&rt, "no error");
     let status = run(
         &rt,
         alloc,
@@ -203,7 +213,7 @@ pub fn run_line<
         &mut ids,
         hashers,
     );
-    Ok((status, out.bytes))
+    (status, out.bytes)
 }
 
 // The replies are those that are expected, in order.
@@ -225,17 +235,17 @@ pub fn assert_replies<R: Wait + Abort>(
 
 // Transfers were ordered of the primaries at these ports.
 fn assert_ordered<R: Abort>(rt: &R, ordered: &[SentOrder], expected: &[u16], name: &str) {
-    assert_eq!(rt; ordered.len(), expected.len(), "{name}");
+    assert!(rt; ordered.len() == expected.len(), "{name}");
     for (order, port) in ordered.iter().zip(expected.iter()) {
-        assert_eq!(rt; order.primary.port, *port, "{name}");
+        assert!(rt; order.primary.port == *port, "{name}");
     }
 }
 
 // These replies to NOTIFYs were sent.
 fn assert_answered<R: Abort>(rt: &R, answered: &[SentReply], expected: &[&[u8]], name: &str) {
-    assert_eq!(rt; answered.len(), expected.len(), "{name}");
+    assert!(rt; answered.len() == expected.len(), "{name}");
     for (reply, bytes) in answered.iter().zip(expected.iter()) {
-        assert_eq!(rt; reply.bytes.as_slice(), *bytes, "{name}");
+        assert!(rt; reply.bytes.as_slice() == *bytes, "{name}");
     }
 }
 
@@ -243,41 +253,38 @@ fn run_case<R: Threads + Wait + Abort + Clock + RandomSource + Copy + Drop + Sen
     rt: R,
     alloc: Global,
     case: &Case,
-) -> Result<(), Fail> {
-    let (sender, replies) = unbounded(alloc)?;
-    let mut wires = wires(rt, alloc, case, &sender)?;
-    let (status, written) = run_line(rt, alloc, case.words, &mut wires, case.failing_start, NEVER)?;
-    assert_eq!(rt; status, case.status, "{}", case.name);
-    assert_eq!(rt; written.as_slice(), case.written, "{}", case.name);
+) {
+    let (sender, replies) = unbounded(alloc).expect(&rt, "no error");
+    let mut wires = wires(rt, alloc, case, &sender);
+    let (status, written) = run_line(rt, alloc, case.words, &mut wires, case.failing_start, NEVER);
+    assert!(rt; status == case.status, "{}", case.name);
+    assert!(rt; written.as_slice() == case.written, "{}", case.name);
     assert_replies(&rt, &replies, case.replies, case.name);
     assert_ordered(&rt, &wires.ordered, case.ordered, case.name);
     assert_answered(&rt, &wires.answered, case.answered, case.name);
-    Ok(())
 }
 
 #[test]
-fn servers_run(rt: HostRuntime) -> Result<(), Fail> {
+fn servers_run(rt: HostRuntime) {
     for case in &CASES {
-        run_case(rt, rt.alloc(), case)?;
+        run_case(rt, rt.alloc(), case);
     }
-    Ok(())
 }
 
 // Each write of the first case fails in turn: what was written before it stays.
 fn fail_each<
     R: Threads + Wait + Abort + Clock + RandomSource + Copy + Drop + Send + Sync + 'static,
->(rt: R, alloc: Global, case: &Case) -> Result<(), Fail> {
+>(rt: R, alloc: Global, case: &Case) {
     for call in 0..SERVED.len() {
-        let (sender, _replies) = unbounded(alloc)?;
-        let mut wires = wires(rt, alloc, case, &sender)?;
-        let (status, written) = run_line(rt, alloc, case.words, &mut wires, NEVER, call as u64)?;
-        assert_eq!(rt; status, Status::WriteFault, "at {call}");
-        assert_eq!(rt; written.as_slice(), &SERVED[..call], "at {call}");
+        let (sender, _replies) = unbounded(alloc).expect(&rt, "no error");
+        let mut wires = wires(rt, alloc, case, &sender);
+        let (status, written) = run_line(rt, alloc, case.words, &mut wires, NEVER, call as u64);
+        assert!(rt; status == Status::WriteFault, "at {call}");
+        assert!(rt; written.as_slice() == &SERVED[..call], "at {call}");
     }
-    Ok(())
 }
 
 #[test]
-fn each_write_of_a_server_fails(rt: HostRuntime) -> Result<(), Fail> {
+fn each_write_of_a_server_fails(rt: HostRuntime) {
     fail_each(rt, rt.alloc(), &CASES[0])
 }

@@ -13,7 +13,6 @@ use std::alloc::Global;
 use std::process::Abort;
 use std::random::RandomSource;
 use std::sync::Wait;
-use std::test::Fail;
 
 /// The query of the ID 4661 for the address of `x.example`.
 pub const QUERY: &[u8] = b"\x12\x35\x01\0\0\x01\0\0\0\0\0\0\x01x\x07example\0\0\x01\0\x01";
@@ -37,21 +36,22 @@ const BY_RULE: &[u8] = b"\x12\x35\x81\x83\0\x01\0\0\0\0\0\x01\x01x\x07example\0\
     \x03rpz\x07example\0\0\x06\0\x01\0\0\0<\0\x16\0\0\0\0\x03\xe8\0\0\x0e\x10\0\0\x02X\0\x01Q\x80\0\0\0<";
 
 // Whether the worker's reply to the query at a given second is this.
-fn says<N: StoreName, A: Keeps<ListLink> + Drop>(
+fn says<N: StoreName, A: Keeps<ListLink> + Drop, R: Abort>(
+    rt: &R,
     alloc: Global,
     worker: &mut WorkerOver<N, A, NoGate>,
     now: u32,
     reply: &[u8],
-) -> Result<bool, Fail> {
-    let job = job(alloc, 53_000, QUERY)?;
-    match worker.answer(&job, now)? {
-        Answered::Said(Said::Reply(bytes)) => Ok(bytes.as_slice() == reply),
-        _ => Ok(false),
+) -> bool {
+    let job = job(rt, alloc, 53_000, QUERY);
+    match worker.answer(&job, now).expect(rt, "no error") {
+        Answered::Said(Said::Reply(bytes)) => bytes.as_slice() == reply,
+        _ => false,
     }
 }
 
 #[test]
-fn a_query_is_answered_by_link_cache_and_rule(rt: HostRuntime) -> Result<(), Fail> {
+fn a_query_is_answered_by_link_cache_and_rule(rt: HostRuntime) {
     attempt(rt, rt.alloc(), Trial::Answers)
 }
 
@@ -62,34 +62,34 @@ pub fn answer_all<N: StoreName, R: Wait + RandomSource + Abort + Copy + Drop>(
     alloc: Global,
     publisher: &mut Publisher<N>,
     readers: &mut Vec<PolicyReader<N>>,
-) -> Result<(), Fail> {
-    answer_over_common(rt, alloc, readers)?;
-    let mut worker = list_worker(alloc, readers, messages(alloc)?, NoGate)?;
-    let done = answer_by_turns(rt, alloc, publisher, &mut worker);
+) {
+    answer_over_common(rt, alloc, readers);
+    let mut worker = list_worker(rt, alloc, readers, messages(rt, alloc), NoGate);
+    answer_by_turns(rt, alloc, publisher, &mut worker);
     drop(worker);
-    done
 }
 
 fn answer_over_common<N: StoreName, R: Wait + RandomSource + Abort + Copy + Drop>(
     rt: &R,
     alloc: Global,
     readers: &mut Vec<PolicyReader<N>>,
-) -> Result<(), Fail> {
-    let messages = messages(alloc)?;
-    let hold = lone_hold(*rt, alloc)?;
-    let mut worker = worker_over(alloc, readers, hold, messages, NoGate)?;
-    let done = answer_by_link_and_cache(rt, alloc, &mut worker);
+) {
+    let messages = messages(rt, alloc);
+    let hold = lone_hold(*rt, alloc);
+    let mut worker = worker_over(rt, alloc, readers, hold, messages, NoGate);
+    answer_by_link_and_cache(rt, alloc, &mut worker);
     drop(worker);
-    done
 }
 
 // What the link gives.
-fn messages(alloc: Global) -> Result<Vec<Octets>, Fail> {
+fn messages<R: Abort>(rt: &R, alloc: Global) -> Vec<Octets> {
     let mut messages = Vec::new(alloc);
     for message in [FIRST, SECOND] {
-        messages.push(Octets::from_slice(alloc, message)?)?;
+        messages
+            .push(Octets::from_slice(alloc, message).expect(rt, "no error"))
+            .expect(rt, "no error");
     }
-    Ok(messages)
+    messages
 }
 
 fn answer_by_turns<N: StoreName, R: Wait + Abort>(
@@ -97,31 +97,28 @@ fn answer_by_turns<N: StoreName, R: Wait + Abort>(
     alloc: Global,
     publisher: &mut Publisher<N>,
     worker: &mut ListWorker<N, NoGate>,
-) -> Result<(), Fail> {
-    answer_by_link_and_cache(rt, alloc, worker)?;
-    publish_rule(rt, alloc, publisher)?;
+) {
+    answer_by_link_and_cache(rt, alloc, worker);
+    publish_rule(rt, alloc, publisher);
     worker.learn(publisher.tell());
-    assert!(rt; says(alloc, worker, 161, BY_RULE)?);
-    Ok(())
+    assert!(rt; says(rt, alloc, worker, 161, BY_RULE));
 }
 
 fn answer_by_link_and_cache<N: StoreName, A: Keeps<ListLink> + Drop, R: Abort>(
     rt: &R,
     alloc: Global,
     worker: &mut WorkerOver<N, A, NoGate>,
-) -> Result<(), Fail> {
+) {
     for (now, reply) in [(100, FRESH), (159, AGED), (160, FRESH)] {
-        assert!(rt; says(alloc, worker, now, reply)?, "at {now}");
+        assert!(rt; says(rt, alloc, worker, now, reply), "at {now}");
     }
-    Ok(())
 }
 
 fn publish_rule<N: StoreName, R: Wait + Abort>(
     rt: &R,
     alloc: Global,
     publisher: &mut Publisher<N>,
-) -> Result<(), Fail> {
-    let transfer = transfer(alloc, PUBLICATIONS).ok_or("a transfer")?;
+) {
+    let transfer = transfer(alloc, PUBLICATIONS).expect(rt, "a transfer");
     assert!(rt; publish(rt, publisher, transfer));
-    Ok(())
 }

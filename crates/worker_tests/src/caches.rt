@@ -1,6 +1,6 @@
 //! What a worker's own cache and one that workers share give at a second, for names that all belong to one shard.
 
-ghost use Rattle.std.specs.Prelude.{◌≡◌, IfOk};
+ghost use Rattle.std.specs.Prelude.{◌≡◌};
 
 use crate::workers::{Hold, common_cache, lone_hold, own_cache};
 use answer_cache::{Keeps, Shared, shard_number};
@@ -35,12 +35,12 @@ const X: &[u8] = b"x.example";
 
 const CAPITAL_X: &[u8] = b"X.EXAMPLE";
 
-fn question(alloc: Global, name: &[u8], qtype: u16) -> Result<Question, Fail> {
-    Ok(Question {
-        name: Name::from_text(alloc, name)?,
+fn question<R: Abort>(rt: &R, alloc: Global, name: &[u8], qtype: u16) -> Question {
+    Question {
+        name: Name::from_text(alloc, name).expect(rt, "no error"),
         qtype,
         qclass: class::IN,
-    })
+    }
 }
 
 // Writes the record of an address of a name, 192.0.2.0 and up, with the TTL 60.
@@ -64,28 +64,33 @@ fn response(alloc: Global, name: &Name, count: u8) -> Result<Octets, AllocError>
 }
 
 // What was learned at a second of so many addresses of the name in a question.
-fn learned(
+fn learned<R: Abort>(
+    rt: &R,
     alloc: Global,
     asked: &Question,
     count: u8,
     moment: u32,
-) -> Result<Learned<ListLink>, Fail>
-    ensures { IfOk result (λ learned. learned.question ≡ asked.now) }
+) -> Learned<ListLink>
+    ensures { result.question ≡ asked.now }
 {
-    let bytes = response(alloc, &asked.name, count)?;
-    Ok(Learned::given(alloc, 7, asked, &bytes, moment)?)
+    let bytes = response(alloc, &asked.name, count).expect(rt, "no error");
+    Learned::given(alloc, 7, asked, &bytes, moment).expect(rt, "no error")
 }
 
 // Whether a look-up at a second finds something.
-fn is_found<C: Keeps<ListLink>>(
+fn is_found<C: Keeps<ListLink>, R: Abort>(
+    rt: &R,
     alloc: Global,
     cache: &mut C,
     name: &[u8],
     qtype: u16,
     now: u32,
-) -> Result<bool, Fail> {
-    let asked = question(alloc, name, qtype)?;
-    Ok(cache.get(alloc, &asked, now)?.is_some())
+) -> bool {
+    let asked = question(rt, alloc, name, qtype);
+    cache
+        .get(alloc, &asked, now)
+        .expect(rt, "no error")
+        .is_some()
 }
 
 // What is done with a cache.
@@ -173,58 +178,51 @@ static CASES: [Case; 4] = [
 ];
 
 // Whether a step does what it says.
-fn is_done<C: Keeps<ListLink>>(alloc: Global, cache: &mut C, step: &Step) -> Result<bool, Fail> {
-    match step {
-        Step::Keep(name, moment) => {
-            let asked = question(alloc, name, rtype::A)?;
-            let entry = learned(alloc, &asked, 1, *moment)?;
-            Ok(cache.keep(alloc, &asked, &entry).is_ok())
-        }
-        Step::Found(name, qtype, now) => is_found(alloc, cache, name, *qtype, *now),
-        Step::Missing(name, qtype, now) => Ok(!is_found(alloc, cache, name, *qtype, *now)?),
-    }
-}
-
-fn run_over<C: Keeps<ListLink>, R: Abort>(
+fn is_done<C: Keeps<ListLink>, R: Abort>(
     rt: &R,
     alloc: Global,
     cache: &mut C,
-    case: &Case,
-) -> Result<(), Fail> {
+    step: &Step,
+) -> bool {
+    match step {
+        Step::Keep(name, moment) => {
+            let asked = question(rt, alloc, name, rtype::A);
+            let entry = learned(rt, alloc, &asked, 1, *moment);
+            cache.keep(alloc, &asked, &entry).is_ok()
+        }
+        Step::Found(name, qtype, now) => is_found(rt, alloc, cache, name, *qtype, *now),
+        Step::Missing(name, qtype, now) => !is_found(rt, alloc, cache, name, *qtype, *now),
+    }
+}
+
+fn run_over<C: Keeps<ListLink>, R: Abort>(rt: &R, alloc: Global, cache: &mut C, case: &Case) {
     for (place, step) in case.steps.iter().enumerate() {
-        assert!(rt; is_done(alloc, cache, step)?, "{} {place}", case.name);
+        assert!(rt; is_done(rt, alloc, cache, step), "{} {place}", case.name);
     }
-    Ok(())
 }
 
-fn run_case<R: Wait + RandomSource + Abort + Copy + Drop>(
-    rt: R,
-    alloc: Global,
-    case: &Case,
-) -> Result<(), Fail> {
-    run_over(&rt, alloc, &mut own_cache(alloc)?, case)?;
-    run_over(&rt, alloc, &mut lone_hold(rt, alloc)?, case)
+fn run_case<R: Wait + RandomSource + Abort + Copy + Drop>(rt: R, alloc: Global, case: &Case) {
+    run_over(&rt, alloc, &mut own_cache(&rt, alloc), case);
+    run_over(&rt, alloc, &mut lone_hold(rt, alloc), case);
 }
 
 #[test]
-fn caches_give_what_is_live(rt: HostRuntime) -> Result<(), Fail> {
+fn caches_give_what_is_live(rt: HostRuntime) {
     for case in &CASES {
-        run_case(rt, rt.alloc(), case)?;
+        run_case(rt, rt.alloc(), case);
     }
-    Ok(())
 }
 
 #[test]
-fn questions_belong_to_shards(rt: HostRuntime) -> Result<(), Fail> {
+fn questions_belong_to_shards(rt: HostRuntime) {
     for (name, qtype, shard) in [
         (X, rtype::A, 13),
         (CAPITAL_X, rtype::A, 13),
         (X, rtype::AAAA, 8),
     ] {
-        let asked = question(rt.alloc(), name, qtype)?;
-        assert_eq!(rt; shard_number(&asked), shard, "{qtype}");
+        let asked = question(&rt, rt.alloc(), name, qtype);
+        assert!(rt; shard_number(&asked) == shard, "{qtype}");
     }
-    Ok(())
 }
 
 // Whether a hold could keep what these bytes say of the question, which came at the second 100.
@@ -241,75 +239,70 @@ fn keeps<R: Wait + Drop>(
 }
 
 // A question, and the bytes that answer it with one address.
-fn asked_and_given(alloc: Global, name: &[u8]) -> Result<(Question, Octets), Fail> {
-    let asked = question(alloc, name, rtype::A)?;
-    let bytes = response(alloc, &asked.name, 1)?;
-    Ok((asked, bytes))
+fn asked_and_given<R: Abort>(rt: &R, alloc: Global, name: &[u8]) -> (Question, Octets) {
+    let asked = question(rt, alloc, name, rtype::A);
+    let bytes = response(alloc, &asked.name, 1).expect(rt, "no error");
+    (asked, bytes)
 }
 
 // Whether this hold keeps an address while another one, in a thread, keeps it and that of another name.
-fn keep_at_once<R: Threads + Wait + Copy + Drop + Send + Sync + 'static>(
+fn keep_at_once<R: Abort + Threads + Wait + Copy + Drop + Send + Sync + 'static>(
     rt: R,
     alloc: Global,
     own: &mut Hold<R>,
     mut other: Hold<R>,
-) -> Result<bool, Fail> {
-    let (asked, bytes) = asked_and_given(alloc, ABC)?;
-    let (same, same_bytes) = asked_and_given(alloc, ABC)?;
-    let (more, more_bytes) = asked_and_given(alloc, ACB)?;
+) -> bool {
+    let (asked, bytes) = asked_and_given(&rt, alloc, ABC);
+    let (same, same_bytes) = asked_and_given(&rt, alloc, ABC);
+    let (more, more_bytes) = asked_and_given(&rt, alloc, ACB);
     let thread = thread::spawn(&rt, move || {
         keeps(alloc, &mut other, &same, &same_bytes) && keeps(alloc, &mut other, &more, &more_bytes)
-    })?;
+    })
+    .expect(&rt, "no error");
     let kept = keeps(alloc, own, &asked, &bytes);
-    Ok(thread.join(&rt) && kept)
+    thread.join(&rt) && kept
 }
 
 // Whether this hold finds both at the second 159.
-fn finds_both<R: Wait + Drop>(alloc: Global, hold: &mut Hold<R>) -> Result<bool, Fail> {
+fn finds_both<R: Abort + Wait + Drop>(rt: &R, alloc: Global, hold: &mut Hold<R>) -> bool {
     for name in [ABC, ACB] {
-        if !is_found(alloc, hold, name, rtype::A, 159)? {
-            return Ok(false);
+        if !is_found(rt, alloc, hold, name, rtype::A, 159) {
+            return false;
         }
     }
-    Ok(true)
+    true
 }
 
-fn kept_at_once<R: Threads + Wait + RandomSource + Copy + Drop + Send + Sync + 'static>(
+fn kept_at_once<R: Abort + Threads + Wait + RandomSource + Copy + Drop + Send + Sync + 'static>(
     rt: R,
     alloc: Global,
-) -> Result<bool, Fail> {
-    let cache = common_cache(&rt, alloc)?;
-    let mut own = Shared::new(rt, Arc::try_clone(&cache)?);
-    let kept = keep_at_once(rt, alloc, &mut own, Shared::new(rt, cache))?;
-    Ok(kept && finds_both(alloc, &mut own)?)
+) -> bool {
+    let cache = common_cache(&rt, alloc);
+    let mut own = Shared::new(rt, Arc::try_clone(&cache).expect(&rt, "no error"));
+    let kept = keep_at_once(rt, alloc, &mut own, Shared::new(rt, cache));
+    kept && finds_both(&rt, alloc, &mut own)
 }
 
 #[test]
-fn two_workers_keep_one_question_at_once(rt: HostRuntime) -> Result<(), Fail> {
+fn two_workers_keep_one_question_at_once(rt: HostRuntime) {
     for _turn in 0..20 {
-        assert!(rt; kept_at_once(rt, rt.alloc())?);
+        assert!(rt; kept_at_once(rt, rt.alloc()));
     }
-    Ok(())
 }
 
 // Whether an answer of so many addresses is there once it was to be kept.
-fn is_kept<R: Wait + RandomSource + Drop>(rt: R, alloc: Global, count: u8) -> Result<bool, Fail> {
-    let asked = question(alloc, ABC, rtype::A)?;
-    let entry = learned(alloc, &asked, count, 100)?;
-    let mut hold = lone_hold(rt, alloc)?;
-    let found = match hold.keep(alloc, &asked, &entry) {
-        Ok(()) => is_found(alloc, &mut hold, ABC, rtype::A, 100),
-        Err(error) => Err(error.into()),
-    };
-    drop(hold);
-    found
+fn is_kept<R: Abort + Wait + RandomSource + Copy + Drop>(rt: R, alloc: Global, count: u8) -> bool {
+    let asked = question(&rt, alloc, ABC, rtype::A);
+    let entry = learned(&rt, alloc, &asked, count, 100);
+    let mut hold = lone_hold(rt, alloc);
+    hold.keep(alloc, &asked, &entry).expect(&rt, "no error");
+    is_found(&rt, alloc, &mut hold, ABC, rtype::A, 100)
 }
 
 // But for its TTL each record has 23 octets: 89 have 2,047, and 90 have 2,070, more than 2 KiB.
 #[test]
-fn a_long_answer_is_not_kept(rt: HostRuntime) -> Result<(), Fail> {
+fn a_long_answer_is_not_kept(rt: HostRuntime) {
     for (count, kept) in [(89, true), (90, false)] {
-        assert_eq!(rt; is_kept(rt, rt.alloc(), count)?, kept, "{count}");
+        assert!(rt; is_kept(rt, rt.alloc(), count) == kept, "{count}");
     }
-    Ok(())
 }

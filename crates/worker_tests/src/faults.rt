@@ -11,7 +11,6 @@ use rpz_workers::NoGate;
 use std::alloc::Global;
 use std::process::Abort;
 use std::sync::Wait;
-use std::test::Fail;
 
 // A connection with two messages, a byte a call.
 const BYTEWISE: Stream = Stream {
@@ -26,7 +25,7 @@ fn fail_reads<N: StoreName, R: Wait + Abort + Copy + Drop>(
     alloc: Global,
     publisher: &Publisher<N>,
     worker: &mut ListWorker<N, NoGate>,
-) -> Result<(), Fail> {
+) {
     for call in 0..=TWO.len() {
         let items = [Input::Connection(Stream {
             failing_read: call as u64,
@@ -46,9 +45,8 @@ fn fail_reads<N: StoreName, R: Wait + Abort + Copy + Drop>(
             left: TWO.len() - call,
             ..QUIET
         };
-        run_case(rt, alloc, publisher, worker, &case)?;
+        run_case(rt, alloc, publisher, worker, &case);
     }
-    Ok(())
 }
 
 // Each write fails in turn: what was written before it stays.
@@ -57,7 +55,7 @@ fn fail_writes<N: StoreName, R: Wait + Abort + Copy + Drop>(
     alloc: Global,
     publisher: &Publisher<N>,
     worker: &mut ListWorker<N, NoGate>,
-) -> Result<(), Fail> {
+) {
     for call in 0..TWO_REPLIES.len() {
         let items = [Input::Connection(Stream {
             failing_write: call as u64,
@@ -72,13 +70,12 @@ fn fail_writes<N: StoreName, R: Wait + Abort + Copy + Drop>(
             left: if call < 31 { 31 } else { 0 },
             ..QUIET
         };
-        run_case(rt, alloc, publisher, worker, &case)?;
+        run_case(rt, alloc, publisher, worker, &case);
     }
-    Ok(())
 }
 
 #[test]
-fn a_connection_fails_at_each_call(rt: HostRuntime) -> Result<(), Fail> {
+fn a_connection_fails_at_each_call(rt: HostRuntime) {
     attempt(rt, rt.alloc(), Trial::Faults)
 }
 
@@ -88,12 +85,11 @@ pub fn fail_all<N: StoreName, R: Wait + Abort + Copy + Drop>(
     alloc: Global,
     publisher: &mut Publisher<N>,
     readers: &mut Vec<PolicyReader<N>>,
-) -> Result<(), Fail> {
-    load(rt, alloc, publisher)?;
-    let mut worker = list_worker(alloc, readers, Vec::new(alloc), NoGate)?;
-    let done = fail_calls(rt, alloc, publisher, &mut worker);
+) {
+    load(rt, alloc, publisher);
+    let mut worker = list_worker(rt, alloc, readers, Vec::new(alloc), NoGate);
+    fail_calls(rt, alloc, publisher, &mut worker);
     drop(worker);
-    done
 }
 
 fn fail_calls<N: StoreName, R: Wait + Abort + Copy + Drop>(
@@ -101,7 +97,7 @@ fn fail_calls<N: StoreName, R: Wait + Abort + Copy + Drop>(
     alloc: Global,
     publisher: &Publisher<N>,
     worker: &mut ListWorker<N, NoGate>,
-) -> Result<(), Fail> {
-    fail_reads(rt, alloc, publisher, worker)?;
+) {
+    fail_reads(rt, alloc, publisher, worker);
     fail_writes(rt, alloc, publisher, worker)
 }

@@ -104,35 +104,38 @@ fn stage<N: StoreName>(alloc: Global, publisher: &Publisher<N>, letter: u8) -> I
     }
 }
 
-fn stages<N: StoreName>(
+fn stages<N: StoreName, R: Abort>(
+    rt: &R,
     alloc: Global,
     publisher: &Publisher<N>,
     given: &str,
-) -> Result<VecDeque<InletStage<N>>, Fail> {
+) -> VecDeque<InletStage<N>> {
     let mut stages = VecDeque::new(alloc);
     for letter in given.as_bytes() {
-        stages.push_back(stage(alloc, publisher, *letter))?;
+        stages
+            .push_back(stage(alloc, publisher, *letter))
+            .expect(rt, "no error");
     }
-    Ok(stages)
+    stages
 }
 
 // Whether the items of a row come in their order, and nothing but Stop behind them, though a list is published.
-fn come_in_order<N: StoreName, R: Wait + Copy + Drop>(
+fn come_in_order<N: StoreName, R: Abort + Wait + Copy + Drop>(
     rt: &R,
     alloc: Global,
     publisher: &Publisher<N>,
     row: &Row,
-) -> Result<bool, Fail> {
-    let latest = Latest::start(alloc, publisher.tell())?;
-    let stages = stages(alloc, publisher, row.given)?;
-    let mut items = items_of(*rt, &latest, stages)?;
+) -> bool {
+    let latest = Latest::start(alloc, publisher.tell()).expect(rt, "no error");
+    let stages = stages(rt, alloc, publisher, row.given);
+    let mut items = items_of(*rt, &latest, stages);
     let given = gives(&mut items, row.expected);
     latest.set(rt, publisher.tell());
-    Ok(given && gives(&mut items, "ss"))
+    given && gives(&mut items, "ss")
 }
 
 #[test]
-fn what_was_published_comes_before_an_item(rt: HostRuntime) -> Result<(), Fail> {
+fn what_was_published_comes_before_an_item(rt: HostRuntime) {
     attempt(rt, rt.alloc(), Trial::Inlets)
 }
 
@@ -141,9 +144,8 @@ pub fn take_all<N: StoreName, R: Wait + Abort + Copy + Drop>(
     rt: &R,
     alloc: Global,
     publisher: &Publisher<N>,
-) -> Result<(), Fail> {
+) {
     for row in &ROWS {
-        assert!(rt; come_in_order(rt, alloc, publisher, row)?, "{}", row.given);
+        assert!(rt; come_in_order(rt, alloc, publisher, row), "{}", row.given);
     }
-    Ok(())
 }

@@ -1,6 +1,7 @@
 //! Workers that ask nobody: what their cache answers, and what they pass on.
 
 use crate::answers::{FIRST, FRESH, QUERY};
+use crate::asserts::assert_same;
 use crate::cases::{STREAM, Stream};
 use crate::messages::{ASKED, ASKED_AND_UNSERVED, ONE_REPLY};
 use crate::runs::{Kept, load, sides};
@@ -20,7 +21,6 @@ use std::collections::VecDeque;
 use std::process::Abort;
 use std::random::RandomSource;
 use std::sync::{Arc, Wait};
-use std::test::Fail;
 
 // The octets of the name `x.example`.
 const X: &[u8] = b"\x01x\x07example\0";
@@ -34,44 +34,46 @@ type Passing<N, R> = Worker<N, ListLink, Hold<R>, AsksNobody>;
 // A worker that asks a link, over the same.
 type Asking<N, R> = WorkerOver<N, Hold<R>, NoGate>;
 
-fn passing<N: StoreName, R: Wait + Drop>(
+fn passing<N: StoreName, R: Abort + Wait + Drop>(
+    rt: &R,
     alloc: Global,
     readers: &mut Vec<PolicyReader<N>>,
     hold: Hold<R>,
-) -> Result<Passing<N, R>, Fail> {
+) -> Passing<N, R> {
     match readers.pop() {
-        Some(reader) => Ok(Worker::passing_on(alloc, reader, hold)),
+        Some(reader) => Worker::passing_on(alloc, reader, hold),
         None => {
             drop(hold);
-            Err("a reader".into())
+            panic!(rt; "a reader")
         }
     }
 }
 
 // A clock that gives this second first.
-fn clock_at(alloc: Global, now: u32) -> Result<ListClock, Fail> {
+fn clock_at<R: Abort>(rt: &R, alloc: Global, now: u32) -> ListClock {
     let mut moments = VecDeque::new(alloc);
-    moments.push_back(now)?;
-    Ok(ListClock::new(alloc, moments))
+    moments.push_back(now).expect(rt, "no error");
+    ListClock::new(alloc, moments)
 }
 
 // What became of a message that came over this transport at the second 100; `None` where anything but this reply was sent for it.
-fn taken<N: StoreName, R: Wait + Drop>(
+fn taken<N: StoreName, R: Abort + Wait + Drop>(
+    rt: &R,
     alloc: Global,
     worker: &mut Passing<N, R>,
     transport: Transport,
     message: &[u8],
     reply: Option<&[u8]>,
     onward: &mut ListOnward<N>,
-) -> Result<Option<Took>, Fail> {
-    let mut clock = clock_at(alloc, 100)?;
-    let item: Item<N, ListSource, ListSink> = Item::Job(job_over(alloc, transport, 1, message)?);
+) -> Option<Took> {
+    let mut clock = clock_at(rt, alloc, 100);
+    let item: Item<N, ListSource, ListSink> = Item::Job(job_over(rt, alloc, transport, 1, message));
     let mut replies: Kept = ListReplies::new(alloc, Vec::new(alloc));
     let took = worker.take(item, &mut replies, &mut clock, onward);
     if is_sent(&replies.sent, transport, reply) {
-        Ok(Some(took))
+        Some(took)
     } else {
-        Ok(None)
+        None
     }
 }
 
@@ -94,7 +96,7 @@ fn is_asked(question: &Question) -> bool {
 }
 
 #[test]
-fn a_worker_answers_from_the_cache_or_passes_on(rt: HostRuntime) -> Result<(), Fail> {
+fn a_worker_answers_from_the_cache_or_passes_on(rt: HostRuntime) {
     attempt(rt, rt.alloc(), Trial::Passing)
 }
 
@@ -104,15 +106,16 @@ pub fn pass_all<N: StoreName, R: Wait + RandomSource + Abort + Copy + Drop>(
     alloc: Global,
     publisher: &mut Publisher<N>,
     readers: &mut Vec<PolicyReader<N>>,
-) -> Result<(), Fail> {
-    load(rt, alloc, publisher)?;
-    let cache = common_cache(rt, alloc)?;
-    let hold = Shared::new(*rt, Arc::try_clone(&cache)?);
-    let messages = vec![in alloc; Octets::from_slice(alloc, FIRST)?]?;
-    let mut asking = worker_over(alloc, readers, hold, messages, NoGate)?;
-    let done = pass_to(rt, alloc, readers, Shared::new(*rt, cache), &mut asking);
+) {
+    load(rt, alloc, publisher);
+    let cache = common_cache(rt, alloc);
+    let hold = Shared::new(*rt, Arc::try_clone(&cache).expect(rt, "no error"));
+    let messages = vec![in alloc; Octets::from_slice(alloc, FIRST).expect(rt, "no error")].expect(
+        rt, "no error",
+    );
+    let mut asking = worker_over(rt, alloc, readers, hold, messages, NoGate);
+    pass_to(rt, alloc, readers, Shared::new(*rt, cache), &mut asking);
     drop(asking);
-    done
 }
 
 fn pass_to<N: StoreName, R: Wait + Abort + Drop>(
@@ -121,13 +124,12 @@ fn pass_to<N: StoreName, R: Wait + Abort + Drop>(
     readers: &mut Vec<PolicyReader<N>>,
     hold: Hold<R>,
     asking: &mut Asking<N, R>,
-) -> Result<(), Fail> {
-    let mut passing = passing(alloc, readers, hold)?;
+) {
+    let mut passing = passing(rt, alloc, readers, hold);
     let mut onward = ListOnward::new(alloc, Vec::new(alloc));
-    let done = pass_and_answer(rt, alloc, &mut passing, asking, &mut onward);
+    pass_and_answer(rt, alloc, &mut passing, asking, &mut onward);
     drop(passing);
     drop(onward);
-    done
 }
 
 fn pass_and_answer<N: StoreName, R: Wait + Abort + Drop>(
@@ -136,26 +138,34 @@ fn pass_and_answer<N: StoreName, R: Wait + Abort + Drop>(
     passing: &mut Passing<N, R>,
     asking: &mut Asking<N, R>,
     onward: &mut ListOnward<N>,
-) -> Result<(), Fail> {
-    let took = taken(alloc, passing, Transport::Udp, QUERY, None, onward)?;
-    assert_eq!(rt; took, Some(Took::PassedOn));
-    assert!(rt; are_answered(asking, &onward.passed)?);
-    let took = taken(alloc, passing, Transport::Udp, QUERY, Some(FRESH), onward)?;
-    assert_eq!(rt; took, Some(Took::Reply));
-    assert_eq!(rt; onward.passed.len(), 1);
-    Ok(())
+) {
+    let took = taken(rt, alloc, passing, Transport::Udp, QUERY, None, onward);
+    assert_same(rt, took, Some(Took::PassedOn));
+    assert!(rt; are_answered(rt, asking, &onward.passed));
+    let took = taken(
+        rt,
+        alloc,
+        passing,
+        Transport::Udp,
+        QUERY,
+        Some(FRESH),
+        onward,
+    );
+    assert_same(rt, took, Some(Took::Reply));
+    assert_same(rt, onward.passed.len(), 1);
 }
 
 // Whether the query alone was passed on, and this worker answers it once it knows the list that was seen.
-fn are_answered<N: StoreName, R: Wait + Drop>(
+fn are_answered<N: StoreName, R: Abort + Wait + Drop>(
+    rt: &R,
     asking: &mut Asking<N, R>,
     passed: &[Passed<N>],
-) -> Result<bool, Fail> {
+) -> bool {
     let [one] = passed else {
-        return Ok(false);
+        return false;
     };
     asking.learn(one.seen.again());
-    Ok(is_query(one) && is_fresh(asking, &one.job)?)
+    is_query(one) && is_fresh(rt, asking, &one.job)
 }
 
 // The query was passed on, at the second 100.
@@ -164,27 +174,28 @@ fn is_query<N: StoreName>(passed: &Passed<N>) -> bool {
 }
 
 // Whether the reply to a message at the second 100 is the fresh one.
-fn is_fresh<N: StoreName, R: Wait + Drop>(
+fn is_fresh<N: StoreName, R: Abort + Wait + Drop>(
+    rt: &R,
     asking: &mut Asking<N, R>,
     job: &Job,
-) -> Result<bool, Fail> {
-    match asking.answer(job, 100)? {
-        Answered::Said(Said::Reply(bytes)) => Ok(bytes.as_slice() == FRESH),
-        _ => Ok(false),
+) -> bool {
+    match asking.answer(job, 100).expect(rt, "no error") {
+        Answered::Said(Said::Reply(bytes)) => bytes.as_slice() == FRESH,
+        _ => false,
     }
 }
 
 // A worker that asks nobody, over a cache that nobody else uses.
-fn lone_passing<N: StoreName, R: Wait + RandomSource + Copy + Drop>(
+fn lone_passing<N: StoreName, R: Abort + Wait + RandomSource + Copy + Drop>(
     rt: &R,
     alloc: Global,
     readers: &mut Vec<PolicyReader<N>>,
-) -> Result<Passing<N, R>, Fail> {
-    passing(alloc, readers, lone_hold(*rt, alloc)?)
+) -> Passing<N, R> {
+    passing(rt, alloc, readers, lone_hold(*rt, alloc))
 }
 
 #[test]
-fn a_message_without_room_gets_servfail(rt: HostRuntime) -> Result<(), Fail> {
+fn a_message_without_room_gets_servfail(rt: HostRuntime) {
     attempt(rt, rt.alloc(), Trial::NoRoom)
 }
 
@@ -193,14 +204,13 @@ pub fn refuse_one<N: StoreName, R: Wait + RandomSource + Abort + Copy + Drop>(
     rt: &R,
     alloc: Global,
     readers: &mut Vec<PolicyReader<N>>,
-) -> Result<(), Fail> {
-    let failing = vec![in alloc; 0]?;
-    let mut passing = lone_passing(rt, alloc, readers)?;
+) {
+    let failing = vec![in alloc; 0].expect(rt, "no error");
+    let mut passing = lone_passing(rt, alloc, readers);
     let mut onward = ListOnward::new(alloc, failing);
-    let done = assert_refused(rt, alloc, &mut passing, &mut onward);
+    assert_refused(rt, alloc, &mut passing, &mut onward);
     drop(passing);
     drop(onward);
-    done
 }
 
 fn assert_refused<N: StoreName, R: Wait + Abort + Drop>(
@@ -208,16 +218,23 @@ fn assert_refused<N: StoreName, R: Wait + Abort + Drop>(
     alloc: Global,
     passing: &mut Passing<N, R>,
     onward: &mut ListOnward<N>,
-) -> Result<(), Fail> {
-    let took = taken(alloc, passing, Transport::Tcp, ASKED, Some(BARE), onward)?;
+) {
+    let took = taken(
+        rt,
+        alloc,
+        passing,
+        Transport::Tcp,
+        ASKED,
+        Some(BARE),
+        onward,
+    );
     // no job counts a message of a connection
-    assert_eq!(rt; took, Some(Took::Framed));
+    assert_same(rt, took, Some(Took::Framed));
     assert!(rt; onward.passed.is_empty());
-    Ok(())
 }
 
 #[test]
-fn a_connection_goes_on_behind_what_is_passed_on(rt: HostRuntime) -> Result<(), Fail> {
+fn a_connection_goes_on_behind_what_is_passed_on(rt: HostRuntime) {
     attempt(rt, rt.alloc(), Trial::PassingStream)
 }
 
@@ -226,22 +243,22 @@ pub fn pass_one_of_two<N: StoreName, R: Wait + RandomSource + Abort + Copy + Dro
     rt: &R,
     alloc: Global,
     readers: &mut Vec<PolicyReader<N>>,
-) -> Result<(), Fail> {
+) {
     let (mut source, mut sink) = sides(
+        rt,
         alloc,
         &Stream {
             bytes: ASKED_AND_UNSERVED,
             ..STREAM
         },
-    )?;
-    let mut passing = lone_passing(rt, alloc, readers)?;
+    );
+    let mut passing = lone_passing(rt, alloc, readers);
     let mut onward = ListOnward::new(alloc, Vec::new(alloc));
     let mut clock = ListClock::new(alloc, VecDeque::new(alloc));
     let end = passing.serve_stream(&mut source, &mut sink, client(1), &mut clock, &mut onward);
     assert_served(rt, end, &onward.passed, &sink.bytes);
     drop(passing);
     drop(onward);
-    Ok(())
 }
 
 fn assert_served<N: StoreName, R: Abort>(
@@ -250,9 +267,9 @@ fn assert_served<N: StoreName, R: Abort>(
     passed: &[Passed<N>],
     written: &[u8],
 ) {
-    assert_eq!(rt; end, StreamEnd::End);
+    assert_same(rt, end, StreamEnd::End);
     assert!(rt; is_over_tcp(passed));
-    assert_eq!(rt; written, ONE_REPLY);
+    assert_same(rt, written, ONE_REPLY);
 }
 
 // One message of the client was passed on, which came over TCP.

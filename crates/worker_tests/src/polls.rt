@@ -1,5 +1,6 @@
 //! Polls of a zone over streams in memory.
 
+use crate::asserts::assert_same;
 use crate::stores::{Trial, attempt};
 use axfr_apply::TransferFault;
 use edge_io::{ListSink, ListSource};
@@ -8,7 +9,6 @@ use policy_publish::{Publication, Publisher, StoreName};
 use std::alloc::Global;
 use std::process::Abort;
 use std::sync::Wait;
-use std::test::Fail;
 
 // The request of the ID 0 for all of `rpz.example`, behind its length (RFC 5936, section 2.1).
 const WHOLE: &[u8] = b"\0\x1d\0\0\0\0\0\x01\0\0\0\0\0\0\x03rpz\x07example\0\0\xfc\0\x01";
@@ -26,24 +26,28 @@ const CURRENT: &[u8] =
     b"\0\x4a\0\0\x84\0\0\x01\0\x01\0\0\0\0\x03rpz\x07example\0\0\xfb\0\x01\x03rpz\x07example\0\0\x06\0\x01\0\0\0<\0\x16\0\0\0\0\0\x01\0\0\x0e\x10\0\0\x02X\0\x01Q\x80\0\0\0<";
 
 // What a poll gives over this stream, three bytes a call, and what it writes. The writes of the numbers in `failing` fail.
-fn polled<N: StoreName, R: Wait>(
+fn polled<N: StoreName, R: Abort + Wait>(
     rt: &R,
     alloc: Global,
     publisher: &mut Publisher<N>,
     stream: &[u8],
     failing: Vec<u64>,
-) -> Result<(Result<Polled, FeedError>, Vec<u8>), Fail> {
+) -> (Result<Polled, FeedError>, Vec<u8>) {
     if !publisher.has_zone(1) {
-        return Err("a zone".into());
+        return panic!(rt; "a zone");
     }
-    let mut source = ListSource::new(stream.to_vec(alloc)?, 3, Vec::new(alloc));
+    let mut source = ListSource::new(
+        stream.to_vec(alloc).expect(rt, "no error"),
+        3,
+        Vec::new(alloc),
+    );
     let mut sink = ListSink::new(Vec::new(alloc), 5, failing);
     let polled = poll_zone(rt, alloc, publisher, &mut source, &mut sink, 0, 1);
-    Ok((polled, sink.bytes))
+    (polled, sink.bytes)
 }
 
 #[test]
-fn a_zone_is_polled(rt: HostRuntime) -> Result<(), Fail> {
+fn a_zone_is_polled(rt: HostRuntime) {
     attempt(rt, rt.alloc(), Trial::Polls)
 }
 
@@ -100,12 +104,11 @@ pub fn poll_all<N: StoreName, R: Wait + Abort>(
     rt: &R,
     alloc: Global,
     publisher: &mut Publisher<N>,
-) -> Result<(), Fail> {
+) {
     for poll in &POLLS {
-        let failing = poll.failing.to_vec(alloc)?;
-        let (gives, writes) = polled(rt, alloc, publisher, poll.stream, failing)?;
-        assert_eq!(rt; gives, poll.gives);
-        assert_eq!(rt; writes.as_slice(), poll.writes);
+        let failing = poll.failing.to_vec(alloc).expect(rt, "no error");
+        let (gives, writes) = polled(rt, alloc, publisher, poll.stream, failing);
+        assert_same(rt, gives, poll.gives);
+        assert_same(rt, writes.as_slice(), poll.writes);
     }
-    Ok(())
 }

@@ -1,5 +1,6 @@
 //! One thread publishes, and two readers follow.
 
+use crate::asserts::assert_same;
 use crate::stores::{Trial, attempt};
 use crossbeam_channel::{Receiver, Sender, unbounded};
 use dns_name::{Name, Pattern};
@@ -9,7 +10,6 @@ use policy_snapshot::Snapshot;
 use std::alloc::Global;
 use std::process::Abort;
 use std::sync::Wait;
-use std::test::Fail;
 use std::thread;
 use std::thread::{JoinHandle, Threads};
 use trigger_codec::Trigger;
@@ -123,14 +123,9 @@ type Following = JoinHandle<(u32, u64, bool)>;
 // A reader in a thread of its own.
 fn start<
     N: StoreName + Send + Sync + 'static,
-    R: Threads + Wait + Copy + Drop + Send + Sync + 'static,
->(
-    rt: R,
-    alloc: Global,
-    mut reader: PolicyReader<N>,
-    news: Receiver<News<N>>,
-) -> Result<Following, Fail> {
-    Ok(thread::spawn(&rt, move || follow(&rt, alloc, &mut reader, &news))?)
+    R: Abort + Threads + Wait + Copy + Drop + Send + Sync + 'static,
+>(rt: R, alloc: Global, mut reader: PolicyReader<N>, news: Receiver<News<N>>) -> Following {
+    thread::spawn(&rt, move || follow(&rt, alloc, &mut reader, &news)).expect(&rt, "no error")
 }
 
 // Publishes one transfer after another, and tells each reader of each: how often that failed.
@@ -194,7 +189,7 @@ fn tell_all<N: StoreName, R: Wait>(
 }
 
 #[test]
-fn readers_follow_the_publisher(rt: HostRuntime) -> Result<(), Fail> {
+fn readers_follow_the_publisher(rt: HostRuntime) {
     attempt(rt, rt.alloc(), Trial::Publishing)
 }
 
@@ -202,44 +197,39 @@ fn readers_follow_the_publisher(rt: HostRuntime) -> Result<(), Fail> {
 pub fn follow_all<
     N: StoreName + Send + Sync + 'static,
     R: Threads + Wait + Abort + Copy + Drop + Send + Sync + 'static,
->(
-    rt: &R,
-    alloc: Global,
-    publisher: &mut Publisher<N>,
-    readers: &mut Vec<PolicyReader<N>>,
-) -> Result<(), Fail> {
+>(rt: &R, alloc: Global, publisher: &mut Publisher<N>, readers: &mut Vec<PolicyReader<N>>) {
     let mut to = Vec::new(alloc);
     let mut threads = Vec::new(alloc);
-    start_all(*rt, alloc, readers, &mut to, &mut threads)?;
-    assert_eq!(rt; publish_all(rt, alloc, publisher, to.as_slice()), 0);
+    start_all(*rt, alloc, readers, &mut to, &mut threads);
+    assert_same(rt, publish_all(rt, alloc, publisher, to.as_slice()), 0);
     drop(to);
     join_all(rt, threads);
-    Ok(())
 }
 
 // Starts each reader: where it is told of publications, and its thread.
 fn start_all<
     N: StoreName + Send + Sync + 'static,
-    R: Threads + Wait + Copy + Drop + Send + Sync + 'static,
+    R: Abort + Threads + Wait + Copy + Drop + Send + Sync + 'static,
 >(
     rt: R,
     alloc: Global,
     readers: &mut Vec<PolicyReader<N>>,
     to: &mut Vec<Sender<News<N>>>,
     threads: &mut Vec<Following>,
-) -> Result<(), Fail> {
+) {
     for _ in 0..readers.len() {
-        let (sender, receiver) = unbounded(alloc)?;
-        to.push(sender)?;
-        let reader = readers.pop().ok_or("a reader")?;
-        threads.push(start(rt, alloc, reader, receiver)?)?;
+        let (sender, receiver) = unbounded(alloc).expect(&rt, "no error");
+        to.push(sender).expect(&rt, "no error");
+        let reader = readers.pop().expect(&rt, "a reader");
+        threads
+            .push(start(rt, alloc, reader, receiver))
+            .expect(&rt, "no error");
     }
-    Ok(())
 }
 
 // Each reader met no fault, and saw the last publication, with its rule.
 fn join_all<R: Threads + Wait + Abort>(rt: &R, threads: Vec<Following>) {
     for thread in threads {
-        assert_eq!(rt; thread.join(rt), (0, u64::from(PUBLICATIONS), true));
+        assert_same(rt, thread.join(rt), (0, u64::from(PUBLICATIONS), true));
     }
 }

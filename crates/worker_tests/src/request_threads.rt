@@ -1,5 +1,6 @@
 //! The request list among threads.
 
+use crate::asserts::assert_same;
 use crate::requests::{asker, open_list, query, question};
 use crate::stores::{Trial, attempt};
 use edge_io::{ListSink, ListSource};
@@ -10,7 +11,6 @@ use std::alloc::Global;
 use std::process::Abort;
 use std::random::RandomSource;
 use std::sync::Wait;
-use std::test::Fail;
 use std::thread;
 use std::thread::{JoinHandle, Threads};
 use std::time::{Clock, Duration, Instant};
@@ -98,61 +98,62 @@ fn take_all<N: StoreName, R: Wait, Q: Items<N, ListSource, ListSink>>(
 
 fn start_asker<
     N: StoreName + Send + Sync + 'static,
-    R: Threads + Wait + Clock + Copy + Drop + Send + Sync + 'static,
->(rt: R, mut items: RequestItems<N, R>) -> Result<JoinHandle<Totals>, Fail> {
-    Ok(thread::spawn(&rt, move || take_all(&rt, &mut items))?)
+    R: Abort + Threads + Wait + Clock + Copy + Drop + Send + Sync + 'static,
+>(rt: R, mut items: RequestItems<N, R>) -> JoinHandle<Totals> {
+    thread::spawn(&rt, move || take_all(&rt, &mut items)).expect(&rt, "no error")
 }
 
 fn start_passing<
     N: StoreName + Send + Sync + 'static,
-    R: Threads + Wait + Clock + Copy + Drop + Send + Sync + 'static,
+    R: Abort + Threads + Wait + Clock + Copy + Drop + Send + Sync + 'static,
 >(
     rt: R,
     alloc: Global,
     mut onward: RequestOnward<N, R>,
     reader: PolicyReader<N>,
     first: u32,
-) -> Result<JoinHandle<Totals>, Fail> {
-    Ok(thread::spawn(&rt, move || {
+) -> JoinHandle<Totals> {
+    thread::spawn(&rt, move || {
         pass_from(&rt, alloc, &mut onward, &reader, first)
-    })?)
+    })
+    .expect(&rt, "no error")
 }
 
 // Starts the askers.
 fn start_askers<
     N: StoreName + Send + Sync + 'static,
-    R: Threads + Wait + Clock + Copy + Drop + Send + Sync + 'static,
+    R: Abort + Threads + Wait + Clock + Copy + Drop + Send + Sync + 'static,
 >(
     rt: R,
     alloc: Global,
     list: &RequestList<N>,
     latest: &Latest<N>,
     threads: &mut Vec<JoinHandle<Totals>>,
-) -> Result<(), Fail> {
+) {
     for _ in 0..ASKERS {
-        let (items, _deadline) = asker(&rt, alloc, list, latest)?;
-        threads.push(start_asker(rt, items)?)?;
+        let (items, _deadline) = asker(&rt, alloc, list, latest);
+        threads.push(start_asker(rt, items)).expect(&rt, "no error");
     }
-    Ok(())
 }
 
 // Starts a thread that passes on, for each reader.
 fn start_all_passing<
     N: StoreName + Send + Sync + 'static,
-    R: Threads + Wait + Clock + Copy + Drop + Send + Sync + 'static,
+    R: Abort + Threads + Wait + Clock + Copy + Drop + Send + Sync + 'static,
 >(
     rt: R,
     alloc: Global,
     list: &RequestList<N>,
     readers: &mut Vec<PolicyReader<N>>,
     threads: &mut Vec<JoinHandle<Totals>>,
-) -> Result<(), Fail> {
+) {
     for first in [0, QUERIES] {
-        let reader = readers.pop().ok_or("a reader")?;
-        let onward = list.onward(rt, alloc)?;
-        threads.push(start_passing(rt, alloc, onward, reader, first)?)?;
+        let reader = readers.pop().expect(&rt, "a reader");
+        let onward = list.onward(rt, alloc).expect(&rt, "no error");
+        threads
+            .push(start_passing(rt, alloc, onward, reader, first))
+            .expect(&rt, "no error");
     }
-    Ok(())
 }
 
 fn join_all<R: Threads>(rt: &R, threads: Vec<JoinHandle<Totals>>) -> Totals {
@@ -164,7 +165,7 @@ fn join_all<R: Threads>(rt: &R, threads: Vec<JoinHandle<Totals>>) -> Totals {
 }
 
 #[test]
-fn no_query_is_lost_among_threads(rt: HostRuntime) -> Result<(), Fail> {
+fn no_query_is_lost_among_threads(rt: HostRuntime) {
     attempt(rt, rt.alloc(), Trial::RequestThreads)
 }
 
@@ -172,25 +173,19 @@ fn no_query_is_lost_among_threads(rt: HostRuntime) -> Result<(), Fail> {
 pub fn pass_among<
     N: StoreName + Send + Sync + 'static,
     R: Threads + Wait + Abort + Clock + RandomSource + Copy + Drop + Send + Sync + 'static,
->(
-    rt: &R,
-    alloc: Global,
-    publisher: &Publisher<N>,
-    readers: &mut Vec<PolicyReader<N>>,
-) -> Result<(), Fail> {
-    let latest = Latest::start(alloc, publisher.tell())?;
-    let list = open_list(rt, alloc, ASKERS)?;
+>(rt: &R, alloc: Global, publisher: &Publisher<N>, readers: &mut Vec<PolicyReader<N>>) {
+    let latest = Latest::start(alloc, publisher.tell()).expect(rt, "no error");
+    let list = open_list(rt, alloc, ASKERS);
     let mut askers = Vec::new(alloc);
     let mut passing = Vec::new(alloc);
-    start_askers(*rt, alloc, &list, &latest, &mut askers)?;
-    start_all_passing(*rt, alloc, &list, readers, &mut passing)?;
+    start_askers(*rt, alloc, &list, &latest, &mut askers);
+    start_all_passing(*rt, alloc, &list, readers, &mut passing);
     drop(list);
     let passed = join_all(rt, passing);
-    let over = Instant::now(rt)?;
+    let over = Instant::now(rt).expect(rt, "no error");
     let taken = join_all(rt, askers);
-    assert_eq!(rt; passed, (20_000, 199_990_000));
-    assert_eq!(rt; taken, passed);
+    assert_same(rt, passed, (20_000, 199_990_000));
+    assert_same(rt, taken, passed);
     // an asker that isn't woken sleeps for 5 seconds
-    assert!(rt; over.elapsed(rt)? < Duration::from_secs(4));
-    Ok(())
+    assert!(rt; over.elapsed(rt).expect(rt, "no error") < Duration::from_secs(4));
 }

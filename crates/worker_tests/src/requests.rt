@@ -13,7 +13,6 @@ use std::hash::RandomState;
 use std::process::Abort;
 use std::random::RandomSource;
 use std::sync::Wait;
-use std::test::Fail;
 use std::time::{Clock, Instant};
 
 /// What happens to a request list.
@@ -204,24 +203,32 @@ pub fn is_passed<N: StoreName, R: Wait + Clock + Drop>(
 }
 
 /// An empty list for so many askers.
-pub fn open_list<N: StoreName, R: RandomSource>(
+pub fn open_list<N: StoreName, R: Abort + RandomSource>(
     rt: &R,
     alloc: Global,
     askers: usize,
-) -> Result<RequestList<N>, Fail> {
-    Ok(RequestList::open(alloc, askers, RandomState::new(rt)?)?)
+) -> RequestList<N> {
+    RequestList::open(alloc, askers, RandomState::new(rt).expect(rt, "no error")).expect(
+        rt, "no error",
+    )
 }
 
 /// One more asker, and its deadline.
-pub fn asker<N: StoreName, R: Wait + Clock + Copy + Drop>(
+pub fn asker<N: StoreName, R: Abort + Wait + Clock + Copy + Drop>(
     rt: &R,
     alloc: Global,
     list: &RequestList<N>,
     latest: &Latest<N>,
-) -> Result<(RequestItems<N, R>, Deadline), Fail> {
-    let deadline = Deadline::new(alloc, Instant::now(rt)?)?;
-    let theirs = deadline.again()?;
-    Ok((list.items(*rt, latest.again()?, theirs)?, deadline))
+) -> (RequestItems<N, R>, Deadline) {
+    let deadline = Deadline::new(alloc, Instant::now(rt).expect(rt, "no error")).expect(
+        rt, "no error",
+    );
+    let theirs = deadline.again().expect(rt, "no error");
+    (
+        list.items(*rt, latest.again().expect(rt, "no error"), theirs)
+            .expect(rt, "no error"),
+        deadline,
+    )
 }
 
 /// The number of the query that comes behind a list; `None` where anything else comes.
@@ -272,40 +279,40 @@ fn all_go<N: StoreName, R: Wait + Clock + Copy + Drop>(
 }
 
 // Four askers.
-fn askers<N: StoreName, R: Wait + Clock + Copy + Drop>(
+fn askers<N: StoreName, R: Abort + Wait + Clock + Copy + Drop>(
     rt: &R,
     alloc: Global,
     list: &RequestList<N>,
     latest: &Latest<N>,
-) -> Result<Vec<RequestItems<N, R>>, Fail> {
+) -> Vec<RequestItems<N, R>> {
     let mut items = Vec::new(alloc);
     for _ in 0..4 {
-        let (asker, _deadline) = asker(rt, alloc, list, latest)?;
-        items.push(asker)?;
+        let (asker, _deadline) = asker(rt, alloc, list, latest);
+        items.push(asker).expect(rt, "no error");
     }
-    Ok(items)
+    items
 }
 
 // Whether the row goes as it says, over four askers.
-fn row_goes<N: StoreName, R: Wait + Clock + RandomSource + Copy + Drop>(
+fn row_goes<N: StoreName, R: Abort + Wait + Clock + RandomSource + Copy + Drop>(
     rt: &R,
     alloc: Global,
     latest: &Latest<N>,
     reader: &PolicyReader<N>,
     row: &Row,
-) -> Result<bool, Fail> {
-    let list = open_list(rt, alloc, row.askers)?;
-    let mut onward = list.onward(*rt, alloc)?;
-    let mut items = askers(rt, alloc, &list, latest)?;
+) -> bool {
+    let list = open_list(rt, alloc, row.askers);
+    let mut onward = list.onward(*rt, alloc).expect(rt, "no error");
+    let mut items = askers(rt, alloc, &list, latest);
     let goes = all_go(alloc, &mut onward, &mut items, reader, row);
     drop(items);
     drop(onward);
     drop(list);
-    Ok(goes)
+    goes
 }
 
 #[test]
-fn queries_go_in_order_but_for_questions_and_shares(rt: HostRuntime) -> Result<(), Fail> {
+fn queries_go_in_order_but_for_questions_and_shares(rt: HostRuntime) {
     attempt(rt, rt.alloc(), Trial::Requests)
 }
 
@@ -315,11 +322,10 @@ pub fn order_all<N: StoreName, R: Wait + Abort + Clock + RandomSource + Copy + D
     alloc: Global,
     publisher: &Publisher<N>,
     readers: &[PolicyReader<N>],
-) -> Result<(), Fail> {
-    let reader = readers.first().ok_or("a reader")?;
-    let latest = Latest::start(alloc, publisher.tell())?;
+) {
+    let reader = readers.first().expect(rt, "a reader");
+    let latest = Latest::start(alloc, publisher.tell()).expect(rt, "no error");
     for row in &ROWS {
-        assert!(rt; row_goes(rt, alloc, &latest, reader, row)?, "{}", row.name);
+        assert!(rt; row_goes(rt, alloc, &latest, reader, row), "{}", row.name);
     }
-    Ok(())
 }

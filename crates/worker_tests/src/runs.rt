@@ -18,7 +18,6 @@ use std::alloc::Global;
 use std::collections::VecDeque;
 use std::process::Abort;
 use std::sync::Wait;
-use std::test::Fail;
 
 type ListItem<N> = Item<N, ListSource, ListSink>;
 
@@ -28,111 +27,123 @@ type ListReceived = Received<ListSource, ListSink>;
 pub type Kept = ListReplies<ListSource, ListSink>;
 
 /// The two sides of a connection.
-pub fn sides(alloc: Global, stream: &Stream) -> Result<(ListSource, ListSink), Fail> {
+pub fn sides<R: Abort>(rt: &R, alloc: Global, stream: &Stream) -> (ListSource, ListSink) {
     let mut bytes = Vec::new(alloc);
     for _ in 0..stream.times {
-        bytes.extend_from_slice(stream.bytes)?;
+        bytes.extend_from_slice(stream.bytes).expect(rt, "no error");
     }
     if stream.most == 0 {
-        return Err("bytes per call".into());
+        return panic!(rt; "bytes per call");
     }
-    let source = ListSource::new(bytes, stream.most, vec![in alloc; stream.failing_read]?);
+    let source = ListSource::new(
+        bytes,
+        stream.most,
+        vec![in alloc; stream.failing_read].expect(rt, "no error"),
+    );
     let sink = ListSink::new(
         Vec::new(alloc),
         stream.most,
-        vec![in alloc; stream.failing_write]?,
+        vec![in alloc; stream.failing_write].expect(rt, "no error"),
     );
-    Ok((source, sink))
+    (source, sink)
 }
 
-fn connection<N: StoreName>(alloc: Global, stream: &Stream) -> Result<ListItem<N>, Fail> {
-    let (source, sink) = sides(alloc, stream)?;
-    Ok(Item::Connection {
+fn connection<N: StoreName, R: Abort>(rt: &R, alloc: Global, stream: &Stream) -> ListItem<N> {
+    let (source, sink) = sides(rt, alloc, stream);
+    Item::Connection {
+        source,
+        sink,
+        client: client(1),
+    }
+}
+
+// An item of a case.
+fn item<N: StoreName, R: Abort>(
+    rt: &R,
+    alloc: Global,
+    publisher: &Publisher<N>,
+    input: &Input,
+) -> ListItem<N> {
+    match input {
+        Input::Job(port, message) => Item::Job(job(rt, alloc, *port, message)),
+        Input::Connection(stream) => connection(rt, alloc, stream),
+        Input::Told => Item::Told(publisher.tell()),
+        Input::Stop => Item::Stop,
+    }
+}
+
+// The items of a case in a list.
+fn listed<N: StoreName, R: Abort>(
+    rt: &R,
+    alloc: Global,
+    publisher: &Publisher<N>,
+    inputs: &[Input],
+) -> ListItems<N, ListSource, ListSink> {
+    let mut items = VecDeque::new(alloc);
+    for input in inputs {
+        items
+            .push_back(item(rt, alloc, publisher, input))
+            .expect(rt, "no error");
+    }
+    ListItems::new(items)
+}
+
+// What an inlet does for an item of a case. Where a list is told, it publishes that, and nothing comes.
+fn stage<N: StoreName, R: Abort>(
+    rt: &R,
+    alloc: Global,
+    publisher: &Publisher<N>,
+    input: &Input,
+) -> InletStage<N> {
+    let (told, received) = match input {
+        Input::Job(port, message) => (None, datagram(rt, alloc, *port, message)),
+        Input::Connection(stream) => (None, opened(rt, alloc, stream)),
+        Input::Told => (Some(publisher.tell()), Received::Nothing),
+        Input::Stop => (None, Received::End),
+    };
+    InletStage { told, received }
+}
+
+fn datagram<R: Abort>(rt: &R, alloc: Global, port: u16, message: &[u8]) -> ListReceived {
+    Received::Arrival(Arrival::Datagram {
+        peer: client(port),
+        bytes: Octets::from_slice(alloc, message).expect(rt, "no error"),
+    })
+}
+
+fn opened<R: Abort>(rt: &R, alloc: Global, stream: &Stream) -> ListReceived {
+    let (source, sink) = sides(rt, alloc, stream);
+    Received::Arrival(Arrival::Connection {
         source,
         sink,
         client: client(1),
     })
 }
 
-// An item of a case.
-fn item<N: StoreName>(
-    alloc: Global,
-    publisher: &Publisher<N>,
-    input: &Input,
-) -> Result<ListItem<N>, Fail> {
-    match input {
-        Input::Job(port, message) => Ok(Item::Job(job(alloc, *port, message)?)),
-        Input::Connection(stream) => connection(alloc, stream),
-        Input::Told => Ok(Item::Told(publisher.tell())),
-        Input::Stop => Ok(Item::Stop),
-    }
-}
-
-// The items of a case in a list.
-fn listed<N: StoreName>(
-    alloc: Global,
-    publisher: &Publisher<N>,
-    inputs: &[Input],
-) -> Result<ListItems<N, ListSource, ListSink>, Fail> {
-    let mut items = VecDeque::new(alloc);
-    for input in inputs {
-        items.push_back(item(alloc, publisher, input)?)?;
-    }
-    Ok(ListItems::new(items))
-}
-
-// What an inlet does for an item of a case. Where a list is told, it publishes that, and nothing comes.
-fn stage<N: StoreName>(
-    alloc: Global,
-    publisher: &Publisher<N>,
-    input: &Input,
-) -> Result<InletStage<N>, Fail> {
-    let (told, received) = match input {
-        Input::Job(port, message) => (None, datagram(alloc, *port, message)?),
-        Input::Connection(stream) => (None, opened(alloc, stream)?),
-        Input::Told => (Some(publisher.tell()), Received::Nothing),
-        Input::Stop => (None, Received::End),
-    };
-    Ok(InletStage { told, received })
-}
-
-fn datagram(alloc: Global, port: u16, message: &[u8]) -> Result<ListReceived, Fail> {
-    Ok(Received::Arrival(Arrival::Datagram {
-        peer: client(port),
-        bytes: Octets::from_slice(alloc, message)?,
-    }))
-}
-
-fn opened(alloc: Global, stream: &Stream) -> Result<ListReceived, Fail> {
-    let (source, sink) = sides(alloc, stream)?;
-    Ok(Received::Arrival(Arrival::Connection {
-        source,
-        sink,
-        client: client(1),
-    }))
-}
-
-fn stages<N: StoreName>(
-    alloc: Global,
-    publisher: &Publisher<N>,
-    inputs: &[Input],
-) -> Result<VecDeque<InletStage<N>>, Fail> {
-    let mut stages = VecDeque::new(alloc);
-    for input in inputs {
-        stages.push_back(stage(alloc, publisher, input)?)?;
-    }
-    Ok(stages)
-}
-
-// The items of a case out of an inlet. What is published comes before the first of them.
-fn received<N: StoreName, R: Wait + Copy + Drop>(
+fn stages<N: StoreName, R: Abort>(
     rt: &R,
     alloc: Global,
     publisher: &Publisher<N>,
     inputs: &[Input],
-) -> Result<TestItems<N, R>, Fail> {
-    let latest = Latest::start(alloc, publisher.tell())?;
-    let stages = stages(alloc, publisher, inputs)?;
+) -> VecDeque<InletStage<N>> {
+    let mut stages = VecDeque::new(alloc);
+    for input in inputs {
+        stages
+            .push_back(stage(rt, alloc, publisher, input))
+            .expect(rt, "no error");
+    }
+    stages
+}
+
+// The items of a case out of an inlet. What is published comes before the first of them.
+fn received<N: StoreName, R: Abort + Wait + Copy + Drop>(
+    rt: &R,
+    alloc: Global,
+    publisher: &Publisher<N>,
+    inputs: &[Input],
+) -> TestItems<N, R> {
+    let latest = Latest::start(alloc, publisher.tell()).expect(rt, "no error");
+    let stages = stages(rt, alloc, publisher, inputs);
     items_of(*rt, &latest, stages)
 }
 
@@ -143,32 +154,34 @@ fn assert_ended<R: Abort>(
     sink: &ListSink,
     end: StreamEnd,
     case: &Case,
-) -> Result<(), Fail> {
-    assert_eq!(rt; Some(end), case.end, "{}", case.name);
-    assert_eq!(rt; sink.bytes.as_slice(), case.written, "{}", case.name);
+) {
+    assert!(rt; Some(end) == case.end, "{}", case.name);
+    assert!(rt; sink.bytes.as_slice() == case.written, "{}", case.name);
     let mut left = [0; 128];
-    assert_eq!(rt; read_full(source, &mut left)?, case.left, "{}", case.name);
-    Ok(())
+    assert!(rt;
+        read_full(source, &mut left).expect(rt, "no error") == case.left,
+        "{}",
+        case.name
+    );
 }
 
 // The replies that were sent are those that are expected, over UDP.
 fn assert_sent<R: Abort>(rt: &R, sent: &[SentReply], case: &Case) {
-    assert_eq!(rt; sent.len(), case.sent.len(), "{}", case.name);
+    assert!(rt; sent.len() == case.sent.len(), "{}", case.name);
     for (reply, (port, bytes)) in sent.iter().zip(case.sent) {
-        assert_eq!(rt; reply.peer, client(*port), "{}", case.name);
-        assert_eq!(rt; reply.transport, Transport::Udp, "{}", case.name);
-        assert_eq!(rt; reply.bytes.as_slice(), *bytes, "{}", case.name);
+        assert!(rt; reply.peer == client(*port), "{}", case.name);
+        assert!(rt; reply.transport == Transport::Udp, "{}", case.name);
+        assert!(rt; reply.bytes.as_slice() == *bytes, "{}", case.name);
     }
 }
 
 // The connections that were closed, and what came of the last of them, are what is expected.
-fn assert_closed<R: Abort>(rt: &R, replies: &mut Kept, case: &Case) -> Result<(), Fail> {
-    assert_eq!(rt; replies.closed, case.closed, "{}", case.name);
+fn assert_closed<R: Abort>(rt: &R, replies: &mut Kept, case: &Case) {
+    assert!(rt; replies.closed == case.closed, "{}", case.name);
     match &mut replies.last {
         Some((source, sink, end)) => assert_ended(rt, source, sink, *end, case),
         None => {
             assert!(rt; case.end.is_none(), "{}", case.name);
-            Ok(())
         }
     }
 }
@@ -199,15 +212,18 @@ fn run_over<N: StoreName, Q: Items<N, ListSource, ListSink>, R: Wait + Abort>(
     worker: &mut ListWorker<N, NoGate>,
     items: &mut Q,
     case: &Case,
-) -> Result<(), Fail> {
-    let mut replies: Kept = ListReplies::new(alloc, vec![in alloc; case.failing_send]?);
+) {
+    let mut replies: Kept = ListReplies::new(
+        alloc,
+        vec![in alloc; case.failing_send].expect(rt, "no error"),
+    );
     let report = work_over(rt, alloc, worker, items, &mut replies);
     assert_report(rt, report, &replies.sent, case);
     assert_closed(rt, &mut replies, case)
 }
 
 fn assert_report<R: Abort>(rt: &R, report: [u64; 5], sent: &[SentReply], case: &Case) {
-    assert_eq!(rt; report, case.report, "{}", case.name);
+    assert!(rt; report == case.report, "{}", case.name);
     assert_sent(rt, sent, case);
 }
 
@@ -217,14 +233,14 @@ fn serve_alone<N: StoreName, R: Abort>(
     alloc: Global,
     worker: &mut ListWorker<N, NoGate>,
     case: &Case,
-) -> Result<(), Fail> {
+) {
     let [input] = case.items else {
-        return Ok(());
+        return;
     };
     let Input::Connection(stream) = input else {
-        return Ok(());
+        return;
     };
-    let (mut source, mut sink) = sides(alloc, stream)?;
+    let (mut source, mut sink) = sides(rt, alloc, stream);
     let mut clock = ListClock::new(alloc, VecDeque::new(alloc));
     let end = worker.serve_stream(&mut source, &mut sink, client(1), &mut clock, &mut NoOnward);
     assert_ended(rt, &mut source, &sink, end, case)
@@ -236,8 +252,8 @@ fn run_listed<N: StoreName, R: Wait + Abort>(
     publisher: &Publisher<N>,
     worker: &mut ListWorker<N, NoGate>,
     case: &Case,
-) -> Result<(), Fail> {
-    let mut items = listed(alloc, publisher, case.items)?;
+) {
+    let mut items = listed(rt, alloc, publisher, case.items);
     run_over(rt, alloc, worker, &mut items, case)
 }
 
@@ -247,8 +263,8 @@ fn run_received<N: StoreName, R: Wait + Abort + Copy + Drop>(
     publisher: &Publisher<N>,
     worker: &mut ListWorker<N, NoGate>,
     case: &Case,
-) -> Result<(), Fail> {
-    let mut items = received(rt, alloc, publisher, case.items)?;
+) {
+    let mut items = received(rt, alloc, publisher, case.items);
     run_over(rt, alloc, worker, &mut items, case)
 }
 
@@ -259,25 +275,20 @@ pub fn run_case<N: StoreName, R: Wait + Abort + Copy + Drop>(
     publisher: &Publisher<N>,
     worker: &mut ListWorker<N, NoGate>,
     case: &Case,
-) -> Result<(), Fail> {
-    run_listed(rt, alloc, publisher, worker, case)?;
-    run_received(rt, alloc, publisher, worker, case)?;
+) {
+    run_listed(rt, alloc, publisher, worker, case);
+    run_received(rt, alloc, publisher, worker, case);
     serve_alone(rt, alloc, worker, case)
 }
 
 /// Publishes the policy of the cases, with the serial 1.
-pub fn load<N: StoreName, R: Wait + Abort>(
-    rt: &R,
-    alloc: Global,
-    publisher: &mut Publisher<N>,
-) -> Result<(), Fail> {
-    let transfer = whole(alloc, 1, &POLICY).ok_or("a transfer")?;
+pub fn load<N: StoreName, R: Wait + Abort>(rt: &R, alloc: Global, publisher: &mut Publisher<N>) {
+    let transfer = whole(alloc, 1, &POLICY).expect(rt, "a transfer");
     assert!(rt; publish(rt, publisher, transfer));
-    Ok(())
 }
 
 #[test]
-fn a_worker_runs_over_items(rt: HostRuntime) -> Result<(), Fail> {
+fn a_worker_runs_over_items(rt: HostRuntime) {
     attempt(rt, rt.alloc(), Trial::Runs)
 }
 
@@ -287,12 +298,11 @@ pub fn run_all<N: StoreName, R: Wait + Abort + Copy + Drop>(
     alloc: Global,
     publisher: &mut Publisher<N>,
     readers: &mut Vec<PolicyReader<N>>,
-) -> Result<(), Fail> {
-    load(rt, alloc, publisher)?;
-    let mut worker = list_worker(alloc, readers, Vec::new(alloc), NoGate)?;
-    let done = run_cases(rt, alloc, publisher, &mut worker);
+) {
+    load(rt, alloc, publisher);
+    let mut worker = list_worker(rt, alloc, readers, Vec::new(alloc), NoGate);
+    run_cases(rt, alloc, publisher, &mut worker);
     drop(worker);
-    done
 }
 
 fn run_cases<N: StoreName, R: Wait + Abort + Copy + Drop>(
@@ -300,9 +310,8 @@ fn run_cases<N: StoreName, R: Wait + Abort + Copy + Drop>(
     alloc: Global,
     publisher: &Publisher<N>,
     worker: &mut ListWorker<N, NoGate>,
-) -> Result<(), Fail> {
+) {
     for case in all_cases() {
-        run_case(rt, alloc, publisher, worker, case)?;
+        run_case(rt, alloc, publisher, worker, case);
     }
-    Ok(())
 }

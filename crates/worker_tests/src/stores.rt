@@ -46,22 +46,23 @@ pub enum Trial {
 /// Tries something over a store of two readers, where nothing is published.
 pub fn attempt<
     R: Threads + Wait + Abort + Clock + RandomSource + Copy + Drop + Send + Sync + 'static,
->(rt: R, alloc: Global, trial: Trial) -> Result<(), Fail> {
-    let origins = vec![in alloc; Name::from_text(alloc, b"rpz.example")?]?;
-    open::<Brand, R>(rt, alloc, start_store(origins, 2), trial)
+>(rt: R, alloc: Global, trial: Trial) {
+    let origins = vec![in alloc;
+        Name::from_text(alloc, b"rpz.example").expect(&rt, "no error"),
+    ].expect(&rt, "no error");
+    open::<Brand, R>(rt, alloc, start_store(origins, 2), trial);
 }
 
 fn open<
     N: StoreName + Send + Sync + 'static,
     R: Threads + Wait + Abort + Clock + RandomSource + Copy + Drop + Send + Sync + 'static,
->(rt: R, alloc: Global, parts: Parts, trial: Trial) -> Result<(), Fail>
+>(rt: R, alloc: Global, parts: Parts, trial: Trial)
     requires { parts ≡ N.store }
 {
-    let (mut publisher, mut readers) = parts.open::<N, R>(&rt, alloc)?;
-    let done = attempt_over(&rt, alloc, &mut publisher, &mut readers, trial);
+    let (mut publisher, mut readers) = parts.open::<N, R>(&rt, alloc).expect(&rt, "no error");
+    attempt_over(&rt, alloc, &mut publisher, &mut readers, trial);
     drop(readers);
     publisher.close(&rt);
-    done
 }
 
 fn attempt_over<
@@ -73,7 +74,7 @@ fn attempt_over<
     publisher: &mut Publisher<N>,
     readers: &mut Vec<PolicyReader<N>>,
     trial: Trial,
-) -> Result<(), Fail> {
+) {
     match trial {
         Trial::Answers => answer_all(rt, alloc, publisher, readers),
         Trial::Polls => poll_all(rt, alloc, publisher),

@@ -4,8 +4,8 @@ use edge_io::{Inlet, ListSink, ListSource, Received};
 use policy_publish::{Latest, StoreName, Told};
 use rpz_workers::InletItems;
 use std::collections::VecDeque;
+use std::process::Abort;
 use std::sync::Wait;
-use std::test::Fail;
 
 /// What an inlet does once it is asked: it publishes a list, if there is one, and then gives this.
 #[derive(Drop)]
@@ -40,13 +40,13 @@ impl<N: StoreName, R: Wait + Drop> Inlet<ListSource, ListSink> for TestInlet<N, 
 }
 
 /// The items that come of these stages, behind what was published last.
-pub fn items_of<N: StoreName, R: Wait + Copy + Drop>(
+pub fn items_of<N: StoreName, R: Abort + Wait + Copy + Drop>(
     rt: R,
     latest: &Latest<N>,
     stages: VecDeque<InletStage<N>>,
-) -> Result<TestItems<N, R>, Fail> {
-    let published = latest.again()?;
-    let latest = latest.again()?;
+) -> TestItems<N, R> {
+    let published = latest.again().expect(&rt, "no error");
+    let latest = latest.again().expect(&rt, "no error");
     let inlet = TestInlet { rt, latest, stages };
-    Ok(InletItems::new(rt, inlet, published))
+    InletItems::new(rt, inlet, published)
 }
