@@ -4,7 +4,10 @@
 #[cfg(test)]
 mod alone;
 #[cfg(test)]
+mod asserts;
+#[cfg(test)]
 mod cases;
+mod descriptors;
 #[cfg(test)]
 mod gate;
 mod line_sink;
@@ -20,12 +23,14 @@ mod replays;
 #[cfg(test)]
 mod runs;
 
+use descriptors::{allowed_descriptors, wanted_descriptors};
 use edge_io::{ReaderSource, TaskSpawner, WriterSink};
 use line_sink::line_sink;
 use output::{Output, Way};
 use rpz_net::{NetWires, RandomIds, SystemClock};
 use rpz_program::run::run;
 use rpz_program::status::Status;
+use rpz_words::{Command, Settings, read_words};
 use rpz_workers::Report;
 use std::alloc::Global;
 use std::hash::RandomState;
@@ -41,22 +46,39 @@ fn words_of(rt: &HostRuntime, alloc: Global) -> io::Result<Option<Vec<String>>> 
     }
 }
 
-// Whether the words are those of a server. Its lines are written by a thread, so that it waits for no reader of them.
-fn is_server(words: &Option<Vec<String>>) -> bool {
-    match words {
-        Some(words) => words.first().is_some_and(|word| word.as_str() == "serve"),
-        None => false,
+// What a server is to do, where the words ask for one.
+fn server_of(alloc: Global, words: &Option<Vec<String>>) -> Option<Settings> {
+    match read_words(alloc, words.as_ref()?) {
+        Ok(Command::Serve(settings)) => Some(settings),
+        _ => None,
+    }
+}
+
+// Says so where the system allows fewer descriptors than this server may want: it then closes connections of clients early.
+fn tell_of_descriptors(rt: &HostRuntime, settings: &Settings) -> io::Result<()> {
+    let wanted = wanted_descriptors(settings.connections.all);
+    match allowed_descriptors() {
+        Some(allowed) if allowed < wanted => eprintln!(rt;
+            "rpz: {allowed} descriptors are allowed, and {wanted} may be wanted (ulimit -n)"
+        ),
+        _ => Ok(()),
     }
 }
 
 fn main(rt: HostRuntime) -> io::Result<ExitCode> {
     let alloc = rt.alloc();
     let words = words_of(&rt, alloc)?;
-    let way = if is_server(&words) {
+    let server = server_of(alloc, &words);
+    if let Some(settings) = &server {
+        let _ = tell_of_descriptors(&rt, settings);
+    }
+    // the lines of a server are written by a thread, so that it waits for no reader of them
+    let way = if server.is_some() {
         Way::ByThread(line_sink(rt, alloc)?)
     } else {
         Way::AtOnce(WriterSink::new(io::writer(&rt)))
     };
+    drop(server);
     let mut script = ReaderSource::new(rt.reader());
     let mut out = Output::new(way, rt.stderr());
     let mut wires = NetWires::new(rt, alloc);

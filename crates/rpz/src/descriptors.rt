@@ -1,0 +1,26 @@
+//! How many descriptors a server may have, and how many it may want.
+
+use libc::RLIMIT_NOFILE;
+use libc::types::rlimit;
+use rpz_net::limits::{ORDERS_MOST, UPSTREAM_ALL_CONNECTIONS};
+
+// Standard input, output and error, the sockets of LISTEN, and what waits for the connections of clients.
+const OWN: u64 = 16;
+
+/// How many descriptors the system allows this process (RLIMIT_NOFILE); `None` where it doesn't say.
+pub fn allowed_descriptors() -> Option<u64> {
+    let mut limit = rlimit {
+        rlim_cur: 0,
+        rlim_max: 0,
+    };
+    match libc::getrlimit(RLIMIT_NOFILE, &mut limit) {
+        0 => Some(limit.rlim_cur),
+        _ => None,
+    }
+}
+
+/// How many descriptors a server has at most that admits so many connections of clients: one for each, for each connection to the
+/// upstream and for each transfer under way, and its own.
+pub fn wanted_descriptors(clients: u32) -> u64 {
+    u64::from(clients) + UPSTREAM_ALL_CONNECTIONS + ORDERS_MOST + OWN
+}
