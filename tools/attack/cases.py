@@ -2,6 +2,7 @@
 
 import contextlib
 import os
+import shutil
 import socket
 import struct
 import subprocess
@@ -184,6 +185,18 @@ def many_connections(program, port, workers):
         return f"{answered[0]} of 2,000 connections answered; UDP slowest {1000 * udp_slow:.1f} ms (the client's threads share the processors)"
 
 
+def silent_neighbours(program, port, workers):
+    """2,000 queries a second from addresses of the server's own subnet that nobody has, on a network of two namespaces."""
+    if os.geteuid() != 0 or shutil.which("ip") is None:
+        return "not tried: it wants root and the command ip, for two network namespaces"
+    words = [sys.executable, os.path.join(os.path.dirname(os.path.abspath(__file__)), "neighbours.py"), program, str(port), str(workers)]
+    ran = subprocess.run(words, capture_output=True, text=True, timeout=120, check=False)
+    said = f"during: {ran.stdout.strip()}"
+    if ran.returncode != 0:
+        raise Failed(f"{said} {ran.stderr.strip()[-300:]}")
+    return said
+
+
 # ---- the upstream
 
 
@@ -279,6 +292,57 @@ def twice_the_misses(program, port, workers):
         sock.close()
         it.recovers()
         return f"{said}; misses answered: {got[0]} of {sent[0]}"
+
+
+def misses_of_many_clients(program, port, workers):
+    """100 clients with 10 misses a second each, an upstream of 20 ms, and a tenth of the clients with names that hang."""
+    with scene(program, port, workers, delay=0.02) as it:
+        clients = [MissingClient(port, f"127.0.1.{n + 1}", n, is_slow=n % 10 == 0) for n in range(100)]
+        threads = [threading.Thread(target=client.ask_all) for client in clients]
+        for thread in threads:
+            thread.start()
+        said = it.judge(it.prober(), "during")
+        for client in clients:
+            client.is_over = True
+        for thread in threads:
+            thread.join()
+        asked = sum(client.asked for client in clients if not client.is_slow)
+        lost = sum(client.asked - len(client.times) for client in clients if not client.is_slow)
+        worst = max(max(client.times, default=0.0) for client in clients if not client.is_slow)
+        if lost or worst > OTHERS:
+            raise Failed(f"{said}; misses of the 90 others: lost {lost} of {asked}, slowest {worst:.2f} s")
+        it.recovers()
+        return f"{said}; misses of the 90 others: all {asked} answered, slowest {1000 * worst:.0f} ms"
+
+
+class MissingClient:
+    """A client at an address of its own that asks for ten names a second that are in no cache, one after another."""
+
+    def __init__(self, port, address, number, is_slow):
+        self.port, self.address, self.number, self.is_slow = port, address, number, is_slow
+        self.asked, self.times, self.is_over = 0, [], False
+
+    def ask_all(self):
+        with socket.socket(socket.AF_INET, socket.SOCK_DGRAM) as sock:
+            sock.bind((self.address, 0))
+            while not self.is_over:
+                begun = time.monotonic()
+                self.ask_one(sock)
+                time.sleep(max(0.0, begun + 0.1 - time.monotonic()))
+
+    def ask_one(self, sock):
+        """One query; of a client that is slow the reply isn't waited for."""
+        self.asked += 1
+        name = f"{'hang' if self.is_slow else 'm'}{self.asked}.c{self.number}.test"
+        sock.sendto(wire.query(self.asked & 0xFFFF, name), (LOOPBACK, self.port))
+        if self.is_slow:
+            return
+        begun = time.monotonic()
+        sock.settimeout(3)
+        with contextlib.suppress(TimeoutError):
+            while wire.number_of(sock.recv(4096)) != self.asked & 0xFFFF:
+                pass
+            self.times.append(time.monotonic() - begun)
 
 
 def default_unbound(program, port, workers):
@@ -463,12 +527,14 @@ def held_back(program, port, workers):
 CASES = [
     half_messages,
     silent_connections,
+    silent_neighbours,
     readers_that_do_not_read,
     pipelined_misses,
     many_connections,
     upstream_hangs,
     slow_names_of_one_client,
     twice_the_misses,
+    misses_of_many_clients,
     default_unbound,
     stopped_primary,
     dripping_primary,

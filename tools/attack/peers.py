@@ -122,12 +122,12 @@ class Upstream:
 
 
 class Server:
-    """`rpz serve` with its standard output in a file."""
+    """`rpz serve` with its standard output in a file, on an address of this host."""
 
-    def __init__(self, program, port, upstream, primaries, workers, options=(), stdout=None):
+    def __init__(self, program, port, upstream, primaries, workers, options=(), stdout=None, host=LOOPBACK):
         zones = [f"{zone}@{LOOPBACK}:{at}" for zone, at in primaries]
-        words = [*options, f"{LOOPBACK}:{port}", f"{LOOPBACK}:{upstream}", "forever", str(workers), *zones]
-        self.port = port
+        words = [*options, f"{host}:{port}", f"{LOOPBACK}:{upstream}", "forever", str(workers), *zones]
+        self.host, self.port = host, port
         self.log = f"/tmp/attack-{os.getpid()}-{port}.log"
         out = stdout if stdout is not None else open(self.log, "wb")
         self.process = subprocess.Popen([program, "serve", *words], stdin=subprocess.DEVNULL, stdout=out, stderr=subprocess.DEVNULL)
@@ -136,7 +136,7 @@ class Server:
         """Waits until a name gets this rcode."""
         end = time.monotonic() + seconds
         while time.monotonic() < end:
-            if ask(self.port, name, 0.2) == rcode:
+            if ask(self.port, name, 0.2, host=self.host) == rcode:
                 return
             time.sleep(0.05)
         raise RuntimeError(f"{name} doesn't get rcode {rcode}")
@@ -154,11 +154,11 @@ class Server:
         self.process.wait(10)
 
 
-def ask(port, name, seconds, qtype=wire.A):
+def ask(port, name, seconds, qtype=wire.A, host=LOOPBACK):
     """The rcode of the reply to a query over UDP, or None where none comes in time."""
     with socket.socket(socket.AF_INET, socket.SOCK_DGRAM) as sock:
         sock.settimeout(seconds)
-        sock.sendto(wire.query(os.getpid() & 0xFFFF, name, qtype), (LOOPBACK, port))
+        sock.sendto(wire.query(os.getpid() & 0xFFFF, name, qtype), (host, port))
         try:
             return wire.rcode_of(sock.recv(4096))
         except (TimeoutError, OSError):
@@ -168,8 +168,8 @@ def ask(port, name, seconds, qtype=wire.A):
 class Prober:
     """Queries of a process of its own, during an attack: over UDP and TCP, to names that a rule or the cache answers."""
 
-    def __init__(self, port, names, count=1000, streams=100, gap=0.004):
-        words = [sys.executable, os.path.join(HERE, "probe.py"), str(port), str(count), str(streams), str(gap), *names]
+    def __init__(self, port, names, count=1000, streams=100, gap=0.004, host=LOOPBACK):
+        words = [sys.executable, os.path.join(HERE, "probe.py"), host, str(port), str(count), str(streams), str(gap), *names]
         self.process = subprocess.Popen(words, stdout=subprocess.PIPE, text=True)
 
     def result(self):

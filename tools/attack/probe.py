@@ -1,7 +1,7 @@
 #!/usr/bin/env python3
 """Asks a server over UDP and TCP, one query after another, and prints how many were lost and how long the slowest took.
 
-    python3 probe.py PORT COUNT STREAMS GAP NAME...
+    python3 probe.py HOST PORT COUNT STREAMS GAP NAME...
 
 For `peers.Prober`. GAP is the pause between two queries, in seconds. Every tenth query or so goes over TCP, STREAMS in all, each on a
 connection of its own.
@@ -13,12 +13,11 @@ import time
 
 import wire
 
-LOOPBACK = "127.0.0.1"
 MOST = 5.0
 
 
-def over_udp(sock, port, number, name):
-    sock.sendto(wire.query(number, name), (LOOPBACK, port))
+def over_udp(sock, server, number, name):
+    sock.sendto(wire.query(number, name), server)
     begun = time.monotonic()
     while True:
         left = begun + MOST - time.monotonic()
@@ -33,10 +32,10 @@ def over_udp(sock, port, number, name):
             return time.monotonic() - begun
 
 
-def over_tcp(port, number, name):
+def over_tcp(server, number, name):
     begun = time.monotonic()
     try:
-        with socket.create_connection((LOOPBACK, port), MOST) as sock:
+        with socket.create_connection(server, MOST) as sock:
             sock.settimeout(MOST)
             sock.sendall(wire.frame(wire.query(number, name)))
             reply = wire.read_frame(sock)
@@ -48,16 +47,17 @@ def over_tcp(port, number, name):
 
 
 def main():
-    port, count, streams, gap = int(sys.argv[1]), int(sys.argv[2]), int(sys.argv[3]), float(sys.argv[4])
-    names = sys.argv[5:]
+    server = sys.argv[1], int(sys.argv[2])
+    count, streams, gap = int(sys.argv[3]), int(sys.argv[4]), float(sys.argv[5])
+    names = sys.argv[6:]
     every = max(1, count // max(1, streams))
     udp, tcp = [], []
     with socket.socket(socket.AF_INET, socket.SOCK_DGRAM) as sock:
         for number in range(count):
             name = names[number % len(names)]
-            udp.append(over_udp(sock, port, number & 0xFFFF, name))
+            udp.append(over_udp(sock, server, number & 0xFFFF, name))
             if number % every == 0 and len(tcp) < streams:
-                tcp.append(over_tcp(port, number & 0xFFFF, name))
+                tcp.append(over_tcp(server, number & 0xFFFF, name))
             time.sleep(gap)
     parts = []
     for times in (udp, tcp):

@@ -65,14 +65,43 @@ def soa_data(serial, refresh=3600, retry=600):
 def transfer(request, zone, serial, rules):
     """A whole zone as the messages of a transfer: its SOA record, a CNAME to the root for each name of a rule, and the SOA again."""
     soa = record(zone, SOA, soa_data(serial))
-    rows = [record(f"{rule}.{zone}", 5, b"\0") for rule in rules]
-    records = [soa, *rows, soa]
+    return messages(request, [soa, *(rule(f"{name}.{zone}") for name in rules), soa])
+
+
+def rule(owner):
+    """The row of a rule that says NXDOMAIN: a CNAME to the root."""
+    return record(owner, 5, b"\0")
+
+
+def messages(request, records):
+    """The messages of a transfer with these records, behind their lengths."""
     first = request[12:question_end(request)]
     for start in range(0, len(records), 400):
         part = records[start: start + 400]
         question = first if start == 0 else b""
         header = request[:2] + struct.pack("!HHHHH", 0x8400, 1 if question else 0, len(part), 0, 0)
         yield frame(header + question + b"".join(part))
+
+
+def ixfr_serial(request):
+    """The serial that an IXFR request has: the first number of its SOA record, whose two names are in full or are pointers."""
+    at = question_end(request)
+    at = name_end(request, at) + 10
+    at = name_end(request, name_end(request, at))
+    return struct.unpack("!I", request[at: at + 4])[0]
+
+
+def name_end(message, at):
+    while message[at]:
+        if message[at] >= 0xC0:
+            return at + 2
+        at += message[at] + 1
+    return at + 1
+
+
+def number_of(message):
+    """The ID of a message."""
+    return int.from_bytes(message[:2], "big")
 
 
 def rcode_of(message):

@@ -1,0 +1,234 @@
+#!/usr/bin/env python3
+"""Runs a server under load for long, and says whether anything was lost, refused or grew.
+
+    python3 tools/soak.py PROGRAM [--seconds N] [--rate N] [--workers N] [--port N]
+
+PROGRAM is `rpz`. For so many seconds (3,600) dnsperf asks so many queries a second (50,000), of which a tenth are misses; a primary makes
+ten changes a second, each with a NOTIFY and taken by an incremental transfer; and 100 connections come and go, each with a few queries.
+The upstream is an Unbound. A line is printed each minute: what was asked and lost so far, the resident memory, the descriptors. At the
+end: the same, how many transfers were taken and refused, and whether memory and descriptors stayed flat. The status is 0 where nothing
+was lost or refused and neither grew. Wanted: dnsperf and unbound (packages of Debian). Nothing else should run meanwhile.
+"""
+
+import argparse
+import os
+import pathlib
+import re
+import subprocess
+import sys
+import tempfile
+import threading
+import time
+
+sys.path.insert(0, str(pathlib.Path(__file__).resolve().parent / "attack"))
+
+import peers
+import wire
+
+HITS, PASSES, RULES = 1_000, 4_000, 1_000
+CONNECTIONS = 100
+CHANGES_A_SECOND = 10
+KEPT_CHANGES = 200
+# what memory may grow by behind the first tenth of the time, and descriptors
+GROWS_BYTES, GROWS_DESCRIPTORS = 16 << 20, 150
+
+
+class ChangingPrimary(peers.Primary):
+    """A primary that answers IXFR (RFC 1995) out of its last changes: each adds a rule and takes out an older one."""
+
+    def __init__(self, port, rules):
+        self.lock = threading.Lock()
+        self.steps = {}
+        self.whole = self.in_steps = 0
+        super().__init__(port, rules)
+
+    def serve(self, connection):
+        request = wire.read_frame(connection)
+        if request is None:
+            return
+        if wire.question_type(request) == wire.IXFR:
+            ours = wire.ixfr_serial(request)
+            with self.lock:
+                records = self.records_from(ours)
+            if records is not None:
+                self.in_steps += 1
+                for message in wire.messages(request, records):
+                    connection.sendall(message)
+                return
+        with self.lock:
+            serial, rules = self.serial, list(self.rules)
+        self.whole += 1
+        for message in wire.transfer(request, peers.ZONE, serial, rules):
+            connection.sendall(message)
+
+    def records_from(self, ours):
+        """The records of the steps from a serial on; None where they aren't kept any more."""
+        newest = wire.record(peers.ZONE, wire.SOA, wire.soa_data(self.serial))
+        if ours == self.serial:
+            return [newest]
+        if any(serial not in self.steps for serial in range(ours, self.serial)):
+            return None
+        records = [newest]
+        for serial in range(ours, self.serial):
+            gone, come = self.steps[serial]
+            records += [wire.record(peers.ZONE, wire.SOA, wire.soa_data(serial)), *map(wire.rule, gone)]
+            records += [wire.record(peers.ZONE, wire.SOA, wire.soa_data(serial + 1)), *map(wire.rule, come)]
+        return [*records, newest]
+
+    def next_change(self):
+        with self.lock:
+            come, gone = f"new{self.serial}.example", f"new{self.serial - 100}.example"
+            gone = [gone] if gone in self.rules else []
+            self.rules = [rule for rule in self.rules if rule not in gone] + [come]
+            self.steps[self.serial] = ([f"{rule}.{peers.ZONE}" for rule in gone], [f"{come}.{peers.ZONE}"])
+            self.steps.pop(self.serial - KEPT_CHANGES, None)
+            self.serial += 1
+
+
+def write_files(folder, upstream):
+    with open(folder / "queries", "w", encoding="ascii") as out:
+        for turn in range(100_000):
+            if turn % 10 == 0:
+                out.write(f"m{turn}.miss.test A\n")
+            elif turn % 2:
+                out.write(f"h{turn % HITS}.example A\n")
+            else:
+                out.write(f"p{turn % PASSES}.kept.test A\n")
+    (folder / "unbound.conf").write_text(f"""server:
+  interface: {peers.LOOPBACK}@{upstream}
+  username: ""
+  chroot: ""
+  directory: "{folder}"
+  pidfile: ""
+  use-syslog: no
+  logfile: "{folder}/unbound.log"
+  num-threads: 1
+  local-zone: miss.test redirect
+  local-data: "miss.test 0 A 192.0.2.7"
+  local-zone: kept.test redirect
+  local-data: "kept.test 86400 A 192.0.2.8"
+""")
+
+
+class Comers:
+    """100 connections at a time that come, ask three queries and go."""
+
+    def __init__(self, port):
+        self.port, self.is_over = port, False
+        self.done = self.lost = 0
+        self.lock = threading.Lock()
+        self.threads = [threading.Thread(target=self.come_and_go, args=(n,), daemon=True) for n in range(CONNECTIONS)]
+        for thread in self.threads:
+            thread.start()
+
+    def come_and_go(self, number):
+        while not self.is_over:
+            well = self.one(number)
+            with self.lock:
+                self.done += 1
+                self.lost += not well
+            time.sleep(0.5)
+
+    def one(self, number):
+        try:
+            with peers.socket.create_connection((peers.LOOPBACK, self.port), 5) as sock:
+                sock.settimeout(5)
+                for name in (f"h{number}.example", f"p{number}.kept.test", f"c{time.monotonic_ns()}.miss.test"):
+                    sock.sendall(wire.frame(wire.query(number, name)))
+                    if wire.read_frame(sock) is None:
+                        return False
+                    time.sleep(0.1)
+        except OSError:
+            return False
+        return True
+
+
+class Changes:
+    def __init__(self, primary, port):
+        self.primary, self.port, self.is_over = primary, port, False
+        self.unanswered = 0
+        self.thread = threading.Thread(target=self.change, daemon=True)
+        self.thread.start()
+
+    def change(self):
+        while not self.is_over:
+            begun = time.monotonic()
+            self.primary.next_change()
+            try:
+                self.primary.notify(self.port)
+            except OSError:
+                self.unanswered += 1
+            time.sleep(max(0.0, begun + 1 / CHANGES_A_SECOND - time.monotonic()))
+
+
+def dnsperf(path, port, seconds, rate):
+    words = ["dnsperf", "-s", peers.LOOPBACK, "-p", str(port), "-d", str(path), "-l", str(seconds), "-c", "8", "-T", "1", "-q", "2000",
+             "-t", "5", "-Q", str(rate)]
+    return subprocess.run(words, capture_output=True, text=True, check=True).stdout
+
+
+def figure(text, label):
+    return int(float(re.search(rf"{label}:\s+([0-9.]+)", text)[1]))
+
+
+def watch(server, options, path):
+    """Asks in parts of a minute; what was sent, lost and seen of memory and descriptors."""
+    sent = lost = 0
+    seen = []
+    end = time.monotonic() + options.seconds
+    while (left := end - time.monotonic()) >= 1:
+        text = dnsperf(path, options.port, int(min(60, left)), options.rate)
+        sent, lost = sent + figure(text, "Queries sent"), lost + figure(text, "Queries lost")
+        seen.append((server.resident(), server.descriptors()))
+        print(f"{sent:>12,} asked, {lost} lost, {seen[-1][0] >> 20} MiB resident, {seen[-1][1]} descriptors", flush=True)
+    return sent, lost, seen
+
+
+def main():
+    parser = argparse.ArgumentParser()
+    parser.add_argument("program")
+    parser.add_argument("--seconds", type=int, default=3600)
+    parser.add_argument("--rate", type=int, default=50_000)
+    parser.add_argument("--workers", type=int, default=4)
+    parser.add_argument("--port", type=int, default=24000)
+    options = parser.parse_args()
+    port = options.port
+    with tempfile.TemporaryDirectory() as name:
+        folder = pathlib.Path(name)
+        write_files(folder, port + 1)
+        path = os.environ["PATH"] + ":/usr/sbin"
+        unbound = subprocess.Popen(["unbound", "-d", "-c", str(folder / "unbound.conf")], env={**os.environ, "PATH": path})
+        primary = ChangingPrimary(port + 2, [f"h{n}.example" for n in range(RULES)])
+        server = peers.Server(options.program, port, port + 1, [(peers.ZONE, port + 2)], options.workers)
+        try:
+            server.wait_for("h0.example")
+            dnsperf(folder / "queries", port, 5, options.rate)
+            changes, comers = Changes(primary, port), Comers(port)
+            sent, lost, seen = watch(server, options, folder / "queries")
+            changes.is_over = comers.is_over = True
+            changes.thread.join(10)
+            for thread in comers.threads:
+                thread.join(20)
+            newest = f"new{primary.serial - 1}.example"
+            server.wait_for(newest, 3, 5)
+        finally:
+            server.end()
+            unbound.terminate()
+            unbound.wait(10)
+    with open(server.log, encoding="ascii") as file:
+        lines = file.read().splitlines()
+    taken = sum(line.startswith("taken") for line in lines)
+    refused = [line for line in lines if line.startswith("refused")]
+    first, last = seen[len(seen) // 10], seen[-1]
+    grew = last[0] - first[0] > GROWS_BYTES or last[1] - first[1] > GROWS_DESCRIPTORS
+    print(f"{sent:,} queries over UDP, {lost} lost; {comers.done:,} connections, {comers.lost} without all their replies; "
+          f"{primary.serial - 1:,} changes, {changes.unanswered} NOTIFYs without a reply; {taken:,} transfers taken "
+          f"({primary.in_steps:,} in steps, {primary.whole} whole), {len(refused)} refused; the last change was in force; memory "
+          f"{first[0] >> 20} to {last[0] >> 20} MiB, descriptors {first[1]} to {last[1]}")
+    for line in refused[:5]:
+        print("  ", line)
+    os._exit(1 if lost or comers.lost or refused or changes.unanswered or grew else 0)
+
+
+if __name__ == "__main__":
+    main()
