@@ -56,6 +56,12 @@ def flood(mac, port):
                 time.sleep(0.01)
 
 
+def received():
+    """How many datagrams have come to sockets of this namespace."""
+    with open("/proc/net/snmp", encoding="ascii") as file:
+        return int([line for line in file if line.startswith("Udp:")][1].split()[1])
+
+
 def attacked(program, port, workers, attacker):
     """The server's side: all of it in its namespace."""
     upstream, primary = Upstream(port + 1), Primary(port + 2, RULED)
@@ -64,19 +70,21 @@ def attacked(program, port, workers, attacker):
         server.wait_for(RULED[0])
         with open("/sys/class/net/server/address", encoding="ascii") as file:
             mac = file.read().strip()
+        before = received()
         flooding = subprocess.Popen(["ip", "netns", "exec", attacker, sys.executable, HERE, "flood", mac, str(port)])
         time.sleep(1)
         udp_lost, udp_slow, tcp_lost, tcp_slow = Prober(port, RULED, host=HOST).result()
         was_flooded = flooding.poll() is None
         flooding.terminate()
         flooding.wait(10)
-        said = f"UDP lost {udp_lost}, slowest {1000 * udp_slow:.1f} ms; TCP lost {tcp_lost}, slowest {1000 * tcp_slow:.1f} ms"
+        came = received() - before
+        said = f"{came:,} queries of neighbours came; UDP lost {udp_lost}, slowest {1000 * udp_slow:.1f} ms; TCP lost {tcp_lost}, slowest {1000 * tcp_slow:.1f} ms"
         end = time.monotonic() + RECOVERS
         while ask(port, "fresh.example", 0.5, host=HOST) != 0:
             if time.monotonic() > end:
                 return f"{said}; nobody is served within 2 s behind it", False
-        if not was_flooded:
-            return f"{said}; the queries of the neighbours ended before", False
+        if not was_flooded or came < 2 * QUERIES:
+            return f"{said}; that was no flood", False
         return said, not udp_lost and not tcp_lost and max(udp_slow, tcp_slow) <= SLOWEST
     finally:
         server.end()
