@@ -1,5 +1,5 @@
 -- What the calls of a cache do to its entries, where it tells them.
-use Rattle.std.specs.Prelude.{◌≡◌, ℕ, List, [], Option, Some, None, IfSome}
+use Rattle.std.specs.Prelude.{◌≡◌, ℕ, [], Option, Some, None, IfSome}
 use Rattle.dns_message.specs.declared.question.Question.{Question}
 use Rattle.upstream_link.specs.Vouched.{PlainLearned}
 use Rattle.answer_cache.specs.Recent.{Recent, after_keep, after_look_up, live_entry, recent}

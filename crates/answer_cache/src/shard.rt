@@ -53,15 +53,16 @@ fn octet_sum(octets: &[u8]) -> u32
 // other threads then have to fetch anew; one that is asked for often goes first all the same.
 const MOVES_EVERY: u8 = 8;
 
-/// The shard of the number `N`: what was learned of questions that belong there. Contracts see a cache.
+/// A shard: what was learned of questions that belong to its number. Contracts see a cache.
 #[derive(Drop)]
-pub(crate) struct Shard<L: Link, const N: u8> {
+pub(crate) struct Shard<L: Link> {
+    number: u8,
     cache: AnswerCache<L, RandomState>,
     // How many look-ups there were; it wraps.
     look_ups: u8,
 }
 
-impl<L: Link, const N: u8> Model for Shard<L, N> {
+impl<L: Link> Model for Shard<L> {
     ghost use Rattle.answer_cache.specs.Recent.{Recent};
     ghost use Rattle.answer_cache.specs.Shards.{Belong};
 
@@ -69,13 +70,14 @@ impl<L: Link, const N: u8> Model for Shard<L, N> {
 
     ghost view = { λ s. s.cache };
 
-    ghost invariant = { λ s. Belong N s.cache.entries };
+    ghost invariant = { λ s. Belong s.number s.cache.entries };
 }
 
-impl<L: Link, const N: u8> Shard<L, N> {
-    /// An empty shard for at most so many entries.
+impl<L: Link> Shard<L> {
+    /// An empty shard of this number, for at most so many entries.
     pub(crate) fn open(
         alloc: Global,
+        number: u8,
         entries: usize,
         hashers: RandomState,
     ) -> Result<Self, AllocError>
@@ -84,6 +86,7 @@ impl<L: Link, const N: u8> Shard<L, N> {
         ensures { IfOk result (λ shard. shard ≡ recent [] entries) }
     {
         Ok(Shard {
+            number,
             cache: AnswerCache::open(alloc, entries, hashers)?,
             look_ups: 0,
         })
@@ -107,16 +110,20 @@ impl<L: Link, const N: u8> Shard<L, N> {
         }
     }
 
-    /// Puts what was learned first, under its key. That it belongs here is a condition.
+    /// Puts what was learned first, under its key, where this is the shard of its number; else it is given back.
     pub(crate) fn put(
         &mut self,
+        number: u8,
         key: Vec<u8>,
         learned: Learned<L>,
     ) -> Result<Option<(Vec<u8>, Learned<L>)>, AllocFailed<(Vec<u8>, Learned<L>)>>
-        requires here { shard_of learned.question ≡ N }
+        requires number { number ≡ shard_of learned.question }
         requires key { key.items ≡ key_of learned.question }
         requires some { vouched.life learned ≢ 0 }
     {
+        if self.number != number {
+            return Ok(Some((key, learned)));
+        }
         self.cache.put(key, learned)
     }
 }

@@ -1,14 +1,15 @@
 //! One cache for all workers.
 
-ghost use Rattle.std.specs.Prelude.{◌≡◌, ◌≢◌, ◌≤◌, None, IfOk, IfSome};
+ghost use Rattle.std.specs.Prelude.{◌≡◌, ◌≢◌, ◌≤◌, None, IfOk, IfSome, length};
 ghost use Rattle.answer_cache.specs.Key.{key_of};
 ghost use Rattle.answer_cache.specs.Recent.{Serves};
 ghost use Rattle.answer_cache.specs.declared.cache.TheConstants.{MOST_ENTRIES};
+ghost use Rattle.answer_cache.specs.declared.shard.TheConstants.{SHARDS};
 ghost use Rattle.upstream_link.specs.Vouched as vouched;
 
 use crate::keeps::Keeps;
 use crate::key::key_octets;
-use crate::shard::{Shard, shard_number};
+use crate::shard::{SHARDS, Shard, shard_number};
 use dns_message::Question;
 use edge_io::Link;
 use std::alloc::{AllocError, AllocFailed, Global};
@@ -19,39 +20,15 @@ use upstream_link::Learned;
 /// How many octets the answers of an entry take at most, but for their TTLs: longer ones would make a full cache take gigabytes.
 pub const MOST_OCTETS: usize = 2_048;
 
-// Four shards, each under a lock.
-#[derive(Drop)]
-struct FourShards<L: Link, const A: u8, const B: u8, const C: u8, const D: u8> {
-    a: Mutex<Shard<L, A>>,
-    b: Mutex<Shard<L, B>>,
-    c: Mutex<Shard<L, C>>,
-    d: Mutex<Shard<L, D>>,
-}
-
-impl<L: Link, const A: u8, const B: u8, const C: u8, const D: u8> FourShards<L, A, B, C, D> {
-    fn open(alloc: Global, entries: usize, hashers: RandomState) -> Result<Self, AllocError>
-        requires some { 1 ≤ entries }
-        requires most { entries ≤ MOST_ENTRIES }
-    {
-        Ok(FourShards {
-            a: Mutex::new(Shard::open(alloc, entries, hashers)?),
-            b: Mutex::new(Shard::open(alloc, entries, hashers)?),
-            c: Mutex::new(Shard::open(alloc, entries, hashers)?),
-            d: Mutex::new(Shard::open(alloc, entries, hashers)?),
-        })
-    }
-}
-
-/// What links of the kind `L` gave for questions, for all workers of a server: 16 shards, each under a lock, which is held for a
-/// look-up or for what is put in, and for nothing else. Names can be made that all belong to one shard, so that they share its lock
-/// and its entries; whoever makes them pushes out the entries of that shard alone. The maps of the
+/// What links of the kind `L` gave for questions, for all workers of a server: [`SHARDS`](crate::SHARDS) shards, each under a lock, which
+/// is held for a look-up or for what is put in, and for nothing else. Names can be made that all belong to one shard, so that they
+/// share its lock and its entries; whoever makes them pushes out the entries of that shard alone. The maps of the
 /// shards hash with a seed that is drawn at random, since strangers pick the questions.
 #[derive(Drop)]
 pub struct SharedCache<L: Link> {
-    s0_3: FourShards<L, 0, 1, 2, 3>,
-    s4_7: FourShards<L, 4, 5, 6, 7>,
-    s8_11: FourShards<L, 8, 9, 10, 11>,
-    s12_15: FourShards<L, 12, 13, 14, 15>,
+    // Each at the place of its number.
+    shards: Vec<Mutex<Shard<L>>>,
+    ghost all: { length shards.items ≡ SHARDS },
 }
 
 impl<L: Link> SharedCache<L> {
@@ -61,12 +38,11 @@ impl<L: Link> SharedCache<L> {
         requires some { 1 ≤ entries }
         requires most { entries ≤ MOST_ENTRIES }
     {
-        Ok(SharedCache {
-            s0_3: FourShards::open(alloc, entries, hashers)?,
-            s4_7: FourShards::open(alloc, entries, hashers)?,
-            s8_11: FourShards::open(alloc, entries, hashers)?,
-            s12_15: FourShards::open(alloc, entries, hashers)?,
-        })
+        let mut shards = Vec::with_capacity(alloc, SHARDS as usize)?;
+        for number in 0..SHARDS {
+            shards.push(Mutex::new(Shard::open(alloc, number as u8, entries, hashers)?))?;
+        }
+        Ok(SharedCache { shards })
     }
 
     /// What was learned of the question, if it is live: it has come by now, and its life isn't over. `now` is in seconds. What no lock
@@ -95,24 +71,10 @@ impl<L: Link> SharedCache<L> {
         requires { key.now ≡ key_of question.now }
         ensures { IfOk result (λ entry. IfSome entry (Serves question.now now)) }
     {
-        match shard_number(question) {
-            0 => self.s0_3.a.lock(rt).look_up(key, question, now),
-            1 => self.s0_3.b.lock(rt).look_up(key, question, now),
-            2 => self.s0_3.c.lock(rt).look_up(key, question, now),
-            3 => self.s0_3.d.lock(rt).look_up(key, question, now),
-            4 => self.s4_7.a.lock(rt).look_up(key, question, now),
-            5 => self.s4_7.b.lock(rt).look_up(key, question, now),
-            6 => self.s4_7.c.lock(rt).look_up(key, question, now),
-            7 => self.s4_7.d.lock(rt).look_up(key, question, now),
-            8 => self.s8_11.a.lock(rt).look_up(key, question, now),
-            9 => self.s8_11.b.lock(rt).look_up(key, question, now),
-            10 => self.s8_11.c.lock(rt).look_up(key, question, now),
-            11 => self.s8_11.d.lock(rt).look_up(key, question, now),
-            12 => self.s12_15.a.lock(rt).look_up(key, question, now),
-            13 => self.s12_15.b.lock(rt).look_up(key, question, now),
-            14 => self.s12_15.c.lock(rt).look_up(key, question, now),
-            _ => self.s12_15.d.lock(rt).look_up(key, question, now),
-        }
+        let number = shard_number(question);
+        self.shards[usize::from(number)]
+            .lock(rt)
+            .look_up(key, question, now)
     }
 
     /// Puts what was learned first in its shard, in place of an entry about its question, and drops the last one where there would
@@ -150,24 +112,10 @@ impl<L: Link> SharedCache<L> {
         requires key { key.items ≡ key_of learned.question }
         requires some { vouched.life learned ≢ 0 }
     {
-        match shard_number(question) {
-            0 => self.s0_3.a.lock(rt).put(key, learned),
-            1 => self.s0_3.b.lock(rt).put(key, learned),
-            2 => self.s0_3.c.lock(rt).put(key, learned),
-            3 => self.s0_3.d.lock(rt).put(key, learned),
-            4 => self.s4_7.a.lock(rt).put(key, learned),
-            5 => self.s4_7.b.lock(rt).put(key, learned),
-            6 => self.s4_7.c.lock(rt).put(key, learned),
-            7 => self.s4_7.d.lock(rt).put(key, learned),
-            8 => self.s8_11.a.lock(rt).put(key, learned),
-            9 => self.s8_11.b.lock(rt).put(key, learned),
-            10 => self.s8_11.c.lock(rt).put(key, learned),
-            11 => self.s8_11.d.lock(rt).put(key, learned),
-            12 => self.s12_15.a.lock(rt).put(key, learned),
-            13 => self.s12_15.b.lock(rt).put(key, learned),
-            14 => self.s12_15.c.lock(rt).put(key, learned),
-            _ => self.s12_15.d.lock(rt).put(key, learned),
-        }
+        let number = shard_number(question);
+        self.shards[usize::from(number)]
+            .lock(rt)
+            .put(number, key, learned)
     }
 }
 

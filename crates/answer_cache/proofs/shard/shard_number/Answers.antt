@@ -1,4 +1,4 @@
-use Rattle.std.proofs.Common.{◌≡◌, ◌+◌, ◌%◌, ℕ, List, map, ap, ◌∙◌}
+use Rattle.std.proofs.Common.{◌+◌, ◌%◌, ℕ, List, map, ap, ◌∙◌}
 use Rattle.std.specs.Char.{to_ascii_lowercase}
 use Rattle.std.specs.List.{sum}
 use Rattle.dns_name.proofs.WireLemmas.{octets-lowered}

@@ -7,6 +7,6 @@ use Rattle.answer_cache.proofs.shard.Shard.look_up.Goals as goal
 
 pub invariant_of-self : goal.invariant_of-self
 invariant_of-self g c =
-    let P = λ (entry : PlainLearned). shard_of entry.question ≡ g.row.N in
+    let P = λ (entry : PlainLearned). shard_of entry.question ≡ c.self.inside.number in
     let old = c.self.inside.cache in
     all-after P c.look_up.result old c.look_up.new.self (after_look_up c.args.question.now old.entries) c.look_up.ensures.ok c.look_up.ensures.err (all-looked_up P c.args.question.now old.entries c.self.invariant) c.self.invariant
