@@ -1,7 +1,8 @@
 #!/usr/bin/env python3
 """chain.py: the longest chain of libraries, each standing on the next, as crates.txt has them.
 
-Prints it, and ends with status 1 where it has more than eight. Programs (crates with a src/main.rt) aren't counted.
+Prints it, and ends with status 1 where it has more than eight. Programs (crates with a src/main.rt) and crates of tests aren't counted:
+no crate stands on them.
 """
 import functools
 import pathlib
@@ -15,7 +16,7 @@ def libraries():
     """The libraries of the repository, each with those that it stands on."""
     lines = (line.partition("#")[0] for line in (ROOT / "crates.txt").read_text(encoding="utf-8").splitlines())
     crates = {name.split()[0]: rest.split() for name, _, rest in (line.partition(":") for line in lines) if name.strip()}
-    found = {name for name in crates if not (ROOT / "crates" / name / "src" / "main.rt").exists()}
+    found = {name for name in crates if not name.endswith("_tests") and not (ROOT / "crates" / name / "src" / "main.rt").exists()}
     return {name: [low for low in crates[name] if low in found] for name in found}
 
 

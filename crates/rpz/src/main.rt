@@ -1,27 +1,9 @@
 //! `rpz`: answers queries by response policy zones (draft-vixie-dnsop-dns-rpz), those of a script or those of clients.
 #![tactic(auto)]
 
-#[cfg(test)]
-mod alone;
-#[cfg(test)]
-mod asserts;
-#[cfg(test)]
-mod cases;
 mod descriptors;
-#[cfg(test)]
-mod gate;
 mod line_sink;
-#[cfg(test)]
-mod loopback;
 mod output;
-#[cfg(test)]
-mod outside;
-#[cfg(test)]
-mod reading;
-#[cfg(test)]
-mod replays;
-#[cfg(test)]
-mod runs;
 
 use descriptors::{allowed_descriptors, wanted_descriptors};
 use edge_io::{ReaderSource, TaskSpawner, WriterSink};
