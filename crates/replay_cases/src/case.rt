@@ -69,41 +69,58 @@ impl Case {
     ) -> Result<Vec<u8>, AllocError> {
         let mut source = ListSource::new(script, self.piece, Vec::new(alloc));
         let mut sink = ListSink::new(Vec::new(alloc), self.piece, Vec::new(alloc));
-        let mut wires: NoWires<R> = ListWires::new(
-            rt,
-            alloc,
-            VecDeque::new(alloc),
-            VecDeque::new(alloc),
-            VecDeque::new(alloc),
-            Vec::new(alloc),
-            Vec::new(alloc),
-        )?;
-        let mut spawner: TaskSpawner<Report, R> = TaskSpawner::new(
-            rt,
-            alloc,
-            true,
-            Vec::new(alloc),
-        );
-        let mut clock = ListClock::new(alloc, VecDeque::new(alloc));
-        let mut ids = ListIds::new(alloc, VecDeque::new(alloc));
-        let status = run(
-            &rt,
-            alloc,
-            &self.words,
-            &mut source,
-            &mut sink,
-            &mut wires,
-            &mut spawner,
-            &mut clock,
-            &mut ids,
-            hashers,
-        );
+        let status = run_alone(rt, alloc, &self.words, &mut source, &mut sink, hashers)?;
+        self.shown(alloc, &sink.bytes, status)
+    }
+
+    // The name, the transcript and the status in lines.
+    fn shown(
+        &self,
+        alloc: Global,
+        transcript: &[u8],
+        status: Status,
+    ) -> Result<Vec<u8>, AllocError> {
         let first = format!(in alloc; "case {}\n", self.name)?;
         let mut out = Vec::from_slice(alloc, first.as_bytes())?;
-        out.extend_from_slice(&sink.bytes)?;
+        out.extend_from_slice(transcript)?;
         out.extend_from_slice(status_line(alloc, status)?.as_bytes())?;
         Ok(out)
     }
+}
+
+// Runs words over a script and an output, without a network.
+fn run_alone<R: Threads + Wait + Clock + Copy + Drop + Send + Sync + 'static>(
+    rt: R,
+    alloc: Global,
+    words: &[String],
+    source: &mut ListSource,
+    sink: &mut ListSink,
+    hashers: RandomState,
+) -> Result<Status, AllocError> {
+    let mut wires: NoWires<R> = ListWires::new(
+        rt,
+        alloc,
+        VecDeque::new(alloc),
+        VecDeque::new(alloc),
+        VecDeque::new(alloc),
+        Vec::new(alloc),
+        Vec::new(alloc),
+    )?;
+    let mut spawner: TaskSpawner<Report, R> = TaskSpawner::new(rt, alloc, true, Vec::new(alloc));
+    let mut clock = ListClock::new(alloc, VecDeque::new(alloc));
+    let mut ids = ListIds::new(alloc, VecDeque::new(alloc));
+    Ok(run(
+        &rt,
+        alloc,
+        words,
+        source,
+        sink,
+        &mut wires,
+        &mut spawner,
+        &mut clock,
+        &mut ids,
+        hashers,
+    ))
 }
 
 // The line `status CODE TEXT`, or without a text where the status has none.
