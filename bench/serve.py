@@ -3,7 +3,7 @@
 
     python3 bench/serve.py RPZ [--seconds N] [--rounds N] [--rules N,N] [--servers NAME,NAME] [--workers N,N]
 
-RPZ is the built program. Wanted: nsd, the primary of the policy zone and the upstream, dnsperf, and cc. Of unbound, pdns_recursor and
+RPZ is the built program. Wanted: nsd, the primary of the policy zone and the upstream, dnsperf, dig, and cc. Of unbound, pdns_recursor and
 named those that are installed are measured beside; `echo` is bench/udp_echo.c, one thread that sends each datagram back, which bounds
 what one thread can receive and send.
 
