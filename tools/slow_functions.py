@@ -1,9 +1,10 @@
 #!/usr/bin/env python3
-"""slow_functions.py CRATE [COUNT]: the functions whose proofs took longest in the last check of a crate.
+"""slow_functions.py CRATE [COUNT]: the functions whose proofs took longest in the last check of a crate, and the part of each that did.
 
 CRATE is a crate's folder, as crates/rpz_net, in which `rt check --jobs 1` has run from nothing (remove its out/incremental first; of its
 tests with `--test`). The check leaves a file for each module that it has proved; the time between one file and the next is counted for
-the function of the second. Beside other checks each second is too long, and with more than one job the times mean nothing.
+the function of the second. Beside other checks each second is too long, and with more than one job the times mean nothing. What the
+parts are says docs/PROVING.md. Behind the list stand the sums by parts, and what the `drop` of types of crates below took (Destruct).
 """
 
 import collections
@@ -12,7 +13,7 @@ import re
 import sys
 
 # the parts of a function's proof, each a module of its own
-PARTS = "Lts|Symbol|Statement|Reads|Kinds|Tie|Proof|Named|Layout|Met|TheLaws|TheReach|TheInside|Answers|Invariants|Goals|TheLink|Code"
+PARTS = "Lts|Symbol|Statement|Reads|Kinds|Carried|Tie|Proof|Named|Layout|Met|TheLaws|TheReach|TheInside|Answers|Invariants|Goals|TheLink|Code"
 
 
 def modules(folder):
@@ -32,18 +33,29 @@ def function_of(module):
     return re.sub(rf"\.(?:{PARTS})(?:[.-].*)?$", "", name)
 
 
+def part_of(module):
+    found = re.search(rf"\.({PARTS})(?:[.-].*)?$", module)
+    return found.group(1) if found else "other"
+
+
 def main():
     if len(sys.argv) not in (2, 3):
         sys.exit(__doc__)
     found = modules(f"{sys.argv[1]}/out/incremental")
     if not found:
         sys.exit("no check has left its work there")
-    sums, before = collections.Counter(), found[0][0]
+    sums, parts, kinds, before = collections.Counter(), collections.defaultdict(collections.Counter), collections.Counter(), found[0][0]
     for date, module in found:
-        sums[function_of(module)] += date - before
+        name, part = function_of(module), part_of(module)
+        sums[name] += date - before
+        parts[name][part] += date - before
+        kinds[part] += date - before
+        kinds["Destruct"] += date - before if "Destruct" in name else 0
         before = date
     for name, seconds in sums.most_common(int(sys.argv[2]) if len(sys.argv) == 3 else 20):
-        print(f"{seconds:8.1f} s  {name}")
+        part, of_it = parts[name].most_common(1)[0]
+        print(f"{seconds:8.1f} s  {name}  ({part} {of_it:.1f})")
+    print("  ".join(f"{part} {seconds:.0f}" for part, seconds in kinds.most_common() if seconds >= 1))
     print(f"{found[-1][0] - found[0][0]:8.0f} s  in all, {len(found):,} modules")
 
 

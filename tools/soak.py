@@ -5,7 +5,8 @@
 
 PROGRAM is `rpz`. For so many seconds (3,600) dnsperf asks so many queries a second (50,000), of which a tenth are misses; a primary makes
 ten changes a second, each with a NOTIFY and taken by an incremental transfer; and 100 connections come and go, each with a few queries.
-The upstream is an Unbound. A line is printed each minute: what was asked and lost so far, the resident memory, the descriptors. At the
+The upstream is an Unbound. A line is printed each minute: what was asked and lost so far (and how much of that the system dropped in front
+of the server; what else is missing was lost on its way back), the resident memory, the descriptors. At the
 end: the same, how many transfers were taken and refused, and whether memory and descriptors stayed flat. The status is 0 where nothing
 was lost or refused and neither grew. Wanted: dnsperf and unbound (packages of Debian). Nothing else should run meanwhile.
 """
@@ -162,13 +163,21 @@ class Changes:
 
 
 def dnsperf(path, port, seconds, rate):
+    # the client's buffers are large, too: replies that it has no room for would count as lost
     words = ["dnsperf", "-s", peers.LOOPBACK, "-p", str(port), "-d", str(path), "-l", str(seconds), "-c", "8", "-T", "1", "-q", "2000",
-             "-t", "5", "-Q", str(rate)]
+             "-t", "5", "-b", "4096", "-Q", str(rate)]
     return subprocess.run(words, capture_output=True, text=True, check=True).stdout
 
 
 def figure(text, label):
     return int(float(re.search(rf"{label}:\s+([0-9.]+)", text)[1]))
+
+
+def dropped(port):
+    """How many datagrams the system has dropped that found no room in the buffer of the server's socket."""
+    with open("/proc/net/udp", encoding="ascii") as file:
+        rows = [line.split() for line in file.readlines()[1:]]
+    return sum(int(row[-1]) for row in rows if int(row[1].split(":")[1], 16) == port)
 
 
 def watch(server, options, path):
@@ -180,7 +189,8 @@ def watch(server, options, path):
         text = dnsperf(path, options.port, int(min(60, left)), options.rate)
         sent, lost = sent + figure(text, "Queries sent"), lost + figure(text, "Queries lost")
         seen.append((server.resident(), server.descriptors()))
-        print(f"{sent:>12,} asked, {lost} lost, {seen[-1][0] >> 20} MiB resident, {seen[-1][1]} descriptors", flush=True)
+        print(f"{sent:>12,} asked, {lost} lost ({dropped(options.port)} before the server read them), {seen[-1][0] >> 20} MiB resident, "
+              f"{seen[-1][1]} descriptors", flush=True)
     return sent, lost, seen
 
 
