@@ -1,0 +1,4 @@
+pub mod Stored
+pub mod Seen
+pub mod Packed
+pub mod Blocks

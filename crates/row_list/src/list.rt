@@ -1,0 +1,244 @@
+//! A list of rows with rising numbers.
+
+ghost use Rattle.std.specs.Prelude.{◌≡◌, ◌+◌, ◌<◌, ◌≤◌, ◌^◌, [], ◌∷◌, ◌++◌, length, slice_get, Some, IfOk, OnErr, if◌then◌else◌};
+ghost use Rattle.std.specs.Option.{option_map};
+ghost use Rattle.row_list.specs.Stored.{NumbersRise, row_of_number};
+ghost use Rattle.row_list.specs.Seen.{seen};
+ghost use Rattle.row_list.specs.Blocks.{no_rows, put_row, with_row, without_row};
+
+use crate::block::Block;
+use crate::blocks::{block_at, count_at_most, lowered, put_block};
+use crate::stored_row::StoredRow;
+use shared_list::{Held, Share, SharedTable};
+use std::alloc::{AllocError, Global};
+use std::marker::Model;
+
+// How many rows may be taken out before a list of few rows is thin.
+const SPARE: usize = 8192;
+
+/// Rows in the order of their numbers, and the number that the next one gets. Each takes its octets and 16 more. They stand in
+/// blocks of at most 512, which copies of the list share; no edit of one is seen in the other. An edit copies one block, and a
+/// copy of the list takes time for each 32,768th row and the rows of the last block; beside these, both take time for one word
+/// of each block.
+#[derive(Drop)]
+pub struct RowList {
+    blocks: SharedTable<Held<Block>>,
+    tail: Block,
+    firsts: Vec<usize>,
+    starts: Vec<usize>,
+    next: u32,
+    gone: usize,
+    alloc: Global,
+}
+
+impl Model for RowList {
+    ghost use Rattle.std.specs.Prelude.{◌++◌, ◌∷◌, []};
+    ghost use Rattle.row_list.specs.Blocks.{PlainRowList, IsIndexed, joined};
+
+    ghost Value = { PlainRowList };
+
+    ghost view = { λ l. record { rows = joined (l.blocks ++ l.tail ∷ []); next = l.next } };
+
+    ghost invariant = { λ l. IsIndexed l.firsts.items l.starts.items (l.blocks ++ l.tail ∷ [])
+        l.next };
+}
+
+impl RowList {
+    /// No rows; the first gets the number 0.
+    pub fn empty(alloc: Global) -> Result<Self, AllocError>
+        ensures { IfOk result (λ list. list ≡ no_rows) }
+    {
+        let firsts = Vec::from_slice(alloc, &[0])?;
+        let starts = Vec::from_slice(alloc, &[0])?;
+        Ok(RowList {
+            blocks: SharedTable::new(alloc),
+            tail: Block::new(alloc),
+            firsts,
+            starts,
+            next: 0,
+            gone: 0,
+            alloc,
+        })
+    }
+
+    /// A list of the same rows. The two share all blocks but the last.
+    pub fn share(&self) -> Result<Self, AllocError>
+        ensures { IfOk result (λ other. other ≡ self.now) }
+    {
+        let blocks = self.blocks.share()?;
+        let firsts = Vec::from_slice(self.alloc, &self.firsts)?;
+        let starts = Vec::from_slice(self.alloc, &self.starts)?;
+        let tail = self.tail.share(self.alloc)?;
+        Ok(RowList {
+            blocks,
+            tail,
+            firsts,
+            starts,
+            next: self.next,
+            gone: self.gone,
+            alloc: self.alloc,
+        })
+    }
+
+    /// How many rows. Its clauses also say that their numbers rise, and that all are below 2^32 - 1.
+    pub fn len(&self) -> usize
+        ensures len { result ≡ length self.now.rows }
+        ensures rising { NumbersRise 0 self.now.rows self.now.next }
+        ensures fits { self.now.next < 2 ^ 32 }
+    {
+        self.starts[self.blocks.len()] + self.tail.len()
+    }
+
+    /// The number that the next row gets.
+    pub fn next(&self) -> u32
+        ensures { result ≡ self.now.next }
+    {
+        self.next
+    }
+
+    /// Whether more rows were taken out, since the blocks were last built, than there are: then [`RowList::rebuilt`] pays. No
+    /// clause speaks of it.
+    pub fn is_thin(&self) -> bool {
+        self.gone.saturating_sub(SPARE) > self.len()
+    }
+
+    /// The row of the number.
+    pub fn get(&self, number: u32) -> Option<StoredRow<'_>>
+        ensures { option_map seen result ≡ row_of_number number self.now.rows }
+    {
+        let after = count_at_most(&self.firsts, number as usize);
+        if after == 0 {
+            return None;
+        }
+        block_at(&self.blocks, &self.tail, after - 1).find(number)
+    }
+
+    /// The row at the place, from 0.
+    pub fn nth(&self, at: usize) -> StoredRow<'_>
+        requires { at < length self.now.rows }
+        ensures { slice_get self.now.rows at ≡ Some (seen result) }
+    {
+        let after = count_at_most(&self.starts, at);
+        let block = block_at(&self.blocks, &self.tail, after - 1);
+        block.get(at - self.starts[after - 1])
+    }
+
+    // Puts the row at the end and answers true, or answers false where the last block is full.
+    fn append(&mut self, row: StoredRow<'_>) -> Result<bool, AllocError>
+        requires above { self.old.next ≤ row.number }
+        requires below { row.number + 1 < 2 ^ 32 }
+        ensures ok { IfOk result
+            (λ took. self.new ≡ (if took then put_row self.old (seen row.entry) else self.old)) }
+        ensures err { OnErr result (self.new ≡ self.old) }
+    {
+        if self.tail.push(row)? {
+            self.next = row.number + 1;
+            Ok(true)
+        } else {
+            Ok(false)
+        }
+    }
+
+    // Begins a new block. The rows stay.
+    fn seal(&mut self) -> Result<(), AllocError>
+        ensures { self.new ≡ self.old }
+    {
+        let total = self.len();
+        let block = self.tail.share(self.alloc)?;
+        let held = Held::new(self.alloc, block)?;
+        self.firsts.reserve(1)?;
+        self.starts.reserve(1)?;
+        self.blocks.push(held)?;
+        self.firsts.push_reserved(self.next as usize);
+        self.starts.push_reserved(total);
+        self.tail = Block::new(self.alloc);
+        Ok(())
+    }
+
+    // Puts the row at the end, with a number from the next one on.
+    fn put(&mut self, row: StoredRow<'_>) -> Result<(), AllocError>
+        requires above { self.old.next ≤ row.number }
+        requires below { row.number + 1 < 2 ^ 32 }
+        ensures ok { IfOk result (λ _. self.new ≡ put_row self.old (seen row.entry)) }
+        ensures err { OnErr result (self.new ≡ self.old) }
+    {
+        if self.append(row)? {
+            return Ok(());
+        }
+        self.seal()?;
+        if self.append(row)? {
+            Ok(())
+        } else {
+            Err(AllocError)
+        }
+    }
+
+    /// Puts a row at the end, and gives its number. An `Err` leaves the list as it was; it comes where allocation fails, where
+    /// the numbers have run out (the greatest is 2^32 - 2), and for an owner or data of more than 65,535 octets.
+    pub fn push(
+        &mut self,
+        owner: &[u8],
+        rtype: u16,
+        ttl: u32,
+        rdata: &[u8],
+    ) -> Result<u32, AllocError>
+        ensures number { IfOk result (λ number. number ≡ self.old.next) }
+        ensures ok { IfOk result
+            (λ _. self.new ≡ with_row self.old owner.now rtype ttl rdata.now) }
+        ensures err { OnErr result (self.new ≡ self.old) }
+    {
+        let number = self.next;
+        if number == u32::MAX {
+            return Err(AllocError);
+        }
+        self.put(StoredRow {
+            number,
+            owner,
+            rtype,
+            ttl,
+            rdata,
+        })?;
+        Ok(number)
+    }
+
+    /// Takes out the row of the number, if there is one. An `Err` leaves the list as it was.
+    pub fn remove(&mut self, number: u32) -> Result<(), AllocError>
+        ensures ok { IfOk result (λ _. self.new ≡ without_row number self.old) }
+        ensures err { OnErr result (self.new ≡ self.old) }
+    {
+        let after = count_at_most(&self.firsts, number as usize);
+        if after == 0 {
+            return Ok(());
+        }
+        let place = after - 1;
+        let old = block_at(&self.blocks, &self.tail, place);
+        let block = old.without(self.alloc, number)?;
+        let gone = old.len().saturating_sub(block.len());
+        let starts = lowered(self.alloc, &self.starts, after, gone)?;
+        put_block(self.alloc, &mut self.blocks, &mut self.tail, place, block)?;
+        self.starts = starts;
+        self.gone = self.gone.saturating_add(gone);
+        Ok(())
+    }
+
+    /// The same rows with the same numbers, in blocks that are full again.
+    pub fn rebuilt(&self) -> Result<Self, AllocError>
+        ensures { IfOk result (λ other. other ≡ self.now) }
+    {
+        let mut list = RowList::empty(self.alloc)?;
+        let count = self.len();
+        for at in 0..count {
+            list.put(self.nth(at))?;
+        }
+        list.skip_to(self.next);
+        Ok(list)
+    }
+
+    // The next row gets this number.
+    fn skip_to(&mut self, next: u32)
+        requires { self.old.next ≤ next }
+        ensures { self.new ≡ record { rows = self.old.rows; next = next } }
+    {
+        self.next = next;
+    }
+}
