@@ -1,0 +1,5 @@
+pub mod Keys
+pub mod Entries
+pub mod Scan
+pub mod Beginning
+pub mod Sorting

@@ -1,0 +1,38 @@
+-- Scans over entries.
+use Rattle.std.proofs.Common.{◌≡◌, Bool, false, cond, List, [], ◌∷◌, ◌++◌, Option, Some, None, refl, sym, ap, ◌∙◌}
+use Rattle.std.specs.List.{AllByRecursion}
+
+-- the first of two that is there
+abbrev pub option_else : {X : Type 0} → Option X → Option X → Option X
+option_else None other = other
+option_else (Some x) other = Some x
+
+-- the entry of a key that may have a value, as a list
+abbrev pub own : {K V : Type 0} → K → Option V → List (K × V)
+own key None = []
+own key (Some v) = (key, v) ∷ []
+
+-- the last entry that passes
+abbrev pub last_where : {X : Type 0} → (X → Bool) → List X → Option X
+last_where test [] = None
+last_where test (e ∷ es) = option_else (last_where test es) (cond (test e) (Some e) None)
+
+module _ {X : Type 0} where
+  pub else_none : (o : Option X) → option_else o None ≡ o
+  else_none None = refl
+  else_none (Some x) = refl
+
+  pub else_assoc : (a b c : Option X) → option_else (option_else a b) c ≡ option_else a (option_else b c)
+  else_assoc None b c = refl
+  else_assoc (Some x) b c = refl
+
+module _ {X : Type 0} (test : X → Bool) where
+  pub last_append : (xs ys : List X) → last_where test (xs ++ ys) ≡ option_else (last_where test ys) (last_where test xs)
+  last_append [] ys = sym (else_none (last_where test ys))
+  last_append (x ∷ xs) ys =
+      ap (λ o. option_else o (cond (test x) (Some x) None)) (last_append xs ys)
+      ∙ else_assoc (last_where test ys) (last_where test xs) (cond (test x) (Some x) None)
+
+  pub last_none : (es : List X) → AllByRecursion (λ e. test e ≡ false) es → last_where test es ≡ None
+  last_none [] all = refl
+  last_none (e ∷ es) all = ap (λ o. option_else o (cond (test e) (Some e) None)) (last_none es all.1) ∙ ap (λ b. cond b (Some e) None) all.0

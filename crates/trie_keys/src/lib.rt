@@ -1,0 +1,11 @@
+//! What tries have in common: keys that are strings of symbols with their laws (in specs/), what a trie keeps at a key, and a
+//! count of steps.
+#![tactic(auto)]
+
+mod mark;
+mod marked;
+mod steps;
+
+pub use mark::Mark;
+pub use marked::Marked;
+pub use steps::Steps;
