@@ -1,8 +1,9 @@
 -- Lists in blocks of equal length.
-use Rattle.std.proofs.Common.{◌≡◌, ℕ, zero, suc, ◌+◌, ◌-◌, ◌*◌, ◌<◌, Some, List, [], ◌∷◌, ◌++◌, length, map, refl, sym, ap, ◌∙◌, arith, slice_get, slice_index_or, length-append, append_assoc}
+use Rattle.std.proofs.Common.{take, drop, slice_range, ◌≤◌, ◌≡◌, ℕ, zero, suc, ◌+◌, ◌-◌, ◌*◌, ◌<◌, Some, List, [], ◌∷◌, ◌++◌, length, map, refl, sym, ap, ◌∙◌, arith, slice_get, slice_index_or, length-append, append_assoc, append-nil}
 use Rattle.std.proofs.lemmas.Option.{slice_get-get_or}
 use Rattle.std.proofs.Math.ListN.{set}
-use Rattle.std.proofs.lemmas.List.{set-append_left, set-append_right}
+use Rattle.std.proofs.lemmas.List.{set-append_left, set-append_right, take-append-le, drop-append-le, length-drop}
+use Rattle.std.proofs.Math.Seq.{drop-append-add}
 use Rattle.std.specs.List.{AllByRecursion, flat_map}
 
 module _ {T : Type 0} where
@@ -18,6 +19,15 @@ module _ {T : Type 0} where
 
   pub got : (xs : List T) (i : ℕ) (x : T) → i < length xs → x ≡ slice_index_or xs i x → slice_get xs i ≡ Some x
   got xs i x h e = slice_get-get_or xs i x h ∙ ap Some (sym e)
+
+  pub range_left : (xs ys : List T) (a b : ℕ) → a ≤ b → b ≤ length xs → slice_range (xs ++ ys) a b ≡ slice_range xs a b
+  range_left xs ys a b h k =
+      ap (take (b - a)) (drop-append-le a xs ys (omega arith)) ∙ take-append-le (b - a) (drop a xs) ys (omega (arith, length-drop a xs))
+
+  pub range_right : (xs ys : List T) (a b i j : ℕ) → a ≡ length xs + i → b ≡ length xs + j → slice_range (xs ++ ys) a b ≡ slice_range ys i j
+  range_right xs ys a b i j e f =
+      let n : b - a ≡ j - i = omega arith in
+      ap (λ m. take (b - a) (drop m (xs ++ ys))) e ∙ ap (take (b - a)) (drop-append-add xs ys i) ∙ ap (λ m. take m (drop i ys)) n
 
   some_same : (x y : T) → Some x ≡ Some y → x ≡ y
   some_same x y e = cc e
@@ -54,6 +64,24 @@ module _ {B T : Type 0} (size : ℕ) (f : B → List T) where
   pub get_rest : (bs : List B) (rest : List T) (i j : ℕ) → Full bs → i ≡ length bs * size + j → slice_get (flat_map f bs ++ rest) i ≡ slice_get rest j
   get_rest bs rest i j all s = get_right (flat_map f bs) rest i j (omega (arith, length_full bs all))
 
+  -- a part of a full block
+  pub range_full : (bs : List B) (rest : List T) (k j count i : ℕ) (b : B) → Full bs → j + count ≤ size → i ≡ k * size + j → slice_get bs k ≡ Some b → slice_range (flat_map f bs ++ rest) i (i + count) ≡ slice_range (f b) j (j + count)
+  range_full [] rest k j count i b all h s e = cc e
+  range_full (x ∷ bs) rest zero j count i b all h s e =
+      let le : i + count ≤ length (f x) = omega (arith, all.0) in
+      let same : i ≡ j = omega arith in
+      ap (λ l. slice_range l i (i + count)) (append_assoc (f x) (flat_map f bs) rest)
+      ∙ range_left (f x) (flat_map f bs ++ rest) i (i + count) (omega arith) le
+      ∙ ap (λ m. slice_range (f x) m (m + count)) same ∙ ap (λ y. slice_range (f y) j (j + count)) (some_same x b e)
+  range_full (x ∷ bs) rest (suc k) j count i b all h s e =
+      ap (λ l. slice_range l i (i + count)) (append_assoc (f x) (flat_map f bs) rest)
+      ∙ range_right (f x) (flat_map f bs ++ rest) i (i + count) (k * size + j) (k * size + j + count) (omega (arith, all.0)) (omega (arith, all.0))
+      ∙ range_full bs rest k j count (k * size + j) b all.1 h refl e
+
+  -- a part behind the full blocks
+  pub range_rest : (bs : List B) (rest : List T) (i j count : ℕ) → Full bs → i ≡ length bs * size + j → slice_range (flat_map f bs ++ rest) i (i + count) ≡ slice_range rest j (j + count)
+  range_rest bs rest i j count all s = range_right (flat_map f bs) rest i (i + count) j (j + count) (omega (arith, length_full bs all)) (omega (arith, length_full bs all))
+
   -- an item of a full block is replaced
   pub set_full : (bs : List B) (rest : List T) (k j i : ℕ) (b new : B) (x : T) → Full bs → j < size → i ≡ k * size + j → slice_get bs k ≡ Some b → f new ≡ set (f b) j x
       → flat_map f (set bs k new) ++ rest ≡ set (flat_map f bs ++ rest) i x
@@ -81,3 +109,14 @@ module _ {B T : Type 0} (size : ℕ) (f : B → List T) where
 pub as_many : {A B : Type 0} (f : A → B) (xs : List A) → length (map f xs) ≡ length xs
 as_many f [] = refl
 as_many f (x ∷ xs) = omega (arith, as_many f xs)
+
+flat_one : {B T : Type 0} (f : B → List T) (bs : List B) (b : B) → flat_map f (bs ++ b ∷ []) ≡ flat_map f bs ++ f b
+flat_one f [] b = append-nil (f b)
+flat_one f (x ∷ bs) b = ap (λ l. f x ++ l) (flat_one f bs b) ∙ sym (append_assoc (f x) (flat_map f bs) (f b))
+
+-- a block that the rest begins came behind the others, and then a new rest
+pub block_came : {B T : Type 0} (f : B → List T) (bs : List B) (b : B) (rest fill new : List T) → f b ≡ rest ++ fill
+    → flat_map f (bs ++ b ∷ []) ++ new ≡ (flat_map f bs ++ rest) ++ (fill ++ new)
+block_came f bs b rest fill new e =
+    ap (λ l. l ++ new) (flat_one f bs b ∙ ap (λ l. flat_map f bs ++ l) e ∙ sym (append_assoc (flat_map f bs) rest fill))
+    ∙ append_assoc (flat_map f bs ++ rest) fill new

@@ -3,10 +3,12 @@
 
 mod held;
 mod list;
+mod octets;
 mod share;
 mod table;
 
 pub use held::Held;
 pub use list::SharedList;
+pub use octets::SharedOctets;
 pub use share::Share;
 pub use table::SharedTable;
