@@ -1,0 +1,65 @@
+//! The octets by which a name stands in a trie.
+
+ghost use Rattle.std.specs.Prelude.{◌≡◌, ◌+◌, ◌≤◌, ◌++◌, length};
+ghost use Rattle.dns_name.specs.Labels.{label_octets};
+ghost use Rattle.name_trie.specs.Key.{name_key};
+
+use dns_name::Name;
+use std::marker::Model;
+
+// How many octets there is room for: a name is written in at most 255, of which the key lacks the zero.
+const ROOM: usize = 255;
+
+/// The labels of a name from the root on, each behind its length, as a trie has them: so names that end alike begin alike. It lies
+/// on the stack.
+pub struct Key {
+    octets: [u8; ROOM],
+    // the key is what stands from here on
+    start: usize,
+}
+
+impl Model for Key {
+    ghost use Rattle.std.specs.Prelude.{ℕ, List, drop, ◌≤◌};
+
+    ghost Value = { List ℕ };
+
+    ghost view = { λ k. drop k.start k.octets };
+
+    ghost invariant = { λ k. k.start ≤ 255 };
+}
+
+impl Key {
+    /// The key of a name. It takes no memory.
+    pub fn of(name: &Name) -> Key
+        ensures key { result ≡ name_key name.now }
+        ensures short { length (name_key name.now) ≤ 254 }
+    {
+        let mut key = Key {
+            octets: [0; ROOM],
+            start: ROOM,
+        };
+        let mut labels = name.labels();
+        while let Some(label) = labels.next_label() {
+            key.put_before(label);
+        }
+        key
+    }
+
+    // Puts a label behind its length in front.
+    fn put_before(&mut self, label: &[u8])
+        requires { length label.now + 1 + length self.old ≤ 255 }
+        ensures { self.new ≡ label_octets label.now ++ self.old }
+    {
+        let start = self.start - label.len() - 1;
+        self.octets[start] = label.len() as u8;
+        self.octets[start + 1..self.start].copy_from_slice(label);
+        self.start = start;
+    }
+
+    /// The octets.
+    pub fn as_slice(&self) -> &[u8]
+        ensures { result.now ≡ self.now }
+    {
+        &self.octets[self.start..]
+    }
+}
