@@ -1,10 +1,10 @@
 -- Keys label by label.
-use Rattle.std.proofs.Common.{◌≡◌, ℕ, zero, suc, ◌+◌, ◌≤◌, List, [], ◌∷◌, ◌++◌, length, reverse, take, drop, refl, sym, ap, ◌∙◌, arith, append-nil, append_assoc, length-append}
+use Rattle.std.proofs.Common.{◌≡◌, ℕ, ◌≤◌, List, [], ◌∷◌, ◌++◌, length, reverse, take, drop, refl, sym, ap, ◌∙◌, arith, append-nil, append_assoc, length-append}
 use Rattle.std.proofs.Math.Seq.{take-append_seam, drop-append_seam}
 use Rattle.std.proofs.lemmas.Grind.{flat_map-append}
 use Rattle.std.proofs.lemmas.List.{reverse-append, reverse-reverse}
 use Rattle.std.specs.List.{flat_map}
-use Rattle.dns_name.specs.Labels.{Label, Name, IsName, label_octets, name_octets}
+use Rattle.dns_name.specs.Labels.{Label, Name, IsName, label_octets}
 use Rattle.name_trie.specs.Key.{name_key}
 
 -- the first label of a name comes last
@@ -43,9 +43,9 @@ labels_begin [] others rest e = (others, refl, e)
 labels_begin (l ∷ labels) [] rest e = cc e
 labels_begin (l ∷ labels) (m ∷ others) rest e =
     let heads : (length l ≡ length m) × ((l ++ flat_map label_octets labels) ++ rest ≡ m ++ flat_map label_octets others) =
-        head_same (length l) (length m) ((l ++ flat_map label_octets labels) ++ rest) (m ++ flat_map label_octets others) e in
+    head_same (length l) (length m) ((l ++ flat_map label_octets labels) ++ rest) (m ++ flat_map label_octets others) e in
     let parts : (l ≡ m) × (flat_map label_octets labels ++ rest ≡ flat_map label_octets others) =
-        same_parts l (flat_map label_octets labels ++ rest) m (flat_map label_octets others) heads.0 (sym (append_assoc l (flat_map label_octets labels) rest) ∙ heads.1) in
+    same_parts l (flat_map label_octets labels ++ rest) m (flat_map label_octets others) heads.0 (sym (append_assoc l (flat_map label_octets labels) rest) ∙ heads.1) in
     let deep = labels_begin labels others rest parts.1 in
     (deep.0, (λ i. sym parts.0 i ∷ deep.1 i), deep.2)
 
@@ -55,9 +55,9 @@ labels_same [] (m ∷ others) e = cc e
 labels_same (l ∷ labels) [] e = cc e
 labels_same (l ∷ labels) (m ∷ others) e =
     let heads : (length l ≡ length m) × (l ++ flat_map label_octets labels ≡ m ++ flat_map label_octets others) =
-        head_same (length l) (length m) (l ++ flat_map label_octets labels) (m ++ flat_map label_octets others) e in
+    head_same (length l) (length m) (l ++ flat_map label_octets labels) (m ++ flat_map label_octets others) e in
     let parts : (l ≡ m) × (flat_map label_octets labels ≡ flat_map label_octets others) =
-        same_parts l (flat_map label_octets labels) m (flat_map label_octets others) heads.0 heads.1 in
+    same_parts l (flat_map label_octets labels) m (flat_map label_octets others) heads.0 heads.1 in
     λ i. parts.0 i ∷ labels_same labels others parts.1 i
 
 -- names of one key are one

@@ -1,6 +1,6 @@
 use Rattle.std.proofs.Common.{sym, ap, ◌∙◌, append-nil}
 use Rattle.name_trie.specs.Key.{name_key}
-use Rattle.name_trie.proofs.Keys.{key_is_short, key_begins, key_of_front, key_same}
+use Rattle.name_trie.proofs.Keys.{key_is_short}
 use Rattle.name_trie.proofs.key.Key.of.Goals as goal
 
 pub loop-label-init : goal.loop-label-init
