@@ -1,0 +1,16 @@
+//! Maps from prefixes of addresses, whose versions share their nodes.
+#![tactic(auto)]
+
+mod bit_trie;
+mod build;
+mod copy;
+mod key;
+mod long;
+mod map;
+mod node;
+mod put;
+mod short;
+mod take;
+mod walk;
+
+pub use map::PrefixTrie;
