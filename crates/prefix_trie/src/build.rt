@@ -137,7 +137,8 @@ pub(crate) fn build<K: Key, N: Copy + Drop, M: Mark>(
     let first = entries[0];
     let common = first.0.common(&entries[entries.len() - 1].0);
     if common == first.0.len() {
-        build_above(nodes, first.0, first.1, &entries[1..])
+        let rest = &entries[1..];
+        build_above(nodes, first.0, first.1, rest)
     } else {
         build_apart(nodes, first.0.cut(common), first.1.value, entries)
     }
