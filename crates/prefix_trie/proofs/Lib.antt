@@ -6,3 +6,10 @@ pub mod Copying
 pub mod Building
 pub mod Plain
 pub mod Getting
+pub mod Commons
+pub mod Keyed
+pub mod OneList
+pub mod Same
+pub mod Last
+pub mod Ranking
+pub mod Finding

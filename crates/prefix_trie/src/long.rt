@@ -6,6 +6,7 @@ ghost use Rattle.prefix_trie.specs.Ranked.{prefix_six};
 ghost use Rattle.prefix_trie.specs.BitsLaws.{bits_laws, bits_binary};
 
 use crate::key::Key;
+use crate::node::Node;
 use ip_prefix::{Addr, Prefix};
 use std::marker::Model;
 
@@ -19,6 +20,9 @@ pub(crate) struct Long {
     low: u64,
     bits: u8,
 }
+
+// A node takes 40 octets, with a number of 32 bits and a mark of one octet.
+const _: () = prove!(size_of::<Node<Long, u32, bool>>() == 40);
 
 impl Model for Long {
     ghost use Rattle.std.specs.Prelude.{◌≡◌, ◌+◌, ◌*◌, ◌/◌, ◌%◌, ◌<◌, true};

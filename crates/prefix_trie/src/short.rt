@@ -6,6 +6,7 @@ ghost use Rattle.prefix_trie.specs.Ranked.{prefix_four};
 ghost use Rattle.prefix_trie.specs.BitsLaws.{bits_laws, bits_binary};
 
 use crate::key::Key;
+use crate::node::Node;
 use ip_prefix::{Addr, Prefix};
 use std::marker::Model;
 
@@ -15,6 +16,9 @@ pub(crate) struct Short {
     number: u32,
     bits: u8,
 }
+
+// A node takes 24 octets, with a number of 32 bits and a mark of one octet.
+const _: () = prove!(size_of::<Node<Short, u32, bool>>() == 24);
 
 impl Model for Short {
     ghost use Rattle.std.specs.Prelude.{◌≡◌, true};
