@@ -1,5 +1,5 @@
 -- The last entry of a trie whose key begins an address is the first in order of precedence that contains it.
-use Rattle.std.proofs.Common.{◌≡◌, ℕ, ◌+◌, ◌-◌, ◌<◌, ◌≤◌, ◌/◌, ◌^◌, ◌⊎◌, inl, inr, Bool, true, false, not, ◌&&◌, nat_lt, ◌==◌, cond, Option, Some, None, List, [], ◌∷◌, ◌++◌, map, refl, sym, ap, ◌∙◌, subst, arith, is_eq, nat_cmp}
+use Rattle.std.proofs.Common.{◌≡◌, ℕ, ◌+◌, ◌-◌, ◌<◌, ◌≤◌, ◌/◌, ◌^◌, ◌⊎◌, inl, inr, Bool, true, false, not, ◌&&◌, nat_lt, ◌==◌, cond, Option, Some, None, List, [], ◌∷◌, ◌++◌, map, refl, sym, ap, ◌∙◌, subst, arith, append-nil, is_eq, nat_cmp}
 use Rattle.std.proofs.lemmas.Bool.Decides.{nat_tests}
 use Rattle.std.specs.BTreeMap.{insert_entry, is_at}
 use Rattle.std.specs.Cmp.{tied_itself}
@@ -10,14 +10,15 @@ use Rattle.std.specs.Option.{option_map}
 use Rattle.std.specs.Ordering.{match_ordering, ordering_then}
 use Rattle.std.specs.declared.cmp.Ordering.{Ordering}
 use Rattle.std.specs.declared.cmp.Ordering.TheVariants.{Less, Equal, Greater}
+use Rattle.ip_prefix.specs.declared.Addr.{Addr}
 use Rattle.ip_prefix.specs.declared.Addr.TheVariants.{V4, V6}
 use Rattle.ip_prefix.specs.Prefix.{PlainPrefix, contains, prefix_order}
-use Rattle.trie_keys.specs.Keys.{Keys, KeyLaws, begins}
+use Rattle.trie_keys.specs.Entries.{all_append, all_map}
+use Rattle.trie_keys.specs.Keys.{begins}
 use Rattle.trie_keys.specs.Sorting.{AreEntries}
-use Rattle.prefix_trie.specs.Walk.{last_where}
+use Rattle.prefix_trie.specs.Walk.{is_hit, last_hit}
 use Rattle.prefix_trie.specs.Bits.{PlainBits, bits_order, bits_agree, bits_valid, bits_keys}
 use Rattle.prefix_trie.specs.BitsLaws.{bits_laws, at_most}
-use Rattle.prefix_trie.specs.Longest.{longest}
 use Rattle.prefix_trie.specs.Order.{prefix_order_total}
 use Rattle.prefix_trie.specs.Ranked.{prefix_four, prefix_six, prefixes, ranked, ranked_prefixes}
 use Rattle.prefix_trie.proofs.Keyed.{Above, above-below}
@@ -42,6 +43,10 @@ false_true b e f = let k : false ≡ true = sym e ∙ f in cc k
 and_true : (a b : Bool) → b ≡ true → (a && b) ≡ a
 and_true true b e = e
 and_true false b e = refl
+
+and_false : (a b : Bool) → a ≡ false → (a && b) ≡ false
+and_false true b e = cc e
+and_false false b e = refl
 
 within : (x y : ℕ) → y ≤ x → not (nat_lt x y) ≡ true
 within x y h = grind (arith, nat_tests)
@@ -69,6 +74,9 @@ module _ {V : Type 0} where
   abbrev look : PlainPrefix → List (PlainPrefix × V) → Option V
   look q es = lookup (is_at (prefix_order q)) es
 
+  abbrev mapped : (PlainBits → PlainPrefix) → List (PlainBits × V) → List (PlainPrefix × V)
+  mapped of es = map (λ e. (of e.0, e.1)) es
+
   some_same : (x y : V) → Some x ≡ Some y → x ≡ y
   some_same x y e = cc e
 
@@ -76,103 +84,108 @@ module _ {V : Type 0} where
   no_some x e = cc e
 
   -- what is so of all is so of all in order
-  pick : (P : PlainPrefix → Type 0) (o : Ordering) (xs ys zs : List (PlainPrefix × V)) → AllByRecursion (λ e. P e.0) xs → AllByRecursion (λ e. P e.0) ys → AllByRecursion (λ e. P e.0) zs → AllByRecursion (λ e. P e.0) (match_ordering o xs ys zs)
-  pick P Less xs ys zs p q r = p
-  pick P Equal xs ys zs p q r = q
-  pick P Greater xs ys zs p q r = r
-
-  all_inserted : (P : PlainPrefix → Type 0) (k : PlainPrefix) (v : V) (es : List (PlainPrefix × V)) → P k → AllByRecursion (λ e. P e.0) es → AllByRecursion (λ e. P e.0) (insert_entry prefix_order es k v)
+  all_inserted : (P : PlainPrefix × V → Type 0) (k : PlainPrefix) (v : V) (es : List (PlainPrefix × V)) → P (k, v) → AllByRecursion P es → AllByRecursion P (insert_entry prefix_order es k v)
   all_inserted P k v [] here all = (here, tt)
-  all_inserted P k v (e ∷ es) here all = pick P (prefix_order k e.0) ((k, v) ∷ e ∷ es) ((e.0, v) ∷ es) (e ∷ insert_entry prefix_order es k v) (here, all) (all.0, all.1) (all.0, all_inserted P k v es here all.1)
+  all_inserted P k v (e ∷ es) here all =
+      elim (prefix_order k e.0) as (λ o. prefix_order k e.0 ≡ o → AllByRecursion P (match_ordering o ((k, v) ∷ e ∷ es) ((e.0, v) ∷ es) (e ∷ insert_entry prefix_order es k v))) [
+        | Less ↦ λ h. (here, all)
+        | Equal ↦ λ h. (subst (λ q. P (q, v)) (same_prefix k e.0 h) here, all.1)
+        | Greater ↦ λ h. (all.0, all_inserted P k v es here all.1)
+      ] refl
 
-  all_ranked : (P : PlainPrefix → Type 0) (es : List (PlainPrefix × V)) → AllByRecursion (λ e. P e.0) es → AllByRecursion (λ e. P e.0) (ranked es)
+  all_ranked : (P : PlainPrefix × V → Type 0) (es : List (PlainPrefix × V)) → AllByRecursion P es → AllByRecursion P (ranked es)
   all_ranked P [] all = tt
   all_ranked P (e ∷ es) all = all_inserted P e.0 e.1 (ranked es) all.0 (all_ranked P es all.1)
 
-  all_append : (P : PlainPrefix → Type 0) (xs ys : List (PlainPrefix × V)) → AllByRecursion (λ e. P e.0) xs → AllByRecursion (λ e. P e.0) ys → AllByRecursion (λ e. P e.0) (xs ++ ys)
-  all_append P [] ys a b = b
-  all_append P (x ∷ xs) ys a b = (a.0, all_append P xs ys a.1 b)
-
-  all_of : (of : PlainBits → PlainPrefix) (P : PlainPrefix → Type 0) (Q : PlainBits → Type 0) (es : List (PlainBits × V)) → ((b : PlainBits) → Q b → P (of b)) → AllByRecursion (λ e. Q e.0) es → AllByRecursion (λ (e : PlainPrefix × V). P e.0) (map (λ e. (of e.0, e.1)) es)
+  all_of : (of : PlainBits → PlainPrefix) (P : PlainPrefix × V → Type 0) (Q : PlainBits × V → Type 0) (es : List (PlainBits × V)) → ((e : PlainBits × V) → Q e → P (of e.0, e.1)) → AllByRecursion Q es → AllByRecursion P (mapped of es)
   all_of of P Q [] f all = tt
-  all_of of P Q (e ∷ es) f all = (f e.0 all.0, all_of of P Q es f all.1)
+  all_of of P Q (e ∷ es) f all = (f e all.0, all_of of P Q es f all.1)
 
-  all_any : (of : PlainBits → PlainPrefix) (P : PlainPrefix → Type 0) (es : List (PlainBits × V)) → ((b : PlainBits) → P (of b)) → AllByRecursion (λ (e : PlainPrefix × V). P e.0) (map (λ e. (of e.0, e.1)) es)
+  all_any : (of : PlainBits → PlainPrefix) (P : PlainPrefix × V → Type 0) (es : List (PlainBits × V)) → ((e : PlainBits × V) → P (of e.0, e.1)) → AllByRecursion P (mapped of es)
   all_any of P [] f = tt
-  all_any of P (e ∷ es) f = (f e.0, all_any of P es f)
+  all_any of P (e ∷ es) f = (f e, all_any of P es f)
 
-  both : (P Q S : PlainBits → Type 0) (es : List (PlainBits × V)) → ((b : PlainBits) → P b → Q b → S b) → AllByRecursion (λ e. P e.0) es → AllByRecursion (λ e. Q e.0) es → AllByRecursion (λ e. S e.0) es
+  both : (P Q S : PlainBits × V → Type 0) (es : List (PlainBits × V)) → ((e : PlainBits × V) → P e → Q e → S e) → AllByRecursion P es → AllByRecursion Q es → AllByRecursion S es
   both P Q S [] f p q = tt
-  both P Q S (e ∷ es) f p q = (f e.0 p.0 q.0, both P Q S es f p.1 q.1)
+  both P Q S (e ∷ es) f p q = (f e p.0 q.0, both P Q S es f p.1 q.1)
 
-  find_none : (test : PlainPrefix → Bool) (es : List (PlainPrefix × V)) → AllByRecursion (λ e. test e.0 ≡ false) es → find (λ e. test e.0) es ≡ None
+  find_none : (test : PlainPrefix × V → Bool) (es : List (PlainPrefix × V)) → AllByRecursion (λ e. test e ≡ false) es → find test es ≡ None
   find_none test [] all = refl
-  find_none test (e ∷ es) all = ap (λ b. cond b (Some e) (find (λ x. test x.0) es)) all.0 ∙ find_none test es all.1
+  find_none test (e ∷ es) all = ap (λ b. cond b (Some e) (find test es)) all.0 ∙ find_none test es all.1
 
   -- an entry that passes, and that no other that passes comes before, is found first
-  find_first : (test : PlainPrefix → Bool) (p : PlainPrefix) (v : V) (es : List (PlainPrefix × V)) → IsStrictlySortedBy prefix_order (keys_of es)
-      → AllByRecursion (λ x. test x.0 ≡ true → (prefix_order p x.0 ≡ Less) ⊎ (x.0 ≡ p)) es → look p es ≡ Some v → test p ≡ true → find (λ x. test x.0) es ≡ Some (p, v)
+  find_first : (test : PlainPrefix × V → Bool) (p : PlainPrefix) (v : V) (es : List (PlainPrefix × V)) → IsStrictlySortedBy prefix_order (keys_of es)
+      → AllByRecursion (λ x. test x ≡ true → (prefix_order p x.0 ≡ Less) ⊎ (x.0 ≡ p)) es → look p es ≡ Some v → test (p, v) ≡ true → find test es ≡ Some (p, v)
   unfolding IsStrictlySortedBy
   find_first test p v [] sorted all here passes = absurd (no_some v here)
   find_first test p v (x ∷ xs) sorted all here passes =
-      elim (prefix_order p x.0) as (λ o. prefix_order p x.0 ≡ o → cond (is_eq o) (Some x.1) (look p xs) ≡ Some v → find (λ y. test y.0) (x ∷ xs) ≡ Some (p, v)) [
+      elim (prefix_order p x.0) as (λ o. prefix_order p x.0 ≡ o → cond (is_eq o) (Some x.1) (look p xs) ≡ Some v → find test (x ∷ xs) ≡ Some (p, v)) [
         | Less ↦ λ o h. absurd (no_some v (sym (none_above prefix_order_total p xs (above-below prefix_order_total p x.0 (keys_of xs) o sorted.0)) ∙ h))
         | Equal ↦ λ o h.
             let same : p ≡ x.0 = same_prefix p x.0 o in
             let value : x.1 ≡ v = some_same x.1 v h in
-            ap (λ b. cond b (Some x) (find (λ y. test y.0) xs)) (ap test (sym same) ∙ passes) ∙ (λ i. Some (sym same i, value i))
+            let entry : PlainPrefix × V = (p, v) in
+            let whole : x ≡ entry = λ i. (sym same i, value i) in
+            ap (λ b. cond b (Some x) (find test xs)) (ap test whole ∙ passes) ∙ ap (λ (e : PlainPrefix × V). Some e) whole
         | Greater ↦ λ o h.
-            let skipped : test x.0 ≡ false = never (test x.0) (λ t. elim (all.0 t) as (λ _. ⊥) [
+            let skipped : test x ≡ false = never (test x) (λ t. elim (all.0 t) as (λ _. ⊥) [
               | inl lt ↦ not_both (prefix_order p x.0) lt o
               | inr e ↦ not_tied (prefix_order p x.0) (ap (prefix_order p) e ∙ tied_itself prefix_order_total p) o
             ]) in
-            ap (λ b. cond b (Some x) (find (λ y. test y.0) xs)) skipped ∙ find_first test p v xs sorted.1 all.1 h passes
+            ap (λ b. cond b (Some x) (find test xs)) skipped ∙ find_first test p v xs sorted.1 all.1 h passes
       ] refl here
 
-  -- ---- an address of version 4
+  -- an address at which the entry acts and that its prefix contains
+  abbrev passes_at : (V → Bool) → Addr → PlainPrefix × V → Bool
+  passes_at acts addr e = contains e.0 addr && acts e.1
 
-  pub longest_four : (four six : List (PlainBits × V)) (n : ℕ) → AreEntries (bits_keys 32) four
-      → option_map (λ e. (prefix_four e.0, e.1)) (last_where (λ k. begins (bits_keys 32) k (record { number = n; len = 32 })) four) ≡ longest (V4 n) (ranked_prefixes four six)
-  longest_four four six n is =
-      let key : PlainBits = record { number = n; len = 32 } in
-      let test = λ (p : PlainPrefix). contains p (V4 n) in
-      elim (last_where (λ k. begins (bits_keys 32) k key) four) as (λ o. last_where (λ k. begins (bits_keys 32) k key) four ≡ o → option_map (λ e. (prefix_four e.0, e.1)) o ≡ longest (V4 n) (ranked_prefixes four six)) [
+-- one family, and the entries of the other
+module _ {V : Type 0} (acts : V → Bool) (width : ℕ) (of : PlainBits → PlainPrefix) (addr : Addr) (key : PlainBits) (begins_is : (b : PlainBits) → bits_valid width b ≡ true → begins (bits_keys width) b key ≡ contains (of b) addr) (longer : (a b : PlainBits) → a.len < b.len → prefix_order (of b) (of a) ≡ Less) where
+  hit_is : (e : PlainBits × V) → bits_valid width e.0 ≡ true → is_hit (bits_keys width) acts key e ≡ passes_at acts addr (of e.0, e.1)
+  hit_is e valid = ap (λ t. t && acts e.1) (begins_is e.0 valid)
+
+  longest_of : (es : List (PlainBits × V)) (ps left right : List (PlainPrefix × V)) → ps ≡ left ++ (mapped of es ++ right) → AllByRecursion (λ e. contains e.0 addr ≡ false) left → AllByRecursion (λ e. contains e.0 addr ≡ false) right
+      → ((b : PlainBits) → look (of b) (ranked ps) ≡ lookup (is_at (bits_order b)) es) → AreEntries (bits_keys width) es
+      → option_map (λ e. (of e.0, e.1)) (last_hit (bits_keys width) acts key es) ≡ find (passes_at acts addr) (ranked ps)
+  longest_of es ps left right split before behind found_at is =
+      let test : PlainPrefix × V → Bool = passes_at acts addr in
+      let hit : PlainBits × V → Bool = is_hit (bits_keys width) acts key in
+      elim (last_hit (bits_keys width) acts key es) as (λ o. last_hit (bits_keys width) acts key es ≡ o → option_map (λ e. (of e.0, e.1)) o ≡ find test (ranked ps)) [
         | None ↦ λ none.
-            let not_four = both (λ b. bits_valid 32 b ≡ true) (λ b. begins (bits_keys 32) b key ≡ false) (λ b. contains (prefix_four b) (V4 n) ≡ false) four (λ b v h. sym (in_four b n v) ∙ h) is.valid (last_none_all (λ k. begins (bits_keys 32) k key) four none) in
-            sym (find_none test (ranked_prefixes four six) (all_ranked (λ p. test p ≡ false) (prefixes four six)
-            (all_append (λ p. test p ≡ false) _ _ (all_of prefix_four (λ p. test p ≡ false) (λ b. contains (prefix_four b) (V4 n) ≡ false) four (λ b h. h) not_four) (all_any prefix_six (λ p. test p ≡ false) six (λ b. refl)))))
+            let P : PlainPrefix × V → Type 0 = λ e. test e ≡ false in
+            let here : AllByRecursion P (mapped of es) =
+            all_of of P (λ e. test (of e.0, e.1) ≡ false) es (λ e h. h)
+            (both (λ e. bits_valid width e.0 ≡ true) (λ e. hit e ≡ false) (λ e. test (of e.0, e.1) ≡ false) es (λ e v h. sym (hit_is e v) ∙ h) is.valid (last_none_all hit es none)) in
+            sym (find_none test (ranked ps) (all_ranked P ps (subst (λ xs. AllByRecursion P xs) (sym split)
+            (all_append P left (mapped of es ++ right) (all_map (λ e. contains e.0 addr ≡ false) P left (λ e h. and_false (contains e.0 addr) (acts e.1) h) before)
+            (all_append P (mapped of es) right here (all_map (λ e. contains e.0 addr ≡ false) P right (λ e h. and_false (contains e.0 addr) (acts e.1) h) behind))))))
         | Some e ↦ λ some.
-            let found = last_found (bits_keys 32) (bits_laws 32) key four e is.valid is.sorted some in
-            let valid : bits_valid 32 e.0 ≡ true = last_all (λ k. begins (bits_keys 32) k key) (λ y. bits_valid 32 y.0 ≡ true) four e is.valid some in
-            let passes : contains (prefix_four e.0) (V4 n) ≡ true = sym (in_four e.0 n valid) ∙ last_passes (λ k. begins (bits_keys 32) k key) four e some in
-            let below = both (λ b. bits_valid 32 b ≡ true) (IsBelow (bits_keys 32) (bits_laws 32) key e.0) (λ b. test (prefix_four b) ≡ true → (prefix_order (prefix_four e.0) (prefix_four b) ≡ Less) ⊎ (prefix_four b ≡ prefix_four e.0)) four
-            (λ b v h t. elim (h (in_four b n v ∙ t)) as (λ _. (prefix_order (prefix_four e.0) (prefix_four b) ≡ Less) ⊎ (prefix_four b ≡ prefix_four e.0)) [ inl lt ↦ inl (longer_four b e.0 lt) | inr s ↦ inr (ap prefix_four s) ])
-            is.valid found.1 in
-            let P = λ (p : PlainPrefix). test p ≡ true → (prefix_order (prefix_four e.0) p ≡ Less) ⊎ (p ≡ prefix_four e.0) in
-            sym (find_first test (prefix_four e.0) e.1 (ranked_prefixes four six) (sorted_ranked (prefixes four six))
-            (all_ranked P (prefixes four six) (all_append P _ _ (all_of prefix_four P (λ b. P (prefix_four b)) four (λ b h. h) below) (all_any prefix_six P six (λ b t. absurd (false_true _ refl t)))))
-            (look_four e.0 four six ∙ found.0) passes)
+            let found = last_found (bits_keys width) (bits_laws width) acts key es e is.valid is.sorted some in
+            let valid : bits_valid width e.0 ≡ true = last_all hit (λ y. bits_valid width y.0 ≡ true) es e is.valid some in
+            let passes : test (of e.0, e.1) ≡ true = sym (hit_is e valid) ∙ last_passes hit es e some in
+            let P : PlainPrefix × V → Type 0 = λ x. test x ≡ true → (prefix_order (of e.0) x.0 ≡ Less) ⊎ (x.0 ≡ of e.0) in
+            let away : (x : PlainPrefix × V) → contains x.0 addr ≡ false → P x = λ x h t. absurd (false_true (test x) (and_false (contains x.0 addr) (acts x.1) h) t) in
+            let here : AllByRecursion P (mapped of es) =
+            all_of of P (λ x. P (of x.0, x.1)) es (λ x h. h)
+            (both (λ x. bits_valid width x.0 ≡ true) (IsBelow (bits_keys width) (bits_laws width) acts key e.0) (λ x. P (of x.0, x.1)) es
+            (λ x v h t. elim (h (hit_is x v ∙ t)) as (λ _. (prefix_order (of e.0) (of x.0) ≡ Less) ⊎ (of x.0 ≡ of e.0)) [ inl lt ↦ inl (longer x.0 e.0 lt) | inr s ↦ inr (ap of s) ])
+            is.valid found.1) in
+            sym (find_first test (of e.0) e.1 (ranked ps) (sorted_ranked ps)
+            (all_ranked P ps (subst (λ xs. AllByRecursion P xs) (sym split)
+            (all_append P left (mapped of es ++ right) (all_map (λ x. contains x.0 addr ≡ false) P left away before)
+            (all_append P (mapped of es) right here (all_map (λ x. contains x.0 addr ≡ false) P right away behind)))))
+            (found_at e.0 ∙ found.0) passes)
       ] refl
+
+module _ {V : Type 0} (acts : V → Bool) where
+  pub longest_four : (four six : List (PlainBits × V)) (n : ℕ) → AreEntries (bits_keys 32) four
+      → option_map (λ e. (prefix_four e.0, e.1)) (last_hit (bits_keys 32) acts (record { number = n; len = 32 }) four) ≡ find (passes_at acts (V4 n)) (ranked_prefixes four six)
+  longest_four four six n is =
+      longest_of acts 32 prefix_four (V4 n) (record { number = n; len = 32 }) (λ b v. in_four b n v) longer_four four (prefixes four six) [] (mapped prefix_six six) refl tt
+      (all_any prefix_six (λ e. contains e.0 (V4 n) ≡ false) six (λ e. refl)) (λ b. look_four b four six) is
 
   pub longest_six : (four six : List (PlainBits × V)) (n : ℕ) → AreEntries (bits_keys 128) six
-      → option_map (λ e. (prefix_six e.0, e.1)) (last_where (λ k. begins (bits_keys 128) k (record { number = n; len = 128 })) six) ≡ longest (V6 n) (ranked_prefixes four six)
+      → option_map (λ e. (prefix_six e.0, e.1)) (last_hit (bits_keys 128) acts (record { number = n; len = 128 }) six) ≡ find (passes_at acts (V6 n)) (ranked_prefixes four six)
   longest_six four six n is =
-      let key : PlainBits = record { number = n; len = 128 } in
-      let test = λ (p : PlainPrefix). contains p (V6 n) in
-      elim (last_where (λ k. begins (bits_keys 128) k key) six) as (λ o. last_where (λ k. begins (bits_keys 128) k key) six ≡ o → option_map (λ e. (prefix_six e.0, e.1)) o ≡ longest (V6 n) (ranked_prefixes four six)) [
-        | None ↦ λ none.
-            let not_six = both (λ b. bits_valid 128 b ≡ true) (λ b. begins (bits_keys 128) b key ≡ false) (λ b. contains (prefix_six b) (V6 n) ≡ false) six (λ b v h. sym (in_six b n v) ∙ h) is.valid (last_none_all (λ k. begins (bits_keys 128) k key) six none) in
-            sym (find_none test (ranked_prefixes four six) (all_ranked (λ p. test p ≡ false) (prefixes four six)
-            (all_append (λ p. test p ≡ false) _ _ (all_any prefix_four (λ p. test p ≡ false) four (λ b. refl)) (all_of prefix_six (λ p. test p ≡ false) (λ b. contains (prefix_six b) (V6 n) ≡ false) six (λ b h. h) not_six))))
-        | Some e ↦ λ some.
-            let found = last_found (bits_keys 128) (bits_laws 128) key six e is.valid is.sorted some in
-            let valid : bits_valid 128 e.0 ≡ true = last_all (λ k. begins (bits_keys 128) k key) (λ y. bits_valid 128 y.0 ≡ true) six e is.valid some in
-            let passes : contains (prefix_six e.0) (V6 n) ≡ true = sym (in_six e.0 n valid) ∙ last_passes (λ k. begins (bits_keys 128) k key) six e some in
-            let below = both (λ b. bits_valid 128 b ≡ true) (IsBelow (bits_keys 128) (bits_laws 128) key e.0) (λ b. test (prefix_six b) ≡ true → (prefix_order (prefix_six e.0) (prefix_six b) ≡ Less) ⊎ (prefix_six b ≡ prefix_six e.0)) six
-            (λ b v h t. elim (h (in_six b n v ∙ t)) as (λ _. (prefix_order (prefix_six e.0) (prefix_six b) ≡ Less) ⊎ (prefix_six b ≡ prefix_six e.0)) [ inl lt ↦ inl (longer_six b e.0 lt) | inr s ↦ inr (ap prefix_six s) ])
-            is.valid found.1 in
-            let P = λ (p : PlainPrefix). test p ≡ true → (prefix_order (prefix_six e.0) p ≡ Less) ⊎ (p ≡ prefix_six e.0) in
-            sym (find_first test (prefix_six e.0) e.1 (ranked_prefixes four six) (sorted_ranked (prefixes four six))
-            (all_ranked P (prefixes four six) (all_append P _ _ (all_any prefix_four P four (λ b t. absurd (false_true _ refl t))) (all_of prefix_six P (λ b. P (prefix_six b)) six (λ b h. h) below)))
-            (look_six e.0 four six ∙ found.0) passes)
-      ] refl
+      longest_of acts 128 prefix_six (V6 n) (record { number = n; len = 128 }) (λ b v. in_six b n v) longer_six six (prefixes four six) (mapped prefix_four four) []
+      (ap (λ xs. mapped prefix_four four ++ xs) (sym (append-nil (mapped prefix_six six)))) (all_any prefix_four (λ e. contains e.0 (V6 n) ≡ false) four (λ e. refl)) tt (λ b. look_six b four six) is

@@ -13,12 +13,8 @@ use Rattle.std.specs.declared.cmp.Ordering.TheVariants.{Less, Equal, Greater}
 use Rattle.ip_prefix.specs.declared.Addr.{Addr}
 use Rattle.ip_prefix.specs.declared.Addr.TheVariants.{V4, V6}
 use Rattle.ip_prefix.specs.Prefix.{PlainPrefix, contains, prefix_order}
-use Rattle.trie_keys.specs.Keys.{Keys, KeyLaws, begins}
-use Rattle.trie_keys.specs.Sorting.{AreEntries}
-use Rattle.prefix_trie.specs.Walk.{last_where}
 use Rattle.prefix_trie.specs.Bits.{PlainBits, bits_order, bits_valid, bits_keys}
 use Rattle.prefix_trie.specs.BitsLaws.{bits_laws}
-use Rattle.prefix_trie.specs.Longest.{longest}
 use Rattle.prefix_trie.specs.Order.{prefix_order_total}
 use Rattle.prefix_trie.specs.Ranked.{AreSome, prefix_four, prefix_six, prefixes, ranked, ranked_prefixes}
 use Rattle.prefix_trie.proofs.Keyed.{lookup-insert_entry, lookup-remove_entry, lookup-same, ordered-insert, ordered-remove, tied_if, same_place, at_itself, apart_from, ordered-others, Above, above-below}

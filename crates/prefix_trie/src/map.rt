@@ -1,13 +1,19 @@
 //! A map from prefixes.
 
-ghost use Rattle.std.specs.Prelude.{◌≡◌, []};
+ghost use Rattle.std.specs.Prelude.{◌≡◌, ◌+◌, ◌≤◌, [], true, IfOk};
+ghost use Rattle.std.specs.BTreeMap.{insert_entry, is_at};
+ghost use Rattle.std.specs.Map.{lookup, remove_entry};
+ghost use Rattle.ip_prefix.specs.Prefix.{prefix_order};
+ghost use Rattle.prefix_trie.specs.Longest.{longest_acting};
 
 use crate::bit_trie::BitTrie;
 use crate::long::Long;
 use crate::short::Short;
-use std::alloc::Global;
+use ip_prefix::{Addr, Prefix};
+use std::alloc::{AllocError, Global};
 use std::marker::Model;
-use trie_keys::{Mark, Marked};
+use std::sync::ledger::Ledger;
+use trie_keys::{Mark, Marked, Steps};
 
 /// A map from prefixes to plain values with their marks. Contracts see the list of its entries in the order of precedence of their
 /// prefixes, each prefix once. An edit gives a new version, and the two share what is the same in both.
@@ -15,7 +21,6 @@ use trie_keys::{Mark, Marked};
 pub struct PrefixTrie<N, M: Mark> {
     four: BitTrie<Short, N, M>,
     six: BitTrie<Long, N, M>,
-    alloc: Global,
 }
 
 impl<N, M: Mark> Model for PrefixTrie<N, M> {
@@ -39,7 +44,107 @@ impl<N: Copy + Drop, M: Mark> PrefixTrie<N, M> {
         PrefixTrie {
             four: BitTrie::empty(alloc),
             six: BitTrie::empty(alloc),
-            alloc,
+        }
+    }
+
+    /// The same version once more: for an edit of many prefixes, by [`inserted`](Self::inserted) and [`removed`](Self::removed),
+    /// which leaves this version as it is.
+    pub fn share(&self) -> Result<Self, AllocError>
+        ensures { IfOk result (λ trie. trie ≡ self.now) }
+    {
+        let four = self.four.share()?;
+        let six = self.six.share()?;
+        Ok(PrefixTrie { four, six })
+    }
+
+    /// The same version, of copies of the nodes in use alone.
+    pub fn rebuilt(&self) -> Result<Self, AllocError>
+        ensures { IfOk result (λ trie. trie ≡ self.now) }
+    {
+        let four = self.four.rebuilt()?;
+        let six = self.six.rebuilt()?;
+        Ok(PrefixTrie { four, six })
+    }
+
+    /// With the value at the prefix. This version stays as it is.
+    pub fn with(&self, prefix: &Prefix, value: Marked<N, M>) -> Result<Self, AllocError>
+        requires { M.present value.mark ≡ true }
+        ensures { IfOk result (λ trie. trie ≡ insert_entry prefix_order self.now prefix.now value) }
+    {
+        self.share()?.inserted(prefix, value)
+    }
+
+    /// Without the prefix. This version stays as it is.
+    pub fn without(&self, prefix: &Prefix) -> Result<Self, AllocError>
+        ensures { IfOk result (λ trie. trie ≡ remove_entry (is_at (prefix_order prefix.now)) self.now) }
+    {
+        self.share()?.removed(prefix)
+    }
+
+    /// With the value at the prefix, in place of this version: one of many edits.
+    pub fn inserted(self, prefix: &Prefix, value: Marked<N, M>) -> Result<Self, AllocError>
+        requires { M.present value.mark ≡ true }
+        ensures { IfOk result (λ trie. trie ≡ insert_entry prefix_order self prefix.now value) }
+    {
+        let PrefixTrie { four, six } = self;
+        match prefix.addr() {
+            Addr::V4(number) => {
+                let four = four.inserted(Short::new(number, prefix.length()), value)?;
+                Ok(PrefixTrie { four, six })
+            }
+            Addr::V6(number) => {
+                let six = six.inserted(Long::new(number, prefix.length()), value)?;
+                Ok(PrefixTrie { four, six })
+            }
+        }
+    }
+
+    /// Without the prefix, in place of this version: one of many edits.
+    pub fn removed(self, prefix: &Prefix) -> Result<Self, AllocError>
+        ensures { IfOk result (λ trie. trie ≡ remove_entry (is_at (prefix_order prefix.now)) self) }
+    {
+        let PrefixTrie { four, six } = self;
+        match prefix.addr() {
+            Addr::V4(number) => {
+                let four = four.removed(&Short::new(number, prefix.length()))?;
+                Ok(PrefixTrie { four, six })
+            }
+            Addr::V6(number) => {
+                let six = six.removed(&Long::new(number, prefix.length()))?;
+                Ok(PrefixTrie { four, six })
+            }
+        }
+    }
+
+    /// The value at exactly this prefix, whether it acts or not. It takes no memory.
+    pub fn get(&self, prefix: &Prefix) -> Option<Marked<N, M>>
+        ensures { result ≡ lookup (is_at (prefix_order prefix.now)) self.now }
+    {
+        match prefix.addr() {
+            Addr::V4(number) => self.four.get(&Short::new(number, prefix.length())),
+            Addr::V6(number) => self.six.get(&Long::new(number, prefix.length())),
+        }
+    }
+
+    /// The entry of the longest prefix that contains the address, of those that act: the first such entry in the order of
+    /// precedence. It takes no memory, and looks at no more than 129 nodes.
+    pub fn longest<L: Ledger>(
+        &self,
+        addr: Addr,
+        steps: &mut Steps<L>,
+    ) -> Option<(Prefix, Marked<N, M>)>
+        ensures found { result ≡ longest_acting M.acts addr self.now }
+        ensures cost { steps.new ≤ steps.old + 129 }
+    {
+        match addr {
+            Addr::V4(number) => match self.four.longest(&Short::new(number, 32), steps) {
+                Some(found) => Some((found.0.prefix(), found.1)),
+                None => None,
+            },
+            Addr::V6(number) => match self.six.longest(&Long::new(number, 128), steps) {
+                Some(found) => Some((found.0.prefix(), found.1)),
+                None => None,
+            },
         }
     }
 }
