@@ -21,7 +21,7 @@ use Rattle.prefix_trie.specs.Bits.{PlainBits, bits_order, bits_agree, bits_valid
 use Rattle.prefix_trie.specs.BitsLaws.{bits_laws, at_most}
 use Rattle.prefix_trie.specs.Order.{prefix_order_total}
 use Rattle.prefix_trie.specs.Ranked.{prefix_four, prefix_six, prefixes, ranked, ranked_prefixes}
-use Rattle.prefix_trie.proofs.Keyed.{Above, above-below}
+use Rattle.prefix_trie.proofs.ByKey.{Above, above-below}
 use Rattle.prefix_trie.proofs.Last.{IsBelow, last_found, last_all, last_passes, last_none_all}
 use Rattle.prefix_trie.proofs.OneList.{none_above}
 use Rattle.prefix_trie.proofs.Ranking.{look_four, look_six, sorted_ranked}

@@ -7,9 +7,13 @@ pub mod Building
 pub mod Plain
 pub mod Getting
 pub mod Commons
-pub mod Keyed
+pub mod ByKey
 pub mod OneList
 pub mod Same
 pub mod Last
 pub mod Ranking
 pub mod Finding
+pub mod Growing
+pub mod Permuting
+pub mod Making
+pub mod Keying

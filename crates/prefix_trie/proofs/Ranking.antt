@@ -17,7 +17,7 @@ use Rattle.prefix_trie.specs.Bits.{PlainBits, bits_order, bits_valid, bits_keys}
 use Rattle.prefix_trie.specs.BitsLaws.{bits_laws}
 use Rattle.prefix_trie.specs.Order.{prefix_order_total}
 use Rattle.prefix_trie.specs.Ranked.{AreSome, prefix_four, prefix_six, prefixes, ranked, ranked_prefixes}
-use Rattle.prefix_trie.proofs.Keyed.{lookup-insert_entry, lookup-remove_entry, lookup-same, ordered-insert, ordered-remove, tied_if, same_place, at_itself, apart_from, ordered-others, Above, above-below}
+use Rattle.prefix_trie.proofs.ByKey.{lookup-insert_entry, lookup-remove_entry, lookup-same, ordered-insert, ordered-remove, tied_if, same_place, at_itself, apart_from, ordered-others, Above, above-below}
 use Rattle.prefix_trie.proofs.OneList.{same_entries, none_above, none_found}
 use Rattle.prefix_trie.proofs.Same.{same_prefix}
 
@@ -37,7 +37,7 @@ not_true b e f = let k : false ≡ true = sym e ∙ f in cc k
 same_at : (p q : PlainPrefix) → is_at (prefix_order p) q ≡ true → p ≡ q
 same_at p q h = same_prefix p q (tied_if (prefix_order p q) h)
 
-bits_total : IsTotalOrder bits_order
+pub bits_total : IsTotalOrder bits_order
 bits_total = (bits_laws 0).total
 
 same_bits : (a b : PlainBits) → is_at (bits_order a) b ≡ true → a ≡ b
@@ -55,22 +55,22 @@ abbrev is_six : Addr → Bool
 is_six (V4 n) = false
 is_six (V6 n) = true
 
-four_at : (a b : PlainBits) → is_at (prefix_order (prefix_four a)) (prefix_four b) ≡ is_at (bits_order a) b
+pub four_at : (a b : PlainBits) → is_at (prefix_order (prefix_four a)) (prefix_four b) ≡ is_at (bits_order a) b
 four_at a b =
     both_ways _ _
     (λ h. let same : a ≡ b = ap bits_of (same_at (prefix_four a) (prefix_four b) h) in ap (λ (c : PlainBits). is_at (bits_order a) c) (sym same) ∙ at_itself bits_total a)
     (λ h. let same : a ≡ b = same_bits a b h in ap (λ (c : PlainBits). is_at (prefix_order (prefix_four a)) (prefix_four c)) (sym same) ∙ at_itself prefix_order_total (prefix_four a))
 
-six_at : (a b : PlainBits) → is_at (prefix_order (prefix_six a)) (prefix_six b) ≡ is_at (bits_order a) b
+pub six_at : (a b : PlainBits) → is_at (prefix_order (prefix_six a)) (prefix_six b) ≡ is_at (bits_order a) b
 six_at a b =
     both_ways _ _
     (λ h. let same : a ≡ b = ap bits_of (same_at (prefix_six a) (prefix_six b) h) in ap (λ (c : PlainBits). is_at (bits_order a) c) (sym same) ∙ at_itself bits_total a)
     (λ h. let same : a ≡ b = same_bits a b h in ap (λ (c : PlainBits). is_at (prefix_order (prefix_six a)) (prefix_six c)) (sym same) ∙ at_itself prefix_order_total (prefix_six a))
 
-four_not_six : (a b : PlainBits) → is_at (prefix_order (prefix_four a)) (prefix_six b) ≡ false
+pub four_not_six : (a b : PlainBits) → is_at (prefix_order (prefix_four a)) (prefix_six b) ≡ false
 four_not_six a b = never _ (λ h. let k : false ≡ true = ap (λ (p : PlainPrefix). is_six p.addr) (same_at (prefix_four a) (prefix_six b) h) in cc k)
 
-six_not_four : (a b : PlainBits) → is_at (prefix_order (prefix_six a)) (prefix_four b) ≡ false
+pub six_not_four : (a b : PlainBits) → is_at (prefix_order (prefix_six a)) (prefix_four b) ≡ false
 six_not_four a b = never _ (λ h. let k : true ≡ false = ap (λ (p : PlainPrefix). is_six p.addr) (same_at (prefix_six a) (prefix_four b) h) in cc k)
 
 module _ {K V : Type 0} (R : K → K → Ordering) (o : IsTotalOrder R) where
@@ -105,7 +105,7 @@ module _ {V : Type 0} where
   look_other q of apart (e ∷ es) = ap (λ b. cond b (Some e.1) (look q (mapped of es))) (apart e.0) ∙ look_other q of apart es
 
   -- the first that is there
-  abbrev or_else : Option V → Option V → Option V
+  abbrev pub or_else : Option V → Option V → Option V
   or_else None other = other
   or_else (Some v) other = Some v
 
@@ -150,7 +150,7 @@ module _ {V : Type 0} where
   any_prefix (e ∷ es) = (tt, any_prefix es)
 
   -- two lists in order with the same at each prefix are one
-  same_lists : (es fs : List (PlainPrefix × V)) → IsStrictlySortedBy prefix_order (keys_of es) → IsStrictlySortedBy prefix_order (keys_of fs)
+  pub same_lists : (es fs : List (PlainPrefix × V)) → IsStrictlySortedBy prefix_order (keys_of es) → IsStrictlySortedBy prefix_order (keys_of fs)
       → ((b : PlainBits) → look (prefix_four b) es ≡ look (prefix_four b) fs) → ((b : PlainBits) → look (prefix_six b) es ≡ look (prefix_six b) fs) → es ≡ fs
   same_lists es fs s t four six =
       same_entries prefix_order_total (λ _. Unit {0}) (λ p q _ _ h. same_at p q h) es fs s t (any_prefix es) (any_prefix fs)

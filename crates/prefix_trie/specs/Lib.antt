@@ -8,3 +8,4 @@ pub mod BitsLaws
 pub mod Longest
 pub mod Order
 pub mod Ranked
+pub mod Made

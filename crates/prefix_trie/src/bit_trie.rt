@@ -4,16 +4,19 @@ ghost use Rattle.std.specs.Prelude.{◌≡◌, ◌+◌, ◌≤◌, [], true, IfO
 ghost use Rattle.std.specs.BTreeMap.{insert_entry, is_at};
 ghost use Rattle.std.specs.Map.{lookup, remove_entry};
 ghost use Rattle.trie_keys.specs.Sorting.{AreEntries};
+ghost use Rattle.prefix_trie.specs.Made.{IsMadeOf};
 ghost use Rattle.prefix_trie.specs.Trie.{ArePresent};
 ghost use Rattle.prefix_trie.specs.Walk.{acts_at, last_hit};
 
 use crate::build::build;
 use crate::copy::copy;
 use crate::key::Key;
+use crate::keyed::keyed_entries;
 use crate::node::Node;
 use crate::put::put;
 use crate::take::take;
 use crate::walk;
+use ip_prefix::Prefix;
 use shared_list::{Share, SharedList};
 use std::alloc::{AllocError, Global};
 use std::marker::Model;
@@ -70,14 +73,18 @@ impl<K: Key, N: Copy + Drop, M: Mark> BitTrie<K, N, M> {
         })
     }
 
-    // The entries, or `None` where they do not stand in the order of their keys, each key once.
-    pub(crate) fn of(alloc: Global, entries: &[(K, Marked<N, M>)]) -> Result<Option<Self>, AllocError>
-        requires entries { AreEntries K.keys entries.now }
-        requires present { ArePresent M.present entries.now }
-        ensures { IfOk result (λ built. IfSome built (λ trie. trie ≡ entries.now)) }
+    // The entries whose prefixes have a key of this family, or `None` where a key stands twice.
+    pub(crate) fn of(
+        alloc: Global,
+        entries: &[(Prefix, Marked<N, M>)],
+    ) -> Result<Option<Self>, AllocError>
+        requires { ArePresent M.present entries.now }
+        ensures { IfOk result (λ built. IfSome built (IsMadeOf K.keys K.from entries.now)) }
     {
+        let mut keyed = keyed_entries::<K, N, M>(alloc, entries)?;
+        keyed.sort_by(|a, b| a.0.order(&b.0))?;
         let mut nodes = SharedList::new(alloc);
-        let Some(root) = build(&mut nodes, entries)? else {
+        let Some(root) = build(&mut nodes, &keyed)? else {
             return Ok(None);
         };
         let fresh = nodes.len();

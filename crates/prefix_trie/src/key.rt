@@ -1,12 +1,28 @@
 //! Keys that are strings of bits.
 
-ghost use Rattle.std.specs.Prelude.{◌≡◌, ℕ, ◌<◌, ◌≤◌, true, cond};
+ghost use Rattle.std.specs.Prelude.{◌≡◌, ℕ, ◌<◌, ◌≤◌, true, cond, Option, IfSome};
+ghost use Rattle.ip_prefix.specs.Prefix.{PlainPrefix};
 ghost use Rattle.trie_keys.specs.Keys.{Keys, KeyLaws};
+ghost use Rattle.prefix_trie.specs.Made.{IsKey};
+
+use ip_prefix::Prefix;
+use std::cmp::Ordering;
 
 // A key that is a string of bits.
 pub(crate) trait Key: Copy + Drop {
     // The order of keys, their lengths and bits, and when two begin alike.
     ghost keys: { Keys Self };
+
+    // The key of a prefix, if this family has one.
+    ghost from: { PlainPrefix → Option Self };
+
+    fn of(prefix: &Prefix) -> Option<Self>
+        ensures from { result ≡ from prefix.now }
+        ensures key { IfSome result (λ key. IsKey keys key) };
+
+    // Which of two keys comes first.
+    fn order(&self, other: &Self) -> Ordering
+        ensures { result ≡ keys.order self.now other.now };
 
     // How many bits.
     fn len(&self) -> u32

@@ -5,6 +5,7 @@ mod bit_trie;
 mod build;
 mod copy;
 mod key;
+mod keyed;
 mod long;
 mod map;
 mod node;

@@ -2,12 +2,13 @@
 
 ghost use Rattle.std.specs.Prelude.{◌≡◌, ◌+◌, ◌*◌, ◌-◌, ◌%◌, ◌^◌, ◌<◌, ◌≤◌, true};
 ghost use Rattle.prefix_trie.specs.Bits.{bits_keys, bits_valid};
-ghost use Rattle.prefix_trie.specs.Ranked.{prefix_six};
+ghost use Rattle.prefix_trie.specs.Ranked.{six_bits, prefix_six};
 ghost use Rattle.prefix_trie.specs.BitsLaws.{bits_laws, bits_binary};
 
 use crate::key::Key;
 use crate::node::Node;
 use ip_prefix::{Addr, Prefix};
+use std::cmp::Ordering;
 use std::marker::Model;
 
 // 2 ^ 64
@@ -95,9 +96,22 @@ fn cleared(number: u128, len: u32) -> u128
 impl Key for Long {
     ghost keys = { bits_keys 128 };
 
+    ghost from = { six_bits };
+
     ghost laws = { bits_laws 128 };
 
     ghost binary = { bits_binary 128 };
+
+    fn of(prefix: &Prefix) -> Option<Long> {
+        match prefix.addr() {
+            Addr::V6(number) => Some(Long::new(number, prefix.length())),
+            Addr::V4(_) => None,
+        }
+    }
+
+    fn order(&self, other: &Long) -> Ordering {
+        self.number().cmp(&other.number()).then(self.bits.cmp(&other.bits))
+    }
 
     fn len(&self) -> u32 {
         u32::from(self.bits)

@@ -1,10 +1,12 @@
 //! A map from prefixes.
 
-ghost use Rattle.std.specs.Prelude.{◌≡◌, ◌+◌, ◌≤◌, [], true, IfOk};
+ghost use Rattle.std.specs.Prelude.{◌≡◌, ◌+◌, ◌≤◌, [], true, IfOk, IfSome};
 ghost use Rattle.std.specs.BTreeMap.{insert_entry, is_at};
 ghost use Rattle.std.specs.Map.{lookup, remove_entry};
 ghost use Rattle.ip_prefix.specs.Prefix.{prefix_order};
 ghost use Rattle.prefix_trie.specs.Longest.{longest_acting};
+ghost use Rattle.prefix_trie.specs.Ranked.{with_all};
+ghost use Rattle.prefix_trie.specs.Trie.{ArePresent};
 
 use crate::bit_trie::BitTrie;
 use crate::long::Long;
@@ -45,6 +47,38 @@ impl<N: Copy + Drop, M: Mark> PrefixTrie<N, M> {
             four: BitTrie::empty(alloc),
             six: BitTrie::empty(alloc),
         }
+    }
+
+    /// The entries, of which a later one of a prefix counts in place of an earlier one.
+    pub fn of(alloc: Global, entries: &[(Prefix, Marked<N, M>)]) -> Result<Self, AllocError>
+        requires { ArePresent M.present entries.now }
+        ensures { IfOk result (λ trie. trie ≡ with_all [] entries.now) }
+    {
+        if let Some(trie) = Self::of_distinct(alloc, entries)? {
+            return Ok(trie);
+        }
+        let mut trie = PrefixTrie::empty(alloc);
+        for entry in entries {
+            trie = trie.inserted(&entry.0, entry.1)?;
+        }
+        Ok(trie)
+    }
+
+    // The entries, or `None` where a prefix stands twice.
+    fn of_distinct(
+        alloc: Global,
+        entries: &[(Prefix, Marked<N, M>)],
+    ) -> Result<Option<Self>, AllocError>
+        requires { ArePresent M.present entries.now }
+        ensures { IfOk result (λ built. IfSome built (λ trie. trie ≡ with_all [] entries.now)) }
+    {
+        let Some(four) = BitTrie::of(alloc, entries)? else {
+            return Ok(None);
+        };
+        let Some(six) = BitTrie::of(alloc, entries)? else {
+            return Ok(None);
+        };
+        Ok(Some(PrefixTrie { four, six }))
     }
 
     /// The same version once more: for an edit of many prefixes, by [`inserted`](Self::inserted) and [`removed`](Self::removed),

@@ -2,12 +2,13 @@
 
 ghost use Rattle.std.specs.Prelude.{◌≡◌, ◌-◌, ◌%◌, ◌^◌, ◌<◌, ◌≤◌, true};
 ghost use Rattle.prefix_trie.specs.Bits.{bits_agree, bits_keys, bits_valid};
-ghost use Rattle.prefix_trie.specs.Ranked.{prefix_four};
+ghost use Rattle.prefix_trie.specs.Ranked.{four_bits, prefix_four};
 ghost use Rattle.prefix_trie.specs.BitsLaws.{bits_laws, bits_binary};
 
 use crate::key::Key;
 use crate::node::Node;
 use ip_prefix::{Addr, Prefix};
+use std::cmp::Ordering;
 use std::marker::Model;
 
 // The first bits of a number, so many.
@@ -78,9 +79,22 @@ fn cleared(number: u32, len: u32) -> u32
 impl Key for Short {
     ghost keys = { bits_keys 32 };
 
+    ghost from = { four_bits };
+
     ghost laws = { bits_laws 32 };
 
     ghost binary = { bits_binary 32 };
+
+    fn of(prefix: &Prefix) -> Option<Short> {
+        match prefix.addr() {
+            Addr::V4(number) => Some(Short::new(number, prefix.length())),
+            Addr::V6(_) => None,
+        }
+    }
+
+    fn order(&self, other: &Short) -> Ordering {
+        self.number.cmp(&other.number).then(self.bits.cmp(&other.bits))
+    }
 
     fn len(&self) -> u32 {
         u32::from(self.bits)
