@@ -1,5 +1,5 @@
 -- Entries by prefix as entries by key.
-use Rattle.std.proofs.Common.{◌≡◌, ℕ, zero, suc, ◌+◌, ◌<◌, Bool, true, Option, Some, None, List, [], ◌∷◌, ◌++◌, refl, sym, ap, ◌∙◌, subst, arith, length, take, slice_index_or}
+use Rattle.std.proofs.Common.{◌≡◌, ℕ, zero, suc, ◌+◌, ◌<◌, Bool, true, Option, Some, None, List, [], ◌∷◌, ◌++◌, map, refl, sym, ap, ◌∙◌, subst, arith, length, take, slice_index_or}
 use Rattle.std.proofs.lemmas.List.Elements.{filter_map-append}
 use Rattle.std.specs.List.{AllByRecursion, cons_option}
 use Rattle.std.specs.List.Sorted.{IsPermutation}
@@ -10,6 +10,7 @@ use Rattle.trie_keys.specs.declared.marked.Marked.{Marked}
 use Rattle.prefix_trie.specs.Made.{AreKeys, IsKey, IsMadeOf, keyed, keyed_by}
 use Rattle.prefix_trie.specs.Trie.{ArePresent}
 use Rattle.prefix_trie.proofs.Permuting.{all_moved}
+use Rattle.prefix_trie.proofs.Plain.{map_push}
 
 take_more : {X : Type 0} (xs : List X) (i : ℕ) (x : X) → i < length xs → x ≡ slice_index_or xs i x → take (i + 1) xs ≡ take i xs ++ x ∷ []
 take_more [] i x h e = absurd (omega (arith, h))
@@ -17,6 +18,15 @@ take_more (y ∷ ys) zero x h e = ap (λ z. z ∷ []) (sym e)
 take_more (y ∷ ys) (suc i) x h e =
     let more : suc i + 1 ≡ suc (i + 1) = omega arith in
     ap (λ n. take n (y ∷ ys)) more ∙ ap (λ zs. y ∷ zs) (take_more ys i x (omega (arith, h)) e)
+
+module _ {X Y : Type 0} (f : X → Y) where
+  pub map_more : (xs : List X) (i : ℕ) (x : X) → i < length xs → x ≡ slice_index_or xs i x → map f (take (i + 1) xs) ≡ map f (take i xs) ++ f x ∷ []
+  map_more xs i x h e = ap (map f) (take_more xs i x h e) ∙ map_push f (take i xs) x
+
+pub all_at : {X : Type 0} (P : X → Type 0) (xs : List X) (i : ℕ) (x : X) → i < length xs → x ≡ slice_index_or xs i x → AllByRecursion P xs → P x
+all_at P [] i x h e all = absurd (omega (arith, h))
+all_at P (y ∷ ys) zero x h e all = subst P (sym e) all.0
+all_at P (y ∷ ys) (suc i) x h e all = all_at P ys i x (omega (arith, h)) e all.1
 
 module _ {P K V : Type 0} (from : P → Option K) where
   pub keyed_more : (xs : List (P × V)) (i : ℕ) (x : P × V) → i < length xs → x ≡ slice_index_or xs i x → keyed_by from (take i xs) ++ keyed_by from (x ∷ []) ≡ keyed_by from (take (i + 1) xs)

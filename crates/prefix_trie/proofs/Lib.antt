@@ -17,3 +17,4 @@ pub mod Growing
 pub mod Permuting
 pub mod Making
 pub mod Keying
+pub mod Sorted

@@ -15,6 +15,9 @@ use Rattle.trie_keys.specs.Scan.{last_where}
 use Rattle.prefix_trie.proofs.ByKey.{at_itself, lookup-same}
 use Rattle.prefix_trie.proofs.Last.{last_all, last_passes, last_none_all}
 
+some_same : {A : Type 0} (x y : A) → Some x ≡ Some y → x ≡ y
+some_same x y e = cc e
+
 pub all_moved : {X : Type 0} (P : X → Type 0) (xs ys : List X) → IsPermutation xs ys → AllByRecursion P xs → AllByRecursion P ys
 all_moved P xs ys moved all = recursion_from_All P ys (All-permutation P xs ys moved (All-from_recursion P xs all))
 
@@ -46,4 +49,31 @@ module _ {K V : Type 0} {R : K → K → Ordering} (o : IsTotalOrder R) where
         | Some e ↦ λ some.
             let P : K × V → Type 0 = λ x. lookup (is_at (R x.0)) ys ≡ Some x.1 in
             sym (lookup-same o q e.0 ys (last_passes test xs e some) ∙ last_all test P xs e (all_moved P ys xs (IsPermutation-sym xs ys moved) (each_found ys sorted)) some)
+      ] refl
+
+  not_found : (q : K) (xs : List (K × V)) → lookup (is_at (R q)) xs ≡ None → AllByRecursion (λ e. is_at (R q) e.0 ≡ false) xs
+  not_found q [] h = tt
+  not_found q (x ∷ xs) h =
+      elim (is_at (R q) x.0) as (λ b. is_at (R q) x.0 ≡ b → cond b (Some x.1) (lookup (is_at (R q)) xs) ≡ None → (is_at (R q) x.0 ≡ false) × AllByRecursion (λ e. is_at (R q) e.0 ≡ false) xs) [
+        | true ↦ λ _ h. cc h
+        | false ↦ λ t h. (t, not_found q xs h)
+      ] refl h
+
+  found_among : (P : K × V → Type 0) (q : K) (xs : List (K × V)) (v : V) → AllByRecursion P xs → lookup (is_at (R q)) xs ≡ Some v → (k : K) × (is_at (R q) k ≡ true) × P (k, v)
+  found_among P q [] v all h = cc h
+  found_among P q (x ∷ xs) v all h =
+      elim (is_at (R q) x.0) as (λ b. is_at (R q) x.0 ≡ b → cond b (Some x.1) (lookup (is_at (R q)) xs) ≡ Some v → (k : K) × (is_at (R q) k ≡ true) × P (k, v)) [
+        | true ↦ λ t h. (x.0, t, subst (λ w. P (x.0, w)) (some_same x.1 v h) all.0)
+        | false ↦ λ _ h. found_among P q xs v all.1 h
+      ] refl h
+
+  -- what is found in any order is what is found in order
+  pub found_moved : (q : K) (xs ys : List (K × V)) → IsStrictlySortedBy R (keys_of ys) → IsPermutation xs ys → lookup (is_at (R q)) xs ≡ lookup (is_at (R q)) ys
+  found_moved q xs ys sorted moved =
+      elim (lookup (is_at (R q)) xs) as (λ found. lookup (is_at (R q)) xs ≡ found → found ≡ lookup (is_at (R q)) ys) [
+        | None ↦ λ none. sym (none_found_at q ys (all_moved (λ e. is_at (R q) e.0 ≡ false) xs ys moved (not_found q xs none)))
+        | Some v ↦ λ some.
+            let P : K × V → Type 0 = λ x. lookup (is_at (R x.0)) ys ≡ Some x.1 in
+            let there = found_among P q xs v (all_moved P ys xs (IsPermutation-sym xs ys moved) (each_found ys sorted)) some in
+            sym (lookup-same o q there.0 ys there.1 ∙ there.2)
       ] refl

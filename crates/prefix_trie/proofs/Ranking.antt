@@ -121,7 +121,7 @@ module _ {V : Type 0} where
   look_append q [] ys = refl
   look_append q (x ∷ xs) ys = ap (λ found. cond (is_at (prefix_order q) x.0) (Some x.1) found) (look_append q xs ys) ∙ or_cond (is_at (prefix_order q) x.0) x.1 (look q xs) (look q ys)
 
-  look_ranked : (q : PlainPrefix) (es : List (PlainPrefix × V)) → look q (ranked es) ≡ look q es
+  pub look_ranked : (q : PlainPrefix) (es : List (PlainPrefix × V)) → look q (ranked es) ≡ look q es
   look_ranked q [] = refl
   look_ranked q (e ∷ es) = lookup-insert_entry prefix_order_total q e.0 e.1 (ranked es) ∙ ap (λ found. cond (is_at (prefix_order q) e.0) (Some e.1) found) (look_ranked q es)
 

@@ -20,6 +20,13 @@ pub(crate) trait Key: Copy + Drop {
         ensures from { result ≡ from prefix.now }
         ensures key { IfSome result (λ key. IsKey keys key) };
 
+    // The prefix of a key.
+    ghost to: { Self → PlainPrefix };
+
+    fn prefix(&self) -> Prefix
+        requires { 1 ≤ keys.len self.now }
+        ensures { result ≡ to self.now };
+
     // Which of two keys comes first.
     fn order(&self, other: &Self) -> Ordering
         ensures { result ≡ keys.order self.now other.now };

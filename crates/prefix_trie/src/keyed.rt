@@ -1,6 +1,7 @@
 //! Entries by prefix as entries by key.
 
-ghost use Rattle.std.specs.Prelude.{◌≡◌, [], ◌∷◌, ◌++◌, IfOk};
+ghost use Rattle.std.specs.Prelude.{◌≡◌, ◌≤◌, [], ◌∷◌, ◌++◌, map, IfOk};
+ghost use Rattle.std.specs.List.{AllByRecursion};
 ghost use Rattle.prefix_trie.specs.Made.{AreKeys, keyed_by};
 
 use crate::key::Key;
@@ -42,4 +43,21 @@ pub(crate) fn keyed_entries<K: Key, N: Copy + Drop, M: Mark>(
         push_keyed(&mut keyed, entry)?;
     }
     Ok(keyed)
+}
+
+// Puts the entries by their prefixes at the end.
+pub(crate) fn push_prefixes<K: Key, N: Copy + Drop, M: Mark>(
+    keyed: &[(K, Marked<N, M>)],
+    entries: &mut Vec<(Prefix, Marked<N, M>)>,
+) -> Result<(), AllocError>
+    requires { AllByRecursion (λ e. 1 ≤ K.keys.len e.0) keyed.now }
+    ensures {
+        let more = map (λ e. (K.to e.0, e.1)) keyed.now in
+        IfOk result (λ _. entries.new.items ≡ entries.old.items ++ more)
+    }
+{
+    for entry in keyed {
+        entries.push((entry.0.prefix(), entry.1))?;
+    }
+    Ok(())
 }

@@ -63,14 +63,6 @@ impl Long {
     {
         u128::from(self.high) * HALF + u128::from(self.low)
     }
-
-    // The prefix that these bits are, of which there is at least one.
-    pub(crate) fn prefix(&self) -> Prefix
-        requires { 1 ≤ self.now.len }
-        ensures { result ≡ prefix_six self.now }
-    {
-        Prefix::of(Addr::V6(self.number()), u32::from(self.bits))
-    }
 }
 
 #[tactic(auto, using(std::proofs::lemmas::Nat::one_shl))]
@@ -98,6 +90,8 @@ impl Key for Long {
 
     ghost from = { six_bits };
 
+    ghost to = { prefix_six };
+
     ghost laws = { bits_laws 128 };
 
     ghost binary = { bits_binary 128 };
@@ -107,6 +101,10 @@ impl Key for Long {
             Addr::V6(number) => Some(Long::new(number, prefix.length())),
             Addr::V4(_) => None,
         }
+    }
+
+    fn prefix(&self) -> Prefix {
+        Prefix::of(Addr::V6(self.number()), u32::from(self.bits))
     }
 
     fn order(&self, other: &Long) -> Ordering {

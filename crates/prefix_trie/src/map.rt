@@ -9,6 +9,7 @@ ghost use Rattle.prefix_trie.specs.Ranked.{with_all};
 ghost use Rattle.prefix_trie.specs.Trie.{ArePresent};
 
 use crate::bit_trie::BitTrie;
+use crate::key::Key;
 use crate::long::Long;
 use crate::short::Short;
 use ip_prefix::{Addr, Prefix};

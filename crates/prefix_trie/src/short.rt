@@ -46,14 +46,6 @@ impl Short {
             bits: len as u8,
         }
     }
-
-    // The prefix that these bits are, of which there is at least one.
-    pub(crate) fn prefix(&self) -> Prefix
-        requires { 1 ≤ self.now.len }
-        ensures { result ≡ prefix_four self.now }
-    {
-        Prefix::of(Addr::V4(self.number), u32::from(self.bits))
-    }
 }
 
 #[tactic(auto, using(std::proofs::lemmas::Nat::one_shl))]
@@ -81,6 +73,8 @@ impl Key for Short {
 
     ghost from = { four_bits };
 
+    ghost to = { prefix_four };
+
     ghost laws = { bits_laws 32 };
 
     ghost binary = { bits_binary 32 };
@@ -90,6 +84,10 @@ impl Key for Short {
             Addr::V4(number) => Some(Short::new(number, prefix.length())),
             Addr::V6(_) => None,
         }
+    }
+
+    fn prefix(&self) -> Prefix {
+        Prefix::of(Addr::V4(self.number), u32::from(self.bits))
     }
 
     fn order(&self, other: &Short) -> Ordering {
