@@ -1,5 +1,5 @@
 -- Entries by prefix as entries by key.
-use Rattle.std.proofs.Common.{◌≡◌, ℕ, zero, suc, ◌+◌, ◌<◌, Bool, true, Option, Some, None, List, [], ◌∷◌, ◌++◌, map, refl, sym, ap, ◌∙◌, subst, arith, length, take, slice_index_or}
+use Rattle.std.proofs.Common.{◌≡◌, ℕ, zero, suc, ◌+◌, ◌<◌, Bool, true, Option, Some, None, List, [], ◌∷◌, ◌++◌, map, refl, sym, ap, ◌∙◌, subst, append_assoc, arith, length, take, slice_index_or}
 use Rattle.std.proofs.lemmas.List.Elements.{filter_map-append}
 use Rattle.std.specs.List.{AllByRecursion, cons_option}
 use Rattle.std.specs.List.Sorted.{IsPermutation}
@@ -22,6 +22,16 @@ take_more (y ∷ ys) (suc i) x h e =
 module _ {X Y : Type 0} (f : X → Y) where
   pub map_more : (xs : List X) (i : ℕ) (x : X) → i < length xs → x ≡ slice_index_or xs i x → map f (take (i + 1) xs) ≡ map f (take i xs) ++ f x ∷ []
   map_more xs i x h e = ap (map f) (take_more xs i x h e) ∙ map_push f (take i xs) x
+
+module _ {P K V : Type 0} (to : K → P) where
+  pub prefix_more : (old now new : List (P × V)) (xs : List (K × V)) (i : ℕ) (x : K × V) (p : P) → i < length xs → x ≡ slice_index_or xs i x → now ≡ old ++ map (λ e. (to e.0, e.1)) (take i xs) → new ≡ now ++ (p, x.1) ∷ [] → p ≡ to x.0 → new ≡ old ++ map (λ e. (to e.0, e.1)) (take (i + 1) xs)
+  prefix_more old now new xs i x p h e before pushed same =
+      let f : K × V → P × V = λ e. (to e.0, e.1) in
+      pushed
+      ∙ ap (λ (es : List (P × V)). es ++ (p, x.1) ∷ []) before
+      ∙ append_assoc old (map f (take i xs)) ((p, x.1) ∷ [])
+      ∙ ap (λ (q : P). old ++ (map f (take i xs) ++ (q, x.1) ∷ [])) same
+      ∙ ap (λ es. old ++ es) (sym (map_more f xs i x h e))
 
 pub all_at : {X : Type 0} (P : X → Type 0) (xs : List X) (i : ℕ) (x : X) → i < length xs → x ≡ slice_index_or xs i x → AllByRecursion P xs → P x
 all_at P [] i x h e all = absurd (omega (arith, h))

@@ -73,6 +73,11 @@ module _ {V : Type 0} where
   strictly (z ∷ zs) sorted apart =
       (rising z zs (all_by_index (λ y. lt y z ≡ false) zs (λ k d h. sorted_far lt (ranks_by prefix_order_total (λ e. e.0)) (z ∷ zs) sorted 0 (suc k) d (omega arith) (omega (arith, h)))) apart.0, strictly zs (rest_sorted z zs sorted) apart.1)
 
+  pub joined : (four six fours sixes : List (PlainBits × V)) (none one two : List (PlainPrefix × V)) → fours ≡ four → sixes ≡ six → none ≡ [] → one ≡ none ++ mapped prefix_four fours → two ≡ one ++ mapped prefix_six sixes → two ≡ prefixes four six
+  joined four six fours sixes none one two f s n e1 e2 =
+      let first : one ≡ mapped prefix_four four = e1 ∙ (λ i. n i ++ mapped prefix_four (f i)) in
+      e2 ∙ (λ i. first i ++ mapped prefix_six (s i))
+
   pub sorted_entries : (four six : List (PlainBits × V)) (zs : List (PlainPrefix × V)) → IsStrictlySortedBy bits_order (keys_of four) → IsStrictlySortedBy bits_order (keys_of six) → IsPermutation (prefixes four six) zs → IsSortedBy lt zs → zs ≡ ranked_prefixes four six
   sorted_entries four six zs s t moved sorted =
       let ps = prefixes four six in

@@ -10,6 +10,7 @@ ghost use Rattle.prefix_trie.specs.Trie.{ArePresent};
 
 use crate::bit_trie::BitTrie;
 use crate::key::Key;
+use crate::keyed::push_prefixes;
 use crate::long::Long;
 use crate::short::Short;
 use ip_prefix::{Addr, Prefix};
@@ -149,6 +150,19 @@ impl<N: Copy + Drop, M: Mark> PrefixTrie<N, M> {
                 Ok(PrefixTrie { four, six })
             }
         }
+    }
+
+    /// All entries in the order of precedence.
+    pub fn entries(&self, alloc: Global) -> Result<Vec<(Prefix, Marked<N, M>)>, AllocError>
+        ensures { IfOk result (λ entries. entries.items ≡ self.now) }
+    {
+        let four = self.four.entries(alloc)?;
+        let six = self.six.entries(alloc)?;
+        let mut entries = Vec::new(alloc);
+        push_prefixes(&four, &mut entries)?;
+        push_prefixes(&six, &mut entries)?;
+        entries.sort_by(|a, b| a.0.rank_cmp(&b.0))?;
+        Ok(entries)
     }
 
     /// The value at exactly this prefix, whether it acts or not. It takes no memory.
