@@ -1,12 +1,12 @@
 -- Nodes of a list of entries.
-use Rattle.std.proofs.Common.{◌≡◌, ℕ, zero, suc, ◌+◌, ◌-◌, ◌<◌, ◌≤◌, true, ◌⊎◌, inl, inr, List, [], ◌∷◌, ◌++◌, length, map, Option, Some, None, refl, sym, ap, ◌∙◌, subst, arith, take, drop}
+use Rattle.std.proofs.Common.{◌≡◌, ℕ, zero, suc, ◌-◌, ◌<◌, ◌≤◌, true, List, [], ◌∷◌, ◌++◌, length, Option, Some, None, sym, ap, ◌∙◌, subst, arith, take, drop}
 use Rattle.std.proofs.lemmas.Grind.{common_steps}
 use Rattle.std.specs.List.{AllByRecursion}
 use Rattle.trie_keys.specs.Keys.{Keys, KeyLaws, Under}
 use Rattle.trie_keys.specs.Scan.{own}
 use Rattle.prefix_trie.specs.PlainNode.{PlainNode}
-use Rattle.prefix_trie.specs.Nodes.{Sub, stands, subs_of, IsKid, IsNode, AreWell, Extends, Pushed, Built}
-use Rattle.trie_keys.specs.Entries.{all_first, all_second}
+use Rattle.prefix_trie.specs.Nodes.{Sub, subs_of, IsNode, AreWell, Pushed, Built}
+use Rattle.trie_keys.specs.Entries.{all_second}
 use Rattle.trie_keys.specs.Beginning.{AllUnder}
 use Rattle.prefix_trie.proofs.Numbers.{kid_after, no_kid, of_none, extends_itself, extends_along}
 use Rattle.prefix_trie.proofs.Putting.{Parts, middle, zero_not_one, listed, kept_list, within_subs, pushed_list, pushed_kid}

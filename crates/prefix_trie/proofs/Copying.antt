@@ -1,10 +1,10 @@
 -- A copy of what a number stands for.
-use Rattle.std.proofs.Common.{◌≡◌, ℕ, zero, suc, ◌+◌, ◌<◌, ◌≤◌, List, [], ◌∷◌, ◌++◌, length, Option, refl, sym, ap, ◌∙◌, subst, arith}
+use Rattle.std.proofs.Common.{◌≡◌, ℕ, List, ◌++◌, sym, ap, ◌∙◌, subst, arith}
 use Rattle.std.specs.List.{AllByRecursion}
 use Rattle.trie_keys.specs.Keys.{Keys, KeyLaws, Under}
 use Rattle.trie_keys.specs.Scan.{own}
 use Rattle.prefix_trie.specs.PlainNode.{PlainNode}
-use Rattle.prefix_trie.specs.Nodes.{Sub, stands, subs_of, IsKid, IsNode, AreWell, Extends, Pushed, Copied, IsAt}
+use Rattle.prefix_trie.specs.Nodes.{Sub, subs_of, IsNode, AreWell, Pushed, Copied, IsAt}
 use Rattle.prefix_trie.proofs.Numbers.{kid_after, no_kid, of_none, extends_itself, extends_along}
 use Rattle.prefix_trie.proofs.Putting.{listed, listed_at, kid_key, kept_list, within_subs, pushed_list, pushed_kid}
 

@@ -1,5 +1,5 @@
 -- The last entry of a trie whose key begins an address is the first in order of precedence that contains it.
-use Rattle.std.proofs.Common.{◌≡◌, ℕ, ◌+◌, ◌-◌, ◌<◌, ◌≤◌, ◌/◌, ◌^◌, ◌⊎◌, inl, inr, Bool, true, false, not, ◌&&◌, nat_lt, ◌==◌, cond, Option, Some, None, List, [], ◌∷◌, ◌++◌, map, refl, sym, ap, ◌∙◌, subst, arith, append-nil, is_eq, nat_cmp}
+use Rattle.std.proofs.Common.{◌≡◌, ℕ, ◌+◌, ◌<◌, ◌≤◌, ◌⊎◌, inl, inr, Bool, true, false, not, ◌&&◌, nat_lt, ◌==◌, cond, Option, Some, None, List, [], ◌∷◌, ◌++◌, map, refl, sym, ap, ◌∙◌, subst, arith, append-nil, is_eq, nat_cmp}
 use Rattle.std.proofs.lemmas.Bool.Decides.{nat_tests}
 use Rattle.std.specs.BTreeMap.{insert_entry, is_at}
 use Rattle.std.specs.Cmp.{tied_itself}
@@ -21,7 +21,7 @@ use Rattle.prefix_trie.specs.Bits.{PlainBits, bits_order, bits_agree, bits_valid
 use Rattle.prefix_trie.specs.BitsLaws.{bits_laws, at_most}
 use Rattle.prefix_trie.specs.Order.{prefix_order_total}
 use Rattle.prefix_trie.specs.Ranked.{prefix_four, prefix_six, prefixes, ranked, ranked_prefixes}
-use Rattle.prefix_trie.proofs.ByKey.{Above, above-below}
+use Rattle.prefix_trie.proofs.ByKey.{above-below}
 use Rattle.prefix_trie.proofs.Last.{IsBelow, last_found, last_all, last_passes, last_none_all}
 use Rattle.prefix_trie.proofs.OneList.{none_above}
 use Rattle.prefix_trie.proofs.Ranking.{look_four, look_six, sorted_ranked}

@@ -1,5 +1,5 @@
 -- A walk to a key finds what a look-up in the entries finds.
-use Rattle.std.proofs.Common.{◌≡◌, ℕ, ◌+◌, ◌<◌, ◌≤◌, Bool, true, false, cond, List, [], ◌∷◌, ◌++◌, Option, Some, None, refl, sym, ap, ◌∙◌, subst, arith, is_eq}
+use Rattle.std.proofs.Common.{◌≡◌, ℕ, ◌<◌, ◌≤◌, cond, List, [], ◌∷◌, ◌++◌, Option, Some, None, refl, ap, ◌∙◌, arith, is_eq}
 use Rattle.std.specs.BTreeMap.{is_at}
 use Rattle.std.specs.Cmp.{tied_itself}
 use Rattle.std.specs.List.{AllByRecursion}
@@ -11,7 +11,7 @@ use Rattle.trie_keys.specs.Scan.{own}
 use Rattle.trie_keys.specs.Entries.{Before, Behind, all_map}
 use Rattle.trie_keys.specs.Beginning.{before_side, behind_side, behind_own}
 use Rattle.prefix_trie.specs.PlainNode.{PlainNode}
-use Rattle.prefix_trie.specs.Nodes.{Sub, stands, IsAt}
+use Rattle.prefix_trie.specs.Nodes.{Sub, IsAt}
 use Rattle.prefix_trie.proofs.Numbers.{of_none}
 use Rattle.prefix_trie.proofs.Putting.{listed, listed_at, begins_at, before_rest}
 use Rattle.prefix_trie.proofs.Taking.{other}

@@ -1,5 +1,5 @@
 -- What nodes stand for is in the order of the keys.
-use Rattle.std.proofs.Common.{◌≡◌, ℕ, zero, suc, ◌+◌, ◌<◌, true, List, [], ◌∷◌, ◌++◌, Option, Some, None, refl, sym, ap, ◌∙◌, subst, arith}
+use Rattle.std.proofs.Common.{◌≡◌, ℕ, zero, suc, true, List, [], ◌∷◌, ◌++◌, Option, Some, None, arith}
 use Rattle.std.specs.List.{AllByRecursion}
 use Rattle.std.specs.List.Sorted.{IsStrictlySortedBy}
 use Rattle.std.specs.Map.{keys_of}
@@ -11,7 +11,7 @@ use Rattle.trie_keys.specs.Entries.{Before, all_append, all_map}
 use Rattle.trie_keys.specs.Beginning.{AllUnder, before_side}
 use Rattle.trie_keys.specs.Sorting.{AreEntries, none_are_entries}
 use Rattle.prefix_trie.specs.PlainNode.{PlainNode}
-use Rattle.prefix_trie.specs.Nodes.{Sub, nothing, sub_at, sub_of, subs_from, subs_of, stands, IsNode, AreNodes, AreWell}
+use Rattle.prefix_trie.specs.Nodes.{Sub, nothing, sub_at, sub_of, subs_from, subs_of, stands, AreNodes, AreWell}
 use Rattle.prefix_trie.proofs.Putting.{before_rest}
 
 module _ {K V : Type 0} (order : K → K → Ordering) where

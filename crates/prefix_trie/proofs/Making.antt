@@ -1,7 +1,6 @@
 -- A map made of entries in any order.
-use Rattle.std.proofs.Common.{◌≡◌, ℕ, Bool, true, false, cond, Option, Some, None, List, [], ◌∷◌, ◌++◌, refl, sym, ap, ◌∙◌, subst}
+use Rattle.std.proofs.Common.{◌≡◌, ℕ, Bool, true, false, cond, Option, Some, None, List, [], ◌∷◌, refl, sym, ap, ◌∙◌}
 use Rattle.std.specs.BTreeMap.{insert_entry, is_at}
-use Rattle.std.specs.List.{AllByRecursion, filter_map}
 use Rattle.std.specs.List.Sorted.{IsStrictlySortedBy}
 use Rattle.std.specs.Map.{keys_of, lookup}
 use Rattle.std.specs.Option.{option_map}
@@ -10,7 +9,7 @@ use Rattle.ip_prefix.specs.declared.Addr.TheVariants.{V4, V6}
 use Rattle.ip_prefix.specs.Prefix.{PlainPrefix, prefix_order}
 use Rattle.trie_keys.specs.Scan.{last_where, option_else}
 use Rattle.prefix_trie.specs.Bits.{PlainBits, bits_order, bits_keys}
-use Rattle.prefix_trie.specs.Made.{IsMadeOf, keyed, keyed_by}
+use Rattle.prefix_trie.specs.Made.{IsMadeOf, keyed_by}
 use Rattle.prefix_trie.specs.Order.{prefix_order_total}
 use Rattle.prefix_trie.specs.Ranked.{prefix_four, prefix_six, prefixes, ranked_prefixes, four_bits, six_bits, with_all}
 use Rattle.prefix_trie.proofs.ByKey.{lookup-insert_entry, ordered-insert}

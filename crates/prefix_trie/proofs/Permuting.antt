@@ -1,5 +1,5 @@
 -- A list in order of its keys, each once, and the same entries in another order.
-use Rattle.std.proofs.Common.{◌≡◌, Bool, true, false, cond, Option, Some, None, List, [], ◌∷◌, ◌++◌, refl, sym, ap, ◌∙◌, subst}
+use Rattle.std.proofs.Common.{◌≡◌, Bool, true, false, cond, Some, None, List, [], ◌∷◌, refl, sym, ap, ◌∙◌, subst}
 use Rattle.std.proofs.lemmas.List.Elements.{All-from_recursion, recursion_from_All}
 use Rattle.std.proofs.lemmas.List.Sorted.{All-permutation, IsPermutation-sym}
 use Rattle.std.specs.BTreeMap.{is_at}
@@ -26,7 +26,6 @@ module _ {K : Type 0} {R : K → K → Ordering} (o : IsTotalOrder R) where
   not_at q k less = ap is_eq (o.antisymm q k ∙ ap ordering_reverse less)
 
 module _ {K V : Type 0} {R : K → K → Ordering} (o : IsTotalOrder R) where
-
   found_later : (y : K × V) (ys es : List (K × V)) → AllByRecursion (λ k. R y.0 k ≡ Less) (keys_of es) → AllByRecursion (λ e. lookup (is_at (R e.0)) ys ≡ Some e.1) es → AllByRecursion (λ e. lookup (is_at (R e.0)) (y ∷ ys) ≡ Some e.1) es
   found_later y ys [] less all = tt
   found_later y ys (e ∷ es) less all = (ap (λ b. cond b (Some y.1) (lookup (is_at (R e.0)) ys)) (not_at o e.0 y.0 less.0) ∙ all.0, found_later y ys es less.1 all.1)

@@ -1,9 +1,8 @@
 -- Nodes as they are kept, and as definitions see them.
-use Rattle.std.proofs.Common.{◌≡◌, ℕ, zero, suc, Bool, true, false, cond, List, [], ◌∷◌, ◌++◌, length, map, Option, Some, None, refl, sym, ap, ◌∙◌, subst, arith, slice_get}
+use Rattle.std.proofs.Common.{◌≡◌, ℕ, zero, suc, Bool, true, false, cond, List, [], ◌∷◌, ◌++◌, length, map, Some, None, refl, sym, ap, subst, arith, slice_get}
 use Rattle.trie_keys.specs.declared.marked.Marked.{Marked}
-use Rattle.prefix_trie.specs.declared.node.Node.{Node}
-use Rattle.prefix_trie.specs.PlainNode.{PlainNode, plain_node, plain_nodes, value_of}
-use Rattle.prefix_trie.specs.Nodes.{AreWell, AreNodes, nothing, stands, Sub}
+use Rattle.prefix_trie.specs.PlainNode.{PlainNode, value_of}
+use Rattle.prefix_trie.specs.Nodes.{AreWell, AreNodes, stands, Sub}
 use Rattle.prefix_trie.specs.Trie.{IsTrie}
 use Rattle.prefix_trie.specs.Nodes.{Put, Taken}
 use Rattle.prefix_trie.proofs.Numbers.{of_none}

@@ -1,17 +1,16 @@
 -- A value at a key.
-use Rattle.std.proofs.Common.{◌≡◌, ℕ, zero, suc, ◌+◌, ◌<◌, ◌≤◌, ◌⊎◌, inl, inr, Bool, true, false, cond, List, [], ◌∷◌, ◌++◌, length, Option, Some, None, Result, Ok, Err, IfOk, refl, sym, ap, ◌∙◌, subst, arith, append-nil}
+use Rattle.std.proofs.Common.{◌≡◌, ℕ, ◌+◌, ◌<◌, ◌≤◌, inl, inr, true, List, [], ◌∷◌, ◌++◌, length, Option, Some, None, Result, Ok, Err, IfOk, sym, ap, ◌∙◌, subst, arith, append-nil}
 use Rattle.std.specs.BTreeMap.{insert_entry}
 use Rattle.std.specs.Cmp.{tied_itself}
 use Rattle.std.specs.List.{AllByRecursion}
 use Rattle.std.specs.Ordering.{match_ordering}
-use Rattle.std.specs.declared.cmp.Ordering.{Ordering}
-use Rattle.std.specs.declared.cmp.Ordering.TheVariants.{Less, Equal, Greater}
+use Rattle.std.specs.declared.cmp.Ordering.TheVariants.{Less}
 use Rattle.trie_keys.specs.Keys.{Keys, KeyLaws, Under, Begins}
 use Rattle.trie_keys.specs.Scan.{own}
 use Rattle.prefix_trie.specs.PlainNode.{PlainNode}
-use Rattle.prefix_trie.specs.Nodes.{Sub, nothing, sub_at, sub_of, subs_of, stands, IsKid, IsNode, AreWell, Extends, Pushed, Put, IsAt}
-use Rattle.trie_keys.specs.Entries.{Before, Behind, all_append, all_map, insert_before, insert_behind, insert_first, all_inserted}
-use Rattle.trie_keys.specs.Beginning.{AllUnder, AllBegin, own_begins, under_begins, all_further, before_under, before_side, behind_side, behind_own, turned, top_first}
+use Rattle.prefix_trie.specs.Nodes.{Sub, subs_of, stands, IsKid, IsNode, AreWell, Extends, Pushed, Put, IsAt}
+use Rattle.trie_keys.specs.Entries.{Before, all_append, all_map, insert_before, insert_behind, insert_first, all_inserted}
+use Rattle.trie_keys.specs.Beginning.{AllUnder, AllBegin, own_begins, under_begins, all_further, before_under, before_side, behind_side, behind_own}
 use Rattle.prefix_trie.proofs.Numbers.{kid_after, no_kid, of_none, length_subs_of, extends_itself, extends_along}
 
 pub told : {A E : Type 0} (r : Result A E) (P Q : A → Type 0) → IfOk r P → ((x : A) → P x → Q x) → IfOk r Q

@@ -1,24 +1,22 @@
 -- Entries of two tries, as one list in order of precedence: what is found there, and what an edit of a trie does to it.
-use Rattle.std.proofs.Common.{◌≡◌, ℕ, ◌+◌, ◌-◌, ◌<◌, ◌≤◌, ◌/◌, ◌^◌, ◌⊎◌, inl, inr, Bool, true, false, not, ◌&&◌, nat_lt, ◌==◌, cond, Option, Some, None, List, [], ◌∷◌, ◌++◌, map, refl, sym, ap, ◌∙◌, subst, arith, is_eq, nat_cmp}
-use Rattle.std.proofs.lemmas.Bool.Decides.{nat_tests}
+use Rattle.std.proofs.Common.{◌≡◌, ℕ, ◌≤◌, Bool, true, false, cond, Option, Some, None, List, [], ◌∷◌, ◌++◌, map, refl, sym, ap, ◌∙◌}
 use Rattle.std.specs.BTreeMap.{insert_entry, is_at}
-use Rattle.std.specs.Cmp.{IsTotalOrder, tied_itself, eq_by_cmp_equiv}
-use Rattle.std.specs.List.{AllByRecursion, find}
+use Rattle.std.specs.Cmp.{IsTotalOrder}
+use Rattle.std.specs.List.{AllByRecursion}
 use Rattle.std.specs.List.Sorted.{IsStrictlySortedBy}
 use Rattle.std.specs.Map.{keys_of, lookup, remove_entry}
-use Rattle.std.specs.Option.{option_map}
-use Rattle.std.specs.Ordering.{match_ordering, ordering_reverse, ordering_then}
+use Rattle.std.specs.Ordering.{match_ordering}
 use Rattle.std.specs.declared.cmp.Ordering.{Ordering}
 use Rattle.std.specs.declared.cmp.Ordering.TheVariants.{Less, Equal, Greater}
 use Rattle.ip_prefix.specs.declared.Addr.{Addr}
 use Rattle.ip_prefix.specs.declared.Addr.TheVariants.{V4, V6}
-use Rattle.ip_prefix.specs.Prefix.{PlainPrefix, contains, prefix_order}
-use Rattle.prefix_trie.specs.Bits.{PlainBits, bits_order, bits_valid, bits_keys}
+use Rattle.ip_prefix.specs.Prefix.{PlainPrefix, prefix_order}
+use Rattle.prefix_trie.specs.Bits.{PlainBits, bits_order}
 use Rattle.prefix_trie.specs.BitsLaws.{bits_laws}
 use Rattle.prefix_trie.specs.Order.{prefix_order_total}
 use Rattle.prefix_trie.specs.Ranked.{AreSome, prefix_four, prefix_six, prefixes, ranked, ranked_prefixes}
-use Rattle.prefix_trie.proofs.ByKey.{lookup-insert_entry, lookup-remove_entry, lookup-same, ordered-insert, ordered-remove, tied_if, same_place, at_itself, apart_from, ordered-others, Above, above-below}
-use Rattle.prefix_trie.proofs.OneList.{same_entries, none_above, none_found}
+use Rattle.prefix_trie.proofs.ByKey.{lookup-insert_entry, lookup-remove_entry, ordered-insert, ordered-remove, tied_if, same_place, at_itself, apart_from, ordered-others}
+use Rattle.prefix_trie.proofs.OneList.{same_entries, none_found}
 use Rattle.prefix_trie.proofs.Same.{same_prefix}
 
 both_ways : (s t : Bool) → (s ≡ true → t ≡ true) → (t ≡ true → s ≡ true) → s ≡ t

@@ -1,19 +1,18 @@
 -- A key taken out.
-use Rattle.std.proofs.Common.{◌≡◌, ℕ, zero, suc, ◌+◌, ◌<◌, ◌≤◌, ◌⊎◌, inl, inr, Bool, true, false, cond, List, [], ◌∷◌, ◌++◌, length, Option, Some, None, refl, sym, ap, ◌∙◌, subst, arith, append-nil, is_eq}
+use Rattle.std.proofs.Common.{◌≡◌, ℕ, ◌+◌, ◌<◌, ◌≤◌, ◌⊎◌, inl, inr, cond, List, ◌∷◌, ◌++◌, length, Option, Some, None, refl, sym, ap, ◌∙◌, subst, arith, append-nil, is_eq}
 use Rattle.std.specs.BTreeMap.{is_at}
 use Rattle.std.specs.Map.{remove_entry}
 use Rattle.std.specs.Cmp.{tied_itself}
 use Rattle.std.specs.List.{AllByRecursion}
-use Rattle.std.specs.declared.cmp.Ordering.{Ordering}
-use Rattle.std.specs.declared.cmp.Ordering.TheVariants.{Less, Equal, Greater}
+use Rattle.std.specs.declared.cmp.Ordering.TheVariants.{Equal}
 use Rattle.trie_keys.specs.Keys.{Keys, KeyLaws, Under, Begins}
 use Rattle.trie_keys.specs.Scan.{own}
 use Rattle.prefix_trie.specs.PlainNode.{PlainNode}
-use Rattle.prefix_trie.specs.Nodes.{Sub, nothing, sub_at, sub_of, subs_of, stands, IsKeyUnder, IsKid, IsNode, AreWell, Extends, Pushed, Joined, Taken, IsAt}
-use Rattle.trie_keys.specs.Entries.{Before, Behind, all_append, all_map, remove_absent, remove_none_before, remove_behind, remove_first, all_removed}
-use Rattle.trie_keys.specs.Beginning.{AllUnder, AllBegin, further, under_begins, before_side, behind_side, behind_own}
-use Rattle.prefix_trie.proofs.Numbers.{kid_after, no_kid, of_none, length_subs_of, extends_itself, extends_along}
-use Rattle.prefix_trie.proofs.Putting.{all_begin, listed, listed_at, begins_at, kid_key, kept_list, within_subs, pushed_list, pushed_kid, before_rest}
+use Rattle.prefix_trie.specs.Nodes.{Sub, sub_of, subs_of, stands, IsKeyUnder, IsKid, IsNode, AreWell, Extends, Pushed, Joined, Taken, IsAt}
+use Rattle.trie_keys.specs.Entries.{Before, all_map, remove_absent, remove_none_before, remove_behind, remove_first}
+use Rattle.trie_keys.specs.Beginning.{further, under_begins, before_side, behind_side, behind_own}
+use Rattle.prefix_trie.proofs.Numbers.{kid_after, of_none, length_subs_of, extends_itself, extends_along}
+use Rattle.prefix_trie.proofs.Putting.{all_begin, listed, listed_at, begins_at, kid_key, kept_list, pushed_list, pushed_kid, before_rest}
 
 module _ {K : Type 0} (keys : Keys K) (laws : KeyLaws keys) where
   -- a key that does not begin with the node's

@@ -1,10 +1,8 @@
 -- A walk finds what a scan over the entries finds.
-use Rattle.std.proofs.Common.{◌≡◌, ℕ, zero, suc, ◌+◌, ◌<◌, ◌≤◌, Bool, true, false, not, ◌&&◌, nat_lt, cond, List, [], ◌∷◌, ◌++◌, length, map, Option, Some, None, inl, inr, refl, sym, ap, ◌∙◌, subst, arith, append-nil}
+use Rattle.std.proofs.Common.{◌≡◌, ℕ, zero, suc, ◌+◌, ◌<◌, ◌≤◌, Bool, true, false, not, ◌&&◌, nat_lt, cond, List, ◌++◌, Option, Some, None, inl, inr, refl, sym, ap, ◌∙◌, subst, arith, append-nil}
 use Rattle.std.proofs.lemmas.Bool.Decides.{nat_tests}
-use Rattle.std.specs.List.{AllByRecursion}
-use Rattle.std.specs.Option.{option_map}
 use Rattle.trie_keys.specs.Keys.{Keys, KeyLaws, Under, Begins, begins}
-use Rattle.trie_keys.specs.Scan.{else_none, last_append, last_none, last_where, option_else, own}
+use Rattle.trie_keys.specs.Scan.{else_none, last_append, last_none, option_else, own}
 use Rattle.prefix_trie.specs.PlainNode.{PlainNode}
 use Rattle.prefix_trie.specs.Nodes.{Sub, subs_of, stands, IsKid, IsAt}
 use Rattle.prefix_trie.specs.Walk.{depth, depth_of, is_hit, last_hit, own_hit}

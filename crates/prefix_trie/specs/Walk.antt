@@ -1,8 +1,8 @@
 -- What a walk through the nodes looks for, and how deep nodes stand.
-use Rattle.std.specs.Prelude.{ℕ, Bool, ◌&&◌, cond, Option, Some, None, List, [], ◌∷◌}
+use Rattle.std.specs.Prelude.{◌≡◌, ◌<◌, ℕ, Bool, ◌&&◌, cond, Option, Some, None, List}
 use Rattle.trie_keys.specs.declared.marked.Marked.{Marked}
 use Rattle.trie_keys.specs.Keys.{Keys, begins}
-use Rattle.trie_keys.specs.Scan.{last_where, own}
+use Rattle.trie_keys.specs.Scan.{last_where}
 use Rattle.prefix_trie.specs.Nodes.{Sub}
 
 abbrev pub depth_of : {K : Type 0} → Keys K → Option K → ℕ
@@ -12,6 +12,10 @@ depth_of keys (Some key) = keys.len key
 -- how many symbols the key of a node has
 abbrev pub depth : {K V : Type 0} → Keys K → Sub K V → ℕ
 depth keys sub = depth_of keys sub.key
+
+-- where both keys have this symbol, it isn't the same
+abbrev pub DifferAt : {K : Type 0} → Keys K → ℕ → K → K → Type 0
+DifferAt keys place a b = place < keys.len a → place < keys.len b → keys.symbol a place ≡ keys.symbol b place → ⊥
 
 -- whether look-ups stop at the value
 abbrev pub acts_at : {N M : Type 0} → (M → Bool) → Marked N M → Bool

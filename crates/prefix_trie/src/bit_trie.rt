@@ -176,7 +176,11 @@ impl<K: Key, N: Copy + Drop, M: Mark> BitTrie<K, N, M> {
 
     // The entry of the longest key with which the key begins, of those at which look-ups stop: the last such entry. It takes no
     // memory.
-    pub(crate) fn longest<L: Ledger>(&self, key: &K, steps: &mut Steps<L>) -> Option<(K, Marked<N, M>)>
+    pub(crate) fn longest<L: Ledger>(
+        &self,
+        key: &K,
+        steps: &mut Steps<L>,
+    ) -> Option<(K, Marked<N, M>)>
         ensures found { result ≡ last_hit K.keys (acts_at M.acts) key.now self.now }
         ensures cost { steps.new ≤ steps.old + (K.keys.width + 1) }
         ensures entries { AreEntries K.keys self.now }

@@ -58,12 +58,10 @@ fn build_above<K: Key, N: Copy + Drop, M: Mark>(
     requires present_key { M.present value.mark ≡ true }
     requires valid { AreValid K.keys rest.now }
     requires present { ArePresent M.present rest.now }
-    ensures {
-        let old = plain_nodes M.present nodes.old in
+    ensures { let old = plain_nodes M.present nodes.old in
         let new = plain_nodes M.present nodes.new in
         let entries = (key, value) ∷ rest.now in
-        IfOk result (λ built. IfSome built (λ number. Built K.keys old new entries number))
-    }
+        IfOk result (λ built. IfSome built (λ number. Built K.keys old new entries number)) }
 {
     let zeros = count_under(rest, &key, false);
     let zero_part = &rest[..zeros];
@@ -93,11 +91,9 @@ fn build_apart<K: Key, N: Copy + Drop, M: Mark>(
     requires valid_key { K.keys.valid key ≡ true }
     requires valid { AreValid K.keys entries.now }
     requires present { ArePresent M.present entries.now }
-    ensures {
-        let old = plain_nodes M.present nodes.old in
+    ensures { let old = plain_nodes M.present nodes.old in
         let new = plain_nodes M.present nodes.new in
-        IfOk result (λ built. IfSome built (λ number. Built K.keys old new entries.now number))
-    }
+        IfOk result (λ built. IfSome built (λ number. Built K.keys old new entries.now number)) }
 {
     let zeros = count_under(entries, &key, false);
     let zero_part = &entries[..zeros];
@@ -125,11 +121,9 @@ pub(crate) fn build<K: Key, N: Copy + Drop, M: Mark>(
     requires well { AreWell K.keys (plain_nodes M.present nodes.old) }
     requires valid { AreValid K.keys entries.now }
     requires present { ArePresent M.present entries.now }
-    ensures {
-        let old = plain_nodes M.present nodes.old in
+    ensures { let old = plain_nodes M.present nodes.old in
         let new = plain_nodes M.present nodes.new in
-        IfOk result (λ built. IfSome built (λ number. Built K.keys old new entries.now number))
-    }
+        IfOk result (λ built. IfSome built (λ number. Built K.keys old new entries.now number)) }
 {
     if entries.is_empty() {
         return Ok(Some(0));

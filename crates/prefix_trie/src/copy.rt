@@ -19,12 +19,10 @@ pub(crate) fn copy<K: Key, N: Copy + Drop, M: Mark>(
     requires source { AreWell K.keys (plain_nodes M.present source.now) }
     requires within { at ≤ length (plain_nodes M.present source.now) }
     requires well { AreWell K.keys (plain_nodes M.present nodes.old) }
-    ensures {
-        let source = plain_nodes M.present source.now in
+    ensures { let source = plain_nodes M.present source.now in
         let old = plain_nodes M.present nodes.old in
         let new = plain_nodes M.present nodes.new in
-        IfOk result (λ number. Copied K.keys source at old new number)
-    }
+        IfOk result (λ number. Copied K.keys source at old new number) }
 {
     if at == 0 {
         return Ok(0);

@@ -4,6 +4,7 @@ ghost use Rattle.std.specs.Prelude.{◌≡◌, ℕ, ◌<◌, ◌≤◌, true, co
 ghost use Rattle.ip_prefix.specs.Prefix.{PlainPrefix};
 ghost use Rattle.trie_keys.specs.Keys.{Keys, KeyLaws};
 ghost use Rattle.prefix_trie.specs.Made.{IsKey};
+ghost use Rattle.prefix_trie.specs.Walk.{DifferAt};
 
 use ip_prefix::Prefix;
 use std::cmp::Ordering;
@@ -45,7 +46,7 @@ pub(crate) trait Key: Copy + Drop {
         ensures here { result ≤ keys.len self.now }
         ensures there { result ≤ keys.len other.now }
         ensures agree { keys.agree result self.now other.now ≡ true }
-        ensures differ { result < keys.len self.now → result < keys.len other.now → keys.symbol self.now result ≡ keys.symbol other.now result → ⊥ };
+        ensures differ { DifferAt keys result self.now other.now };
 
     // The first bits, so many.
     fn cut(&self, len: u32) -> Self

@@ -15,10 +15,8 @@ fn push_keyed<K: Key, N: Copy + Drop, M: Mark>(
     entry: &(Prefix, Marked<N, M>),
 ) -> Result<(), AllocError>
     requires { AreKeys K.keys keyed.old.items }
-    ensures all {
-        let more = keyed_by K.from (entry.now ∷ []) in
-        IfOk result (λ _. keyed.new.items ≡ keyed.old.items ++ more)
-    }
+    ensures all { let more = keyed_by K.from (entry.now ∷ []) in
+        IfOk result (λ _. keyed.new.items ≡ keyed.old.items ++ more) }
     ensures keys { IfOk result (λ _. AreKeys K.keys keyed.new.items) }
 {
     match K::of(&entry.0) {
@@ -51,10 +49,8 @@ pub(crate) fn push_prefixes<K: Key, N: Copy + Drop, M: Mark>(
     entries: &mut Vec<(Prefix, Marked<N, M>)>,
 ) -> Result<(), AllocError>
     requires { AllByRecursion (λ e. 1 ≤ K.keys.len e.0) keyed.now }
-    ensures {
-        let more = map (λ e. (K.to e.0, e.1)) keyed.now in
-        IfOk result (λ _. entries.new.items ≡ entries.old.items ++ more)
-    }
+    ensures { let more = map (λ e. (K.to e.0, e.1)) keyed.now in
+        IfOk result (λ _. entries.new.items ≡ entries.old.items ++ more) }
 {
     for entry in keyed {
         entries.push((entry.0.prefix(), entry.1))?;

@@ -28,7 +28,7 @@ const _: () = prove!(size_of::<Node<Long, u32, bool>>() == 40);
 impl Model for Long {
     ghost use Rattle.std.specs.Prelude.{◌≡◌, ◌+◌, ◌*◌, ◌/◌, ◌%◌, ◌<◌, true};
     ghost use Rattle.prefix_trie.specs.Bits.{PlainBits, bits_valid};
-    ghost use Rattle.prefix_trie.specs.Halves.{whole, halves_back};
+    ghost use Rattle.prefix_trie.specs.Halves.{whole, high_of, low_of, halves_back};
 
     ghost Value = { PlainBits };
 
@@ -37,9 +37,10 @@ impl Model for Long {
     ghost invariant = { λ s. (s.low < 18446744073709551616)
         × (bits_valid 128 (record { number = whole s.high s.low; len = s.bits }) ≡ true) };
 
-    ghost inverse = { λ p. record { high = p.number / 18446744073709551616; low = p.number % 18446744073709551616; bits = p.len } };
+    ghost inverse = { λ p. record { high = high_of p.number; low = low_of p.number; bits = p.len } };
 
-    ghost inverse_ok = { λ a h. λ i. record { high = (halves_back a.high a.low h.0).0 i; low = (halves_back a.high a.low h.0).1 i; bits = a.bits } };
+    ghost inverse_ok = { λ a h. λ i. let back = halves_back a.high a.low h.0 in
+        record { high = back.0 i; low = back.1 i; bits = a.bits } };
 }
 
 impl Long {
@@ -108,7 +109,9 @@ impl Key for Long {
     }
 
     fn order(&self, other: &Long) -> Ordering {
-        self.number().cmp(&other.number()).then(self.bits.cmp(&other.bits))
+        self.number()
+            .cmp(&other.number())
+            .then(self.bits.cmp(&other.bits))
     }
 
     fn len(&self) -> u32 {

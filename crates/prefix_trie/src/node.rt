@@ -28,16 +28,12 @@ pub(crate) fn push<K: Key, N: Copy + Drop, M: Mark>(
     one: u32,
 ) -> Result<u32, AllocError>
     requires well { AreWell K.keys (plain_nodes M.present nodes.old) }
-    requires node {
-        let node = node_of key (value_of M.present value) zero one in
-        IsNode K.keys (subs_of K.keys (plain_nodes M.present nodes.old)) node
-    }
-    ensures {
-        let old = plain_nodes M.present nodes.old in
+    requires node { let node = node_of key (value_of M.present value) zero one in
+        IsNode K.keys (subs_of K.keys (plain_nodes M.present nodes.old)) node }
+    ensures { let old = plain_nodes M.present nodes.old in
         let new = plain_nodes M.present nodes.new in
         let node = node_of key (value_of M.present value) zero one in
-        IfOk result (λ number. Pushed K.keys old new node number)
-    }
+        IfOk result (λ number. Pushed K.keys old new node number) }
 {
     let len = nodes.len();
     nodes.push(Node {
@@ -59,16 +55,12 @@ pub(crate) fn push_value<K: Key, N: Copy + Drop, M: Mark>(
 ) -> Result<u32, AllocError>
     requires well { AreWell K.keys (plain_nodes M.present nodes.old) }
     requires present { M.present value.mark ≡ true }
-    requires node {
-        let node = node_of key (Some value) zero one in
-        IsNode K.keys (subs_of K.keys (plain_nodes M.present nodes.old)) node
-    }
-    ensures {
-        let old = plain_nodes M.present nodes.old in
+    requires node { let node = node_of key (Some value) zero one in
+        IsNode K.keys (subs_of K.keys (plain_nodes M.present nodes.old)) node }
+    ensures { let old = plain_nodes M.present nodes.old in
         let new = plain_nodes M.present nodes.new in
         let node = node_of key (Some value) zero one in
-        IfOk result (λ number. Pushed K.keys old new node number)
-    }
+        IfOk result (λ number. Pushed K.keys old new node number) }
 {
     push(nodes, key, value, zero, one)
 }
@@ -82,16 +74,12 @@ pub(crate) fn push_branch<K: Key, N: Copy + Drop, M: Mark>(
     one: u32,
 ) -> Result<u32, AllocError>
     requires well { AreWell K.keys (plain_nodes M.present nodes.old) }
-    requires node {
-        let node = node_of key None zero one in
-        IsNode K.keys (subs_of K.keys (plain_nodes M.present nodes.old)) node
-    }
-    ensures {
-        let old = plain_nodes M.present nodes.old in
+    requires node { let node = node_of key None zero one in
+        IsNode K.keys (subs_of K.keys (plain_nodes M.present nodes.old)) node }
+    ensures { let old = plain_nodes M.present nodes.old in
         let new = plain_nodes M.present nodes.new in
         let node = node_of key None zero one in
-        IfOk result (λ number. Pushed K.keys old new node number)
-    }
+        IfOk result (λ number. Pushed K.keys old new node number) }
 {
     let value = Marked {
         value: spare,
@@ -108,10 +96,8 @@ pub(crate) fn node_at<K: Key, N: Copy + Drop, M: Mark>(
     requires well { AreWell K.keys (plain_nodes M.present nodes.now) }
     requires some { 0 < at }
     requires within { at ≤ length (plain_nodes M.present nodes.now) }
-    ensures {
-        let nodes = plain_nodes M.present nodes.now in
-        IsAt K.keys nodes at (plain_node M.present result.now)
-    }
+    ensures { let nodes = plain_nodes M.present nodes.now in
+        IsAt K.keys nodes at (plain_node M.present result.now) }
 {
     nodes.get(at as usize - 1)
 }

@@ -20,11 +20,9 @@ fn put_here<K: Key, N: Copy + Drop, M: Mark>(
     requires well { AreWell K.keys (plain_nodes M.present nodes.old) }
     requires present { M.present value.mark ≡ true }
     requires is_at { IsAt K.keys (plain_nodes M.present nodes.old) at (plain_node M.present node.now) }
-    ensures {
-        let old = plain_nodes M.present nodes.old in
+    ensures { let old = plain_nodes M.present nodes.old in
         let new = plain_nodes M.present nodes.new in
-        IfOk result (λ number. Put K.keys old new at node.now.key value number)
-    }
+        IfOk result (λ number. Put K.keys old new at node.now.key value number) }
 {
     push_value(nodes, node.key, value, node.zero, node.one)
 }
@@ -44,11 +42,9 @@ fn put_above<K: Key, N: Copy + Drop, M: Mark>(
     requires is_at { IsAt K.keys (plain_nodes M.present nodes.old) at (plain_node M.present node.now) }
     requires agrees { K.keys.agree (K.keys.len key) key node.now.key ≡ true }
     requires longer { K.keys.len key < K.keys.len node.now.key }
-    ensures {
-        let old = plain_nodes M.present nodes.old in
+    ensures { let old = plain_nodes M.present nodes.old in
         let new = plain_nodes M.present nodes.new in
-        IfOk result (λ number. Put K.keys old new at key value number)
-    }
+        IfOk result (λ number. Put K.keys old new at key value number) }
 {
     if node.key.bit(key.len()) {
         push_value(nodes, key, value, 0, at)
@@ -75,11 +71,9 @@ fn put_beside<K: Key, N: Copy + Drop, M: Mark>(
     requires shorter { common < K.keys.len node.now.key }
     requires short { common < K.keys.len key }
     requires differ { K.keys.symbol node.now.key common ≡ K.keys.symbol key common → ⊥ }
-    ensures {
-        let old = plain_nodes M.present nodes.old in
+    ensures { let old = plain_nodes M.present nodes.old in
         let new = plain_nodes M.present nodes.new in
-        IfOk result (λ number. Put K.keys old new at key value number)
-    }
+        IfOk result (λ number. Put K.keys old new at key value number) }
 {
     let part = node.key.cut(common);
     let other = push_value(nodes, key, value, 0, 0)?;
@@ -101,11 +95,9 @@ pub(crate) fn put<K: Key, N: Copy + Drop, M: Mark>(
     requires within { at ≤ length (plain_nodes M.present nodes.old) }
     requires valid { K.keys.valid key ≡ true }
     requires present { M.present value.mark ≡ true }
-    ensures {
-        let old = plain_nodes M.present nodes.old in
+    ensures { let old = plain_nodes M.present nodes.old in
         let new = plain_nodes M.present nodes.new in
-        IfOk result (λ number. Put K.keys old new at key value number)
-    }
+        IfOk result (λ number. Put K.keys old new at key value number) }
 {
     if at == 0 {
         return push_value(nodes, key, value, 0, 0);

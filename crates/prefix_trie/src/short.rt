@@ -91,7 +91,9 @@ impl Key for Short {
     }
 
     fn order(&self, other: &Short) -> Ordering {
-        self.number.cmp(&other.number).then(self.bits.cmp(&other.bits))
+        self.number
+            .cmp(&other.number)
+            .then(self.bits.cmp(&other.bits))
     }
 
     fn len(&self) -> u32 {

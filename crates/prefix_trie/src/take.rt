@@ -19,16 +19,12 @@ fn join<K: Key, N: Copy + Drop, M: Mark>(
     one: u32,
 ) -> Result<u32, AllocError>
     requires well { AreWell K.keys (plain_nodes M.present nodes.old) }
-    requires node {
-        let node = node_of key (value_of M.present value) zero one in
-        IsNode K.keys (subs_of K.keys (plain_nodes M.present nodes.old)) node
-    }
-    ensures {
-        let old = plain_nodes M.present nodes.old in
+    requires node { let node = node_of key (value_of M.present value) zero one in
+        IsNode K.keys (subs_of K.keys (plain_nodes M.present nodes.old)) node }
+    ensures { let old = plain_nodes M.present nodes.old in
         let new = plain_nodes M.present nodes.new in
         let node = node_of key (value_of M.present value) zero one in
-        IfOk result (λ number. Joined K.keys old new node number)
-    }
+        IfOk result (λ number. Joined K.keys old new node number) }
 {
     if value.mark.is_present() {
         push(nodes, key, value, zero, one)
@@ -46,16 +42,12 @@ fn join_kids<K: Key, N: Copy + Drop, M: Mark>(
     one: u32,
 ) -> Result<u32, AllocError>
     requires well { AreWell K.keys (plain_nodes M.present nodes.old) }
-    requires node {
-        let node = node_of key None zero one in
-        IsNode K.keys (subs_of K.keys (plain_nodes M.present nodes.old)) node
-    }
-    ensures {
-        let old = plain_nodes M.present nodes.old in
+    requires node { let node = node_of key None zero one in
+        IsNode K.keys (subs_of K.keys (plain_nodes M.present nodes.old)) node }
+    ensures { let old = plain_nodes M.present nodes.old in
         let new = plain_nodes M.present nodes.new in
         let node = node_of key None zero one in
-        IfOk result (λ number. Joined K.keys old new node number)
-    }
+        IfOk result (λ number. Joined K.keys old new node number) }
 {
     if zero == 0 {
         Ok(one)
@@ -75,11 +67,9 @@ pub(crate) fn take<K: Key, N: Copy + Drop, M: Mark>(
     requires well { AreWell K.keys (plain_nodes M.present nodes.old) }
     requires within { at ≤ length (plain_nodes M.present nodes.old) }
     requires valid { K.keys.valid key.now ≡ true }
-    ensures {
-        let old = plain_nodes M.present nodes.old in
+    ensures { let old = plain_nodes M.present nodes.old in
         let new = plain_nodes M.present nodes.new in
-        IfOk result (λ number. Taken K.keys old new at key.now number)
-    }
+        IfOk result (λ number. Taken K.keys old new at key.now number) }
 {
     if at == 0 {
         return Ok(0);

@@ -35,10 +35,8 @@ pub(crate) fn get<K: Key, N: Copy + Drop, M: Mark>(
     requires well { AreWell K.keys (plain_nodes M.present nodes.now) }
     requires within { at ≤ length (plain_nodes M.present nodes.now) }
     requires valid { K.keys.valid key.now ≡ true }
-    ensures {
-        let entries = (stands K.keys (plain_nodes M.present nodes.now) at).list in
-        result ≡ lookup (is_at (K.keys.order key.now)) entries
-    }
+    ensures { let entries = (stands K.keys (plain_nodes M.present nodes.now) at).list in
+        result ≡ lookup (is_at (K.keys.order key.now)) entries }
 {
     if at == 0 {
         return None;
@@ -74,10 +72,8 @@ fn found_or_own<K: Key, N: Copy + Drop, M: Mark>(
     found: Option<(K, Marked<N, M>)>,
     node: &Node<K, N, M>,
 ) -> Option<(K, Marked<N, M>)>
-    ensures {
-        let own = own_hit (acts_at M.acts) node.now.key (value_of M.present node.now.value) in
-        result ≡ option_else found own
-    }
+    ensures { let own = own_hit (acts_at M.acts) node.now.key (value_of M.present node.now.value) in
+        result ≡ option_else found own }
 {
     match found {
         Some(found) => Some(found),
@@ -94,15 +90,11 @@ pub(crate) fn longest<K: Key, N: Copy + Drop, M: Mark, L: Ledger>(
 ) -> Option<(K, Marked<N, M>)>
     requires well { AreWell K.keys (plain_nodes M.present nodes.now) }
     requires within { at ≤ length (plain_nodes M.present nodes.now) }
-    ensures found {
-        let entries = (stands K.keys (plain_nodes M.present nodes.now) at).list in
-        result ≡ last_hit K.keys (acts_at M.acts) key.now entries
-    }
+    ensures found { let entries = (stands K.keys (plain_nodes M.present nodes.now) at).list in
+        result ≡ last_hit K.keys (acts_at M.acts) key.now entries }
     ensures none { at ≡ 0 → steps.new ≡ steps.old }
-    ensures cost {
-        let sub = stands K.keys (plain_nodes M.present nodes.now) at in
-        steps.new + depth K.keys sub ≤ steps.old + (K.keys.width + 1)
-    }
+    ensures cost { let sub = stands K.keys (plain_nodes M.present nodes.now) at in
+        steps.new + depth K.keys sub ≤ steps.old + (K.keys.width + 1) }
 {
     if at == 0 {
         return None;
@@ -128,10 +120,8 @@ fn collect_own<K: Key, N: Copy + Drop, M: Mark>(
     node: &Node<K, N, M>,
     out: &mut Vec<(K, Marked<N, M>)>,
 ) -> Result<(), AllocError>
-    ensures {
-        let entry = own node.now.key (value_of M.present node.now.value) in
-        IfOk result (λ _. out.new.items ≡ out.old.items ++ entry)
-    }
+    ensures { let entry = own node.now.key (value_of M.present node.now.value) in
+        IfOk result (λ _. out.new.items ≡ out.old.items ++ entry) }
 {
     if node.value.mark.is_present() {
         out.push((node.key, node.value))?;
@@ -149,10 +139,8 @@ pub(crate) fn collect<K: Key, N: Copy + Drop, M: Mark>(
 ) -> Result<(), AllocError>
     requires well { AreWell K.keys (plain_nodes M.present nodes.now) }
     requires within { at ≤ length (plain_nodes M.present nodes.now) }
-    ensures {
-        let entries = (stands K.keys (plain_nodes M.present nodes.now) at).list in
-        IfOk result (λ _. out.new.items ≡ out.old.items ++ entries)
-    }
+    ensures { let entries = (stands K.keys (plain_nodes M.present nodes.now) at).list in
+        IfOk result (λ _. out.new.items ≡ out.old.items ++ entries) }
 {
     if at == 0 {
         return Ok(());

@@ -1,5 +1,4 @@
-use Rattle.std.proofs.Common.{◌≡◌, ℕ, ◌-◌, ◌<◌, ◌≤◌, take, drop, length, subst, arith, IfSome}
-use Rattle.std.proofs.lemmas.Grind.{common_steps}
+use Rattle.std.proofs.Common.{◌≡◌, ◌-◌, ◌<◌, take, drop, length, subst, arith, IfSome}
 use Rattle.prefix_trie.specs.PlainNode.{plain_nodes}
 use Rattle.prefix_trie.specs.Nodes.{Built}
 use Rattle.prefix_trie.proofs.Building.{empty_done, node_done, above_done, apart_done}

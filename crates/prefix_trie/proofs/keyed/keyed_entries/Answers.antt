@@ -1,4 +1,4 @@
-use Rattle.std.proofs.Common.{◌≡◌, [], ◌∷◌, ◌++◌, ap, ◌∙◌, arith}
+use Rattle.std.proofs.Common.{[], ◌∷◌, ◌++◌, ap, ◌∙◌, arith}
 use Rattle.prefix_trie.specs.Made.{keyed_by}
 use Rattle.prefix_trie.proofs.Keying.{keyed_more}
 use Rattle.prefix_trie.proofs.keyed.keyed_entries.Goals as goal

@@ -1,4 +1,4 @@
-use Rattle.std.proofs.Common.{◌≡◌, true, sym, ap, ◌∙◌, subst, arith, IfOk}
+use Rattle.std.proofs.Common.{◌≡◌, true, sym, ap, ◌∙◌, subst, arith}
 use Rattle.trie_keys.specs.Keys.{Under}
 use Rattle.prefix_trie.specs.PlainNode.{plain_nodes}
 use Rattle.prefix_trie.specs.Nodes.{Taken}

@@ -1,4 +1,4 @@
-use Rattle.std.proofs.Common.{◌≡◌, ◌<◌, true, sym, ap, ◌∙◌, subst, arith}
+use Rattle.std.proofs.Common.{◌≡◌, ◌<◌, true, sym, ap, ◌∙◌, arith}
 use Rattle.trie_keys.specs.Scan.{option_else}
 use Rattle.prefix_trie.specs.PlainNode.{plain_nodes, value_of}
 use Rattle.prefix_trie.specs.Nodes.{stands}

@@ -6,7 +6,6 @@ use Rattle.prefix_trie.specs.PlainNode.{plain_nodes}
 use Rattle.prefix_trie.specs.Trie.{ArePresent, AreValid}
 use Rattle.prefix_trie.proofs.Growing.{well_entries}
 use Rattle.prefix_trie.proofs.Keying.{keyed_present, made_of}
-use Rattle.prefix_trie.proofs.Making.{made}
 use Rattle.prefix_trie.proofs.Permuting.{all_moved}
 use Rattle.prefix_trie.proofs.Plain.{empty_trie}
 use Rattle.prefix_trie.proofs.bit_trie.BitTrie.of.Goals as goal

@@ -1,4 +1,4 @@
-use Rattle.std.proofs.Common.{◌≡◌, ◌<◌, ◌≤◌, ◌/◌, ◌%◌, ◌-◌, ◌^◌, true, sym, ap, ◌∙◌, arith, eq-eqb, bit_xor}
+use Rattle.std.proofs.Common.{◌≤◌, ◌/◌, ◌%◌, ◌-◌, ◌^◌, sym, ap, ◌∙◌, arith, eq-eqb, bit_xor}
 use Rattle.std.specs.Int.Count.{count_leading_zeros}
 use Rattle.prefix_trie.specs.BitsLaws.{at_most}
 use Rattle.prefix_trie.proofs.Commons.{agree_of, differ_of}

@@ -1,10 +1,9 @@
-use Rattle.std.proofs.Common.{◌≡◌, ◌≤◌, rules, sym, ap, ◌∙◌, subst}
+use Rattle.std.proofs.Common.{◌≤◌, rules, sym, ◌∙◌, subst}
 use Rattle.std.proofs.lemmas.List.Sorted.{answers_always, ranks_by}
 use Rattle.std.specs.List.{AllByRecursion}
 use Rattle.std.specs.List.Sorted.{IsPermutation}
 use Rattle.std.specs.Ordering.{is_lt}
-use Rattle.ip_prefix.specs.Prefix.{PlainPrefix, prefix_order}
-use Rattle.trie_keys.specs.declared.marked.Marked.{Marked}
+use Rattle.ip_prefix.specs.Prefix.{prefix_order}
 use Rattle.prefix_trie.specs.Order.{prefix_order_total}
 use Rattle.prefix_trie.proofs.Sorted.{joined, sorted_entries}
 use Rattle.prefix_trie.proofs.map.PrefixTrie.entries.Goals as goal

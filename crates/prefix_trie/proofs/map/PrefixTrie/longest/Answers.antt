@@ -1,4 +1,4 @@
-use Rattle.std.proofs.Common.{◌≡◌, ◌≤◌, Some, None, sym, ap, ◌∙◌}
+use Rattle.std.proofs.Common.{◌≤◌, Some, sym, ap, ◌∙◌}
 use Rattle.std.specs.Option.{option_map}
 use Rattle.ip_prefix.specs.Prefix.{PlainPrefix}
 use Rattle.trie_keys.specs.declared.marked.Marked.{Marked}
