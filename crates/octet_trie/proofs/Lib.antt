@@ -1,0 +1,4 @@
+pub mod ListLaws
+pub mod Stretches
+pub mod Spelling
+pub mod Numbers

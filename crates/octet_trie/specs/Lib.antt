@@ -1,0 +1,4 @@
+pub mod ListKeys
+pub mod Nodes
+pub mod Plain
+pub mod Written

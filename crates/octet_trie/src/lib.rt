@@ -1,0 +1,7 @@
+//! Maps from keys of octets, whose versions share their nodes.
+#![tactic(auto)]
+
+mod node;
+mod store;
+
+pub use node::Node;

@@ -1,0 +1,140 @@
+//! A node of a trie.
+
+ghost use Rattle.std.specs.Prelude.{◌≡◌, ◌<◌, true, cond, Some, None};
+ghost use Rattle.octet_trie.specs.Plain.{plain};
+
+use trie_keys::{Mark, Marked};
+
+/// A node. It takes 24 octets where a value takes four and a mark one.
+#[derive(Clone, Copy, Drop)]
+pub struct Node<N, M> {
+    // where the octets of its key begin
+    pub(crate) key: u32,
+    // the number of the first node under it
+    pub(crate) kids: u32,
+    pub(crate) exact: N,
+    pub(crate) wild: N,
+    // how many nodes are right under it, side by side, with rising symbols
+    pub(crate) count: u16,
+    // how many octets its key has
+    pub(crate) len: u8,
+    // the octet behind the key of the node above
+    pub(crate) symbol: u8,
+    pub(crate) exact_mark: M,
+    pub(crate) wild_mark: M,
+}
+
+impl<N: Copy + Drop, M: Mark> Node<N, M> {
+    // A node with no key and no values.
+    pub(crate) fn root() -> Self
+    where
+        N: Default,
+        ensures { plain M.present result ≡ record { key = 0; len = 0; symbol = 0; kids = 0; count = 0; exact = None; wild = None } }
+    {
+        Node {
+            key: 0,
+            kids: 0,
+            exact: N::default(),
+            wild: N::default(),
+            count: 0,
+            len: 0,
+            symbol: 0,
+            exact_mark: M::absent(),
+            wild_mark: M::absent(),
+        }
+    }
+
+    // A node with one value and nothing under it.
+    pub(crate) fn leaf(key: u32, len: u8, symbol: u8, wild: bool, value: Marked<N, M>) -> Self
+        requires { M.present value.mark ≡ true }
+        ensures { plain M.present result ≡ record { key = key; len = len; symbol = symbol; kids = 0; count = 0; exact = cond wild None (Some value); wild = cond wild (Some value) None } }
+    {
+        let exact_mark = if wild { M::absent() } else { value.mark };
+        let wild_mark = if wild { value.mark } else { M::absent() };
+        Node {
+            key,
+            kids: 0,
+            exact: value.value,
+            wild: value.value,
+            count: 0,
+            len,
+            symbol,
+            exact_mark,
+            wild_mark,
+        }
+    }
+
+    // The value of the exact or of the wild key.
+    pub(crate) fn value(&self, wild: bool) -> Option<Marked<N, M>>
+        ensures { result ≡ cond wild (plain M.present self.now).wild (plain M.present self.now).exact }
+    {
+        let value = if wild { self.wild } else { self.exact };
+        let mark = if wild { self.wild_mark } else { self.exact_mark };
+        if mark.is_present() {
+            Some(Marked { value, mark })
+        } else {
+            None
+        }
+    }
+
+    // The same node with a value.
+    pub(crate) fn with_value(&self, wild: bool, value: Marked<N, M>) -> Self
+        requires { M.present value.mark ≡ true }
+        ensures { plain M.present result ≡ cond wild (record (plain M.present self.now) { wild = Some value }) (record (plain M.present self.now) { exact = Some value }) }
+    {
+        let mut node = *self;
+        if wild {
+            node.wild = value.value;
+            node.wild_mark = value.mark;
+        } else {
+            node.exact = value.value;
+            node.exact_mark = value.mark;
+        }
+        node
+    }
+
+    // The same node without a value.
+    pub(crate) fn without_value(&self, wild: bool) -> Self
+        ensures { plain M.present result ≡ cond wild (record (plain M.present self.now) { wild = None }) (record (plain M.present self.now) { exact = None }) }
+    {
+        let mut node = *self;
+        if wild {
+            node.wild_mark = M::absent();
+        } else {
+            node.exact_mark = M::absent();
+        }
+        node
+    }
+
+    // The same node, under one whose key has another length.
+    pub(crate) fn with_symbol(&self, symbol: u8) -> Self
+        ensures { plain M.present result ≡ record (plain M.present self.now) { symbol = symbol } }
+    {
+        let mut node = *self;
+        node.symbol = symbol;
+        node
+    }
+
+    // The same node, over others.
+    pub(crate) fn with_kids(&self, kids: u32, count: u16) -> Self
+        ensures { plain M.present result ≡ record (plain M.present self.now) { kids = kids; count = count } }
+    {
+        let mut node = *self;
+        node.kids = kids;
+        node.count = count;
+        node
+    }
+
+    // A node of the first octets of the key, over another and without values.
+    pub(crate) fn branch(&self, len: u8, kids: u32) -> Self
+        ensures { plain M.present result ≡ record { key = self.now.key; len = len; symbol = self.now.symbol; kids = kids; count = 1; exact = None; wild = None } }
+    {
+        let mut node = *self;
+        node.len = len;
+        node.kids = kids;
+        node.count = 1;
+        node.exact_mark = M::absent();
+        node.wild_mark = M::absent();
+        node
+    }
+}
