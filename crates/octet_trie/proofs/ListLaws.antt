@@ -66,13 +66,13 @@ pub list_laws : (width : ℕ) → KeyLaws (list_keys width)
 list_laws width = record {
   total = nat_list_cmp_total;
   same = λ a b e. exact_bytes a b e;
-  whole = λ a b va vb len e. whole_same a b len (same_from _ _ e);
-  shorter_first = λ a b va e lt. first_less a b (same_from _ _ e) lt;
-  symbols_rise = λ n a b e lt. rises n a b (same_from _ _ e) lt;
-  itself = λ n a. from_same _ _ refl;
-  back = λ n a b e. from_same _ _ (sym (same_from _ _ e));
-  along = λ n a b c e f. from_same _ _ (same_from _ _ e ∙ same_from _ _ f);
-  fewer = λ m n a b h e. from_same _ _ (fewer_same m n a b h (same_from _ _ e));
+  whole = λ a b va vb len e. whole_same a b len (same_from (take (length a) a) (take (length a) b) e);
+  shorter_first = λ a b va e lt. first_less a b (same_from (take (length a) a) (take (length a) b) e) lt;
+  symbols_rise = λ n a b e lt. rises n a b (same_from (take n a) (take n b) e) lt;
+  itself = λ n a. from_same (take n a) (take n a) refl;
+  back = λ n a b e. from_same (take n b) (take n a) (sym (same_from (take n a) (take n b) e));
+  along = λ n a b c e f. from_same (take n a) (take n c) (same_from (take n a) (take n b) e ∙ same_from (take n b) (take n c) f);
+  fewer = λ m n a b h e. from_same (take m a) (take m b) (fewer_same m n a b h (same_from (take n a) (take n b) e));
   narrow = λ a e. short_from width (length a) e;
-  symbols_agree = λ n a b e. at_same n a b (same_from _ _ e);
+  symbols_agree = λ n a b e. at_same n a b (same_from (take (n + 1) a) (take (n + 1) b) e);
 }

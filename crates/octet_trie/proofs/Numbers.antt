@@ -107,10 +107,11 @@ module _ {V : Type 0} where
   pub nodes_more : (octets more : List ℕ) (subs : List (Sub V)) (ns : List (PlainNode V)) → AreNodes octets subs ns → AreNodes (octets ++ more) subs ns
   unfolding AreNodes
   nodes_more octets more subs [] all = tt
-  nodes_more octets more subs (n ∷ ns) all =
-      ( node_octets octets more subs n all.0
-      , subst (λ s. AreNodes (octets ++ more) (subs ++ s ∷ []) ns) (sym (sub_octets octets more subs n all.0.whole))
-        (nodes_more octets more (subs ++ sub_of octets subs n ∷ []) ns all.1))
+  nodes_more octets more subs (n ∷ ns) all = (
+    node_octets octets more subs n all.0,
+    subst (λ s. AreNodes (octets ++ more) (subs ++ s ∷ []) ns) (sym (sub_octets octets more subs n all.0.whole))
+        (nodes_more octets more (subs ++ sub_of octets subs n ∷ []) ns all.1),
+  )
 
   pub subs_more : (octets more : List ℕ) (subs : List (Sub V)) (ns : List (PlainNode V)) → AreNodes octets subs ns → subs_from (octets ++ more) subs ns ≡ subs_from octets subs ns
   unfolding AreNodes subs_from
@@ -159,5 +160,6 @@ module _ {V : Type 0} where
 
   pub node_at : (octets : List ℕ) (ns : List (PlainNode V)) (place : ℕ) (n : PlainNode V) → AreNodes octets [] ns → slice_get ns place ≡ Some n → IsAt (record { octets = octets; subs = subs_from octets [] ns }) place n
   node_at octets ns place n all e =
-      let same : length ([] {A = Sub V}) + place ≡ place = omega arith in
+      let none : List (Sub V) = [] in
+      let same : length none + place ≡ place = omega arith in
       subst (λ number. IsAt (record { octets = octets; subs = subs_from octets [] ns }) number n) same (stood octets [] ns place n all e)

@@ -69,7 +69,11 @@ impl<N: Copy + Drop, M: Mark> Node<N, M> {
         ensures { result ≡ cond wild (plain M.present self.now).wild (plain M.present self.now).exact }
     {
         let value = if wild { self.wild } else { self.exact };
-        let mark = if wild { self.wild_mark } else { self.exact_mark };
+        let mark = if wild {
+            self.wild_mark
+        } else {
+            self.exact_mark
+        };
         if mark.is_present() {
             Some(Marked { value, mark })
         } else {

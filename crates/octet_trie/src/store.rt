@@ -80,7 +80,8 @@ impl<N: Copy + Drop, M: Mark> Store<N, M> {
         requires { length octets.now < 255 }
         ensures { IfOk result (λ place. IsWritten self.old self.new octets.now place) }
     {
-        self.octets.push(octets)
+        let place = self.octets.push(octets)?;
+        Ok(place)
     }
 
     // Puts a node behind the others.
@@ -88,6 +89,7 @@ impl<N: Copy + Drop, M: Mark> Store<N, M> {
         requires { IsNode self.old (plain M.present node) }
         ensures { IfOk result (λ _. self.new ≡ record self.old { subs = self.old.subs ++ stands self.old (plain M.present node) ∷ [] }) }
     {
-        self.nodes.push(node)
+        self.nodes.push(node)?;
+        Ok(())
     }
 }
