@@ -2,3 +2,4 @@ pub mod ListKeys
 pub mod Nodes
 pub mod Plain
 pub mod Written
+pub mod Edits

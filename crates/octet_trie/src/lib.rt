@@ -1,6 +1,8 @@
 //! Maps from keys of octets, whose versions share their nodes.
 #![tactic(auto)]
 
+mod copy;
+mod find;
 mod node;
 mod store;
 

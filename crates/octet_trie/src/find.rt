@@ -1,0 +1,73 @@
+//! Which of the nodes side by side under another has a symbol.
+
+ghost use Rattle.std.specs.Prelude.{◌≡◌, ◌+◌, ◌<◌, ◌≤◌, length, take, drop, MatchResult};
+ghost use Rattle.std.specs.List.{AllByRecursion};
+ghost use Rattle.octet_trie.specs.Edits.{GapAt, IsCommon, KidAt};
+ghost use Rattle.octet_trie.specs.Nodes.{IsNode, kids_of};
+ghost use Rattle.octet_trie.specs.Plain.{plain};
+
+use crate::node::Node;
+use crate::store::Store;
+use trie_keys::Mark;
+
+// How many first octets two keys have in common, where these are some at least.
+pub(crate) fn common(a: &[u8], b: &[u8], from: usize) -> usize
+    requires here { from ≤ length a.now }
+    requires there { from ≤ length b.now }
+    requires same { take from a.now ≡ take from b.now }
+    ensures { IsCommon a.now b.now result }
+{
+    let end = a.len().min(b.len());
+    for i in from..end {
+        if a[i] != b[i] {
+            return i;
+        }
+    }
+    end
+}
+
+// The place of the node with the symbol among those right under the node, or else the place at which it would stand.
+pub(crate) fn find_kid<N: Copy + Drop, M: Mark>(
+    store: &Store<N, M>,
+    node: &Node<N, M>,
+    symbol: u8,
+) -> Result<u32, u32>
+    requires { IsNode store.now (plain M.present node.now) }
+    ensures { MatchResult result
+        (λ place. KidAt (kids_of store.now.subs (plain M.present node.now)) symbol place)
+        (λ place. GapAt (kids_of store.now.subs (plain M.present node.now)) symbol place) }
+{
+    find_between(store, node, symbol, 0, u32::from(node.count))
+}
+
+// The same, where those before one place have smaller symbols, and those from another on have greater ones.
+fn find_between<N: Copy + Drop, M: Mark>(
+    store: &Store<N, M>,
+    node: &Node<N, M>,
+    symbol: u8,
+    low: u32,
+    high: u32,
+) -> Result<u32, u32>
+    requires node { IsNode store.now (plain M.present node.now) }
+    requires order { low ≤ high }
+    requires within { high ≤ node.now.count }
+    requires below { AllByRecursion (λ k. k.symbol < symbol) (take low (kids_of store.now.subs (plain M.present node.now))) }
+    requires above { AllByRecursion (λ k. symbol < k.symbol) (drop high (kids_of store.now.subs (plain M.present node.now))) }
+    ensures { MatchResult result
+        (λ place. KidAt (kids_of store.now.subs (plain M.present node.now)) symbol place)
+        (λ place. GapAt (kids_of store.now.subs (plain M.present node.now)) symbol place) }
+{
+    if low >= high {
+        return Err(low);
+    }
+    let _len = store.len();
+    let middle = low + (high - low) / 2;
+    let kid = store.get(node.kids + middle);
+    if kid.symbol < symbol {
+        find_between(store, node, symbol, middle + 1, high)
+    } else if kid.symbol > symbol {
+        find_between(store, node, symbol, low, middle)
+    } else {
+        Ok(middle)
+    }
+}
