@@ -6,3 +6,5 @@ pub mod Storing
 pub mod Kinship
 pub mod Between
 pub mod Searching
+pub mod Commons
+pub mod Putting

@@ -42,11 +42,20 @@ pub record Rekid {V : Type 0} (old new : Stored V) (n : PlainNode V) (kids : Lis
   pub stored : new ≡ record { octets = old.octets; subs = old.subs ++ kids }
   pub node : m ≡ record n { kids = length old.subs; count = length kids }
 
+-- the octets are those of a key, with an octet behind them and perhaps more
+abbrev pub GoesOn : List ℕ → List ℕ → Type 0
+GoesOn name octets = octets ≡ name ++ (slice_index octets (length name) ∷ drop (length name + 1) octets)
+
 -- a node with a value at its key, and with nothing under it
 pub record IsLeaf {V : Type 0} (old new : Stored V) (octets : List ℕ) (symbol : ℕ) (wild : Bool) (v : V) (m : PlainNode V) : Type 0 where
   pub extends : Extends old new
   pub node : IsNode new m
   pub sub : stands new m ≡ record { key = symbols octets; symbol = symbol; list = (entry_key octets wild, v) ∷ [] }
+
+-- there is one, and it has the symbol
+pub record OneKid {V : Type 0} (kids : List (Sub V)) (symbol : ℕ) : Type 0 where
+  pub one : length kids ≡ 1
+  pub found : (d : Sub V) → (slice_index_or kids 0 d).symbol ≡ symbol
 
 -- a node of the first octets of the key, over the same entries
 pub record IsBranch {V : Type 0} (old new : Stored V) (n : PlainNode V) (len : ℕ) (m : PlainNode V) : Type 0 where
@@ -55,7 +64,7 @@ pub record IsBranch {V : Type 0} (old new : Stored V) (n : PlainNode V) (len : �
   pub symbol : m.symbol ≡ n.symbol
   pub name : name_of new.octets m ≡ take len (name_of old.octets n)
   pub list : (stands new m).list ≡ (stands old n).list
-  pub kids : (d : Sub V) → (length (kids_of new.subs m) ≡ 1) × ((slice_index_or (kids_of new.subs m) 0 d).symbol ≡ slice_index (name_of old.octets n) len)
+  pub kids : OneKid (kids_of new.subs m) (slice_index (name_of old.octets n) len)
 
 -- a node stands for the entries of another, with the value at the key
 pub record Put {V : Type 0} (old new : Stored V) (n : PlainNode V) (key : List ℕ) (v : V) (m : PlainNode V) : Type 0 where

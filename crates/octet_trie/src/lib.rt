@@ -4,6 +4,7 @@
 mod copy;
 mod find;
 mod node;
+mod put;
 mod store;
 
 pub use node::Node;
