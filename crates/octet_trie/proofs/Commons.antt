@@ -52,8 +52,8 @@ under_octets name rest t h =
 pub under_entry : (name rest : List ℕ) (t : ℕ) (wild : Bool) → length name + (1 + length rest) < 255 → Under octet_keys (symbols name) (t + 2) (entry_key (name ++ (t ∷ rest)) wild)
 under_entry name rest t wild h =
     let all : symbols (name ++ (t ∷ rest)) ++ end_symbol wild ∷ [] ≡ symbols name ++ ((t + 2) ∷ (symbols rest ++ end_symbol wild ∷ [])) =
-        ap (λ xs. xs ++ end_symbol wild ∷ []) (symbols_append name (t ∷ rest))
-        ∙ append_assoc (symbols name) (symbols (t ∷ rest)) (end_symbol wild ∷ []) in
+    ap (λ xs. xs ++ end_symbol wild ∷ []) (symbols_append name (t ∷ rest))
+    ∙ append_assoc (symbols name) (symbols (t ∷ rest)) (end_symbol wild ∷ []) in
     subst (λ key. Under octet_keys (symbols name) (t + 2) key) (sym all)
     (under_top (symbols name) (symbols rest ++ end_symbol wild ∷ []) (t + 2) (omega (arith, length_symbols name, length_symbols rest, length-append (symbols rest) (end_symbol wild ∷ []))))
 
@@ -81,6 +81,13 @@ end_small false = omega arith
 pub under_end : (name : List ℕ) (wild : Bool) → length name < 255 → Under octet_keys (symbols name) (end_symbol wild) (entry_key name wild)
 under_end name wild h = under_top (symbols name) [] (end_symbol wild) (omega (arith, length_symbols name))
 
+pub under_front : (name : List ℕ) (n : ℕ) → n < length name → length name < 255 → Under octet_keys (symbols (take n name)) (get_or name n 0 + 2) (symbols name)
+under_front name n short h =
+    let other = get_or name n 0 in
+    let split : name ≡ take n name ++ (other ∷ drop (n + 1) name) = parted name n 0 short in
+    subst (λ xs. Under octet_keys (symbols (take n name)) (other + 2) (symbols xs)) (sym split)
+    (under_octets (take n name) (drop (n + 1) name) other (omega (arith, ap length split, length-append (take n name) (other ∷ drop (n + 1) name))))
+
 -- where an entry's key parts from a node's
 pub record PartsAt (name octets : List ℕ) (wild : Bool) (n : ℕ) : Type 0 where
   pub valid : octet_keys.valid (symbols (take n name)) ≡ true
@@ -93,11 +100,8 @@ pub parts_at : (name octets : List ℕ) (wild : Bool) (n : ℕ) → IsCommon nam
 parts_at name octets wild n c short hn ho =
     let other = get_or name n 0 in
     let len : length (take n name) ≡ n = length-take-le n name (omega arith) in
-    let split : name ≡ take n name ++ (other ∷ drop (n + 1) name) = parted name n 0 short in
     let valid : octet_keys.valid (symbols (take n name)) ≡ true = valid_short (symbols (take n name)) (omega (arith, length_symbols (take n name))) in
-    let node : Under octet_keys (symbols (take n name)) (other + 2) (symbols name) =
-        subst (λ xs. Under octet_keys (symbols (take n name)) (other + 2) (symbols xs)) (sym split)
-        (under_octets (take n name) (drop (n + 1) name) other (omega (arith, ap length split, length-append (take n name) (other ∷ drop (n + 1) name)))) in
+    let node : Under octet_keys (symbols (take n name)) (other + 2) (symbols name) = under_front name n short hn in
     let joined : octets ≡ take n name ++ drop n octets = sym (take-append-drop n octets) ∙ ap (λ xs. xs ++ drop n octets) (sym c.same) in
     elim (drop n octets) as (λ rest. octets ≡ take n name ++ rest → PartsAt name octets wild n) [
       | [] ↦ λ e.

@@ -8,13 +8,13 @@ use Rattle.octet_trie.specs.ListKeys.{octet_keys, symbols, end_symbol, entry_key
 use Rattle.octet_trie.specs.Nodes.{PlainNode, Sub, Stored, name_of, key_of, kids_of, joined, list_of, stands, IsKid, AreKids, IsNode, IsAt, Extends}
 use Rattle.octet_trie.specs.Written.{IsWritten}
 use Rattle.octet_trie.proofs.Between.{IsBetween, between_insert, insert_own, at_exact, at_wild, at_kids, list_parts, front_of}
-use Rattle.octet_trie.proofs.Commons.{middle, goes_from, goes_under, goes_under_entry, PartsAt, parts_at}
+use Rattle.octet_trie.proofs.Commons.{middle, goes_from, goes_under, goes_under_entry, PartsAt, parts_at, under_front, whole_common, front_common}
 use Rattle.octet_trie.proofs.Kinship.{AllBelow, AllAbove, each_kid, kid_of, below_kid, above_kid, kids_replaced, kids_with}
 use Rattle.octet_trie.proofs.ListLaws.{list_laws}
 use Rattle.octet_trie.proofs.Numbers.{node_after, stands_after, name_after, kids_after, extends_itself, extends_subs, extends_along, longer_after}
 use Rattle.octet_trie.proofs.Searching.{kid_is, kids_count}
 use Rattle.octet_trie.proofs.Spelling.{length_symbols, own_under}
-use Rattle.octet_trie.proofs.Stretches.{parted, stretch_new, length_stretch}
+use Rattle.octet_trie.proofs.Stretches.{parted, stretch_new, stretch_front, length_stretch}
 use Rattle.trie_keys.specs.Beginning.{all_further, under_begins}
 use Rattle.trie_keys.specs.Entries.{all_append, all_first, all_second, all_map, all_inserted}
 use Rattle.trie_keys.specs.Keys.{Under, Begins}
@@ -53,8 +53,8 @@ module _ {V : Type 0} where
       all_append (λ x. Begins octet_keys top x.0) (own (top ++ 0 ∷ []) n.exact) (own (top ++ 1 ∷ []) n.wild ++ joined (kids_of s.subs n))
       (begins_own top 0 n.exact (key_short s n node))
       (all_append (λ x. Begins octet_keys top x.0) (own (top ++ 1 ∷ []) n.wild) (joined (kids_of s.subs n))
-        (begins_own top 1 n.wild (key_short s n node))
-        (begins_joined top (kids_of s.subs n) (each_under s n node)))
+      (begins_own top 1 n.wild (key_short s n node))
+      (begins_joined top (kids_of s.subs n) (each_under s n node)))
 
   -- a node under another key
   pub kid_under : (s : Stored V) (n : PlainNode V) (top : List ℕ) → IsNode s n → n.symbol < 256 → Under octet_keys top (n.symbol + 2) (key_of s.octets n) → IsKid top (stands s n)
@@ -196,9 +196,10 @@ module _ {V : Type 0} where
       let ks = kids_of s.subs n in
       let d = stands s k in
       let same : get_or ks place d ≡ d = kid_is s n k place d (omega (arith, kid.within, kids_count s n node)) at in
-      let split : ks ≡ take place ks ++ (d ∷ drop (place + 1) ks) = parted ks place d kid.within ∙ ap (λ x. take place ks ++ (x ∷ drop (place + 1) ks)) same in
-      ( kid_of (key_of s.octets n) 0 (take place ks) (drop (place + 1) ks) d (subst (λ zs. AreKids (key_of s.octets n) 0 zs) split node.kids)
-      , sym (ap (λ (x : Sub V). x.symbol) same) ∙ kid.found d)
+      let split : ks ≡ take place ks ++ (d ∷ drop (place + 1) ks) = parted ks place d kid.within ∙ ap (λ x. take place ks ++ (x ∷ drop (place + 1) ks)) same in (
+        kid_of (key_of s.octets n) 0 (take place ks) (drop (place + 1) ks) d (subst (λ zs. AreKids (key_of s.octets n) 0 zs) split node.kids),
+        sym (ap (λ (x : Sub V). x.symbol) same) ∙ kid.found d,
+      )
 
   pub put_below : (old mid new : Stored V) (n k k' m : PlainNode V) (key : List ℕ) (v : V) (t place : ℕ) → IsNode old n → KidAt (kids_of old.subs n) t place → IsAt old (n.kids + place) k → Put old mid k key v k'
       → Under octet_keys (key_of old.octets n) (t + 2) key → Rekid mid new n (with_others (kids_of mid.subs n) place (stands mid k' ∷ []) (place + 1)) m → Put old new n key v m
@@ -212,14 +213,14 @@ module _ {V : Type 0} where
       let u' : Under octet_keys top (k.symbol + 2) key = subst (λ z. Under octet_keys top (z + 2) key) (sym there.1) u in
       put_from old mid new n m key v p.extends node
       (put_kid mid new n m key v t place a b (node_after old mid n p.extends node)
-        (subst (λ ks. place < length ks) (sym kids) kid.within)
-        (ap (λ ks. get_or ks place a) kids ∙ kid_is old n k place a (omega (arith, kid.within, kids_count old n node)) at)
-        there.1
-        (subst (λ name. IsKid (symbols name) b) (sym names) (kid_put old mid k k' top key v there.0 p u'))
-        (p.symbol ∙ there.1)
-        p.list
-        (subst (λ name. Under octet_keys (symbols name) (t + 2) key) (sym names) u)
-        r)
+      (subst (λ ks. place < length ks) (sym kids) kid.within)
+      (ap (λ ks. get_or ks place a) kids ∙ kid_is old n k place a (omega (arith, kid.within, kids_count old n node)) at)
+      there.1
+      (subst (λ name. IsKid (symbols name) b) (sym names) (kid_put old mid k k' top key v there.0 p u'))
+      (p.symbol ∙ there.1)
+      p.list
+      (subst (λ name. Under octet_keys (symbols name) (t + 2) key) (sym names) u)
+      r)
 
   pub put_new : (old mid new : Stored V) (n l m : PlainNode V) (octets : List ℕ) (wild : Bool) (v : V) (place : ℕ) → IsNode old n → length octets < 255 → get_or octets n.len 0 < 256 → GoesOn (name_of old.octets n) octets
       → GapAt (kids_of old.subs n) (get_or octets n.len 0) place → IsLeaf old mid octets (get_or octets n.len 0) wild v l
@@ -235,12 +236,12 @@ module _ {V : Type 0} where
       let kid : IsKid top (stands mid l) = subst (λ x. IsKid top x) (sym leaf.sub) (record { small = small; key = w; list = (u, tt) }) in
       put_from old mid new n m (entry_key octets wild) v leaf.extends node
       (put_gap mid new n m (entry_key octets wild) v t place (stands mid l) (node_after old mid n leaf.extends node)
-        (subst (λ ks. GapAt ks t place) (sym kids) gap)
-        (subst (λ name. IsKid (symbols name) (stands mid l)) (sym names) kid)
-        (ap (λ (x : Sub V). x.symbol) leaf.sub)
-        (ap (λ (x : Sub V). x.list) leaf.sub)
-        (subst (λ name. Under octet_keys (symbols name) (t + 2) (entry_key octets wild)) (sym names) u)
-        r)
+      (subst (λ ks. GapAt ks t place) (sym kids) gap)
+      (subst (λ name. IsKid (symbols name) (stands mid l)) (sym names) kid)
+      (ap (λ (x : Sub V). x.symbol) leaf.sub)
+      (ap (λ (x : Sub V). x.list) leaf.sub)
+      (subst (λ name. Under octet_keys (symbols name) (t + 2) (entry_key octets wild)) (sym names) u)
+      r)
 
   -- ---- a new node
 
@@ -259,10 +260,73 @@ module _ {V : Type 0} where
 
   -- ---- a node above another
 
-  pub branch_is : (old new : Stored V) (n moved m : PlainNode V) (len : ℕ) → IsNode old n → len < n.len → get_or (name_of old.octets n) len 0 < 256 → moved ≡ record n { symbol = get_or (name_of old.octets n) len 0 }
-      → new ≡ record old { subs = old.subs ++ stands old moved ∷ [] }
-      → m ≡ record { key = n.key; len = len; symbol = n.symbol; kids = length old.subs; count = 1; exact = None; wild = None } → IsBranch old new n len m
-  branch_is old new n moved m len node short small em stored e = ?
+  branch_here : (old : Stored V) (n : PlainNode V) (len : ℕ) → IsNode old n → len < n.len → get_or (name_of old.octets n) len 0 < 256
+      → IsBranch old (record old { subs = old.subs ++ stands old (record n { symbol = get_or (name_of old.octets n) len 0 }) ∷ [] }) n len (record { key = n.key; len = len; symbol = n.symbol; kids = length old.subs; count = 1; exact = None; wild = None })
+  branch_here old n len node short small =
+      let name = name_of old.octets n in
+      let other = get_or name len 0 in
+      let moved : PlainNode V = record n { symbol = other } in
+      let x = stands old moved in
+      let new : Stored V = record old { subs = old.subs ++ x ∷ [] } in
+      let m : PlainNode V = record { key = n.key; len = len; symbol = n.symbol; kids = length old.subs; count = 1; exact = None; wild = None } in
+      let names : name_of old.octets m ≡ take len name = sym (stretch_front old.octets n.key n.len len (omega arith)) in
+      let kids : kids_of new.subs m ≡ x ∷ [] = stretch_new old.subs (x ∷ []) in
+      let moved_node : IsNode old moved = record { whole = node.whole; short = node.short; within = node.within; kids = node.kids } in
+      let u : Under octet_keys (symbols (take len name)) (other + 2) (symbols name) = under_front name len (omega (arith, name_length old n node)) (omega (arith, name_length old n node, node.short)) in
+      let kid : IsKid (symbols (take len name)) x = kid_under old moved (symbols (take len name)) moved_node small u in
+      record {
+        extends = extends_subs old new (x ∷ []) refl;
+        node = record {
+          whole = record { there = omega (arith, node.whole.there); whole = omega (arith, node.whole.whole) };
+          short = omega (arith, node.short);
+          within = omega (arith, length-append old.subs (x ∷ []));
+          kids = subst (λ ks. AreKids (key_of old.octets m) 0 ks) (sym kids) (subst (λ xs. AreKids (symbols xs) 0 (x ∷ [])) (sym names) (omega arith, (kid, tt)));
+        };
+        symbol = refl;
+        len = refl;
+        name = names;
+        list = ap joined kids ∙ one_joined x;
+        kids = record { one = ap length kids; found = λ d. ap (λ ks. (get_or ks 0 d).symbol) kids };
+      }
+
+  pub branch_is : (old new : Stored V) (n moved m : PlainNode V) (len : ℕ) (name : List ℕ) → IsNode old n → len < n.len → name ≡ name_of old.octets n → get_or name len 0 < 256 → moved ≡ record n { symbol = get_or name len 0 }
+      → new ≡ record old { subs = old.subs ++ stands old moved ∷ [] } → (kids : ℕ) → kids ≡ length old.subs
+      → m ≡ record { key = n.key; len = len; symbol = n.symbol; kids = kids; count = 1; exact = None; wild = None } → IsBranch old new n len m
+  branch_is old new n moved m len name node short en small em stored kids ek e =
+      let here = branch_here old n len node short (subst (λ xs. get_or xs len 0 < 256) en small) in
+      let same : moved ≡ record n { symbol = get_or (name_of old.octets n) len 0 } = em ∙ (λ i. record n { symbol = get_or (en i) len 0 }) in
+      let all : new ≡ record old { subs = old.subs ++ stands old (record n { symbol = get_or (name_of old.octets n) len 0 }) ∷ [] } = stored ∙ (λ i. record old { subs = old.subs ++ stands old (same i) ∷ [] }) in
+      let one : m ≡ record { key = n.key; len = len; symbol = n.symbol; kids = length old.subs; count = 1; exact = None; wild = None } = e ∙ (λ i. record { key = n.key; len = len; symbol = n.symbol; kids = ek i; count = 1; exact = None; wild = None }) in
+      subst (λ s. IsBranch old s n len m) (sym all)
+      (subst (λ k. IsBranch old (record old { subs = old.subs ++ stands old (record n { symbol = get_or (name_of old.octets n) len 0 }) ∷ [] }) n len k) (sym one) here)
+
+  pub put_whole : (s : Stored V) (n m : PlainNode V) (octets : List ℕ) (wild : Bool) (v : V) → IsNode s n → name_of s.octets n ≡ octets → m ≡ cond wild (record n { wild = Some v }) (record n { exact = Some v }) → Put s s n (entry_key octets wild) v m
+  put_whole s n m octets wild v node e em =
+      subst (λ x. Put s s n (entry_key octets wild) v x) (sym em)
+      (subst (λ xs. Put s s n (entry_key xs wild) v (cond wild (record n { wild = Some v }) (record n { exact = Some v }))) e (put_here s n wild v node))
+
+  -- ---- by what the keys have in common
+
+  pub common_with : (s : Stored V) (n : PlainNode V) (name octets : List ℕ) (same : ℕ) → name ≡ name_of s.octets n → IsCommon name octets same → IsCommon (name_of s.octets n) octets same
+  common_with s n name octets same e c = subst (λ xs. IsCommon xs octets same) e c
+
+  pub same_key : (s : Stored V) (n : PlainNode V) (octets : List ℕ) (same : ℕ) → IsNode s n → IsCommon (name_of s.octets n) octets same → n.len ≤ same → length octets ≤ same → name_of s.octets n ≡ octets
+  same_key s n octets same node c here there = whole_common (name_of s.octets n) octets same c (omega (arith, name_length s n node)) there
+
+  pub same_len : (s : Stored V) (n : PlainNode V) (octets : List ℕ) (same : ℕ) → IsNode s n → IsCommon (name_of s.octets n) octets same → n.len ≤ same → same ≡ n.len
+  same_len s n octets same node c here = omega (arith, c.here, name_length s n node)
+
+  pub key_goes : (s : Stored V) (n : PlainNode V) (octets : List ℕ) (same : ℕ) → IsNode s n → IsCommon (name_of s.octets n) octets same → n.len ≤ same → same < length octets → GoesOn (name_of s.octets n) octets
+  key_goes s n octets same node c here there =
+      let len = name_length s n node in
+      goes_from (name_of s.octets n) octets (front_common (name_of s.octets n) octets same c (omega (arith, len))) (omega (arith, len))
+
+  pub key_under : (s : Stored V) (n : PlainNode V) (octets : List ℕ) (wild : Bool) (same : ℕ) → IsNode s n → IsCommon (name_of s.octets n) octets same → n.len ≤ same → same < length octets → length octets < 255
+      → Under octet_keys (key_of s.octets n) (get_or octets same 0 + 2) (entry_key octets wild)
+  key_under s n octets wild same node c here there short =
+      let e : length (name_of s.octets n) ≡ same = name_length s n node ∙ sym (same_len s n octets same node c here) in
+      subst (λ k. Under octet_keys (key_of s.octets n) (get_or octets k 0 + 2) (entry_key octets wild)) e
+      (goes_under_entry (name_of s.octets n) octets wild (key_goes s n octets same node c here there) short)
 
   pub gap_first : (ks : List (Sub V)) (t other : ℕ) → OneKid ks other → t < other → GapAt ks t 0
   gap_first [] t other one lt = absurd (omega (arith, one.one))

@@ -58,13 +58,14 @@ pub record OneKid {V : Type 0} (kids : List (Sub V)) (symbol : ℕ) : Type 0 whe
   pub found : (d : Sub V) → (slice_index_or kids 0 d).symbol ≡ symbol
 
 -- a node of the first octets of the key, over the same entries
-pub record IsBranch {V : Type 0} (old new : Stored V) (n : PlainNode V) (len : ℕ) (m : PlainNode V) : Type 0 where
+pub record IsBranch {V : Type 0} (old new : Stored V) (n : PlainNode V) (size : ℕ) (m : PlainNode V) : Type 0 where
   pub extends : Extends old new
   pub node : IsNode new m
   pub symbol : m.symbol ≡ n.symbol
-  pub name : name_of new.octets m ≡ take len (name_of old.octets n)
+  pub len : m.len ≡ size
+  pub name : name_of new.octets m ≡ take size (name_of old.octets n)
   pub list : (stands new m).list ≡ (stands old n).list
-  pub kids : OneKid (kids_of new.subs m) (slice_index (name_of old.octets n) len)
+  pub kids : OneKid (kids_of new.subs m) (slice_index (name_of old.octets n) size)
 
 -- a node stands for the entries of another, with the value at the key
 pub record Put {V : Type 0} (old new : Stored V) (n : PlainNode V) (key : List ℕ) (v : V) (m : PlainNode V) : Type 0 where

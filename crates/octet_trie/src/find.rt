@@ -60,9 +60,8 @@ fn find_between<N: Copy + Drop, M: Mark>(
     if low >= high {
         return Err(low);
     }
-    let _len = store.len();
     let middle = low + (high - low) / 2;
-    let kid = store.get(node.kids + middle);
+    let kid = store.kid(node, middle);
     if kid.symbol < symbol {
         find_between(store, node, symbol, middle + 1, high)
     } else if kid.symbol > symbol {

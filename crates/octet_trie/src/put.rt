@@ -60,7 +60,7 @@ fn branch_at<N: Copy + Drop, M: Mark>(
     requires shorter { len < node.now.len }
     ensures { IfOk result (λ m. IsBranch store.old store.new (plain M.present node.now) len (plain M.present m)) }
 {
-    let symbol = store.name(node)[len as usize];
+    let symbol = store.octet(node, len as usize);
     let kids = store.len();
     store.push(node.with_symbol(symbol))?;
     Ok(node.branch(len, kids))
@@ -109,13 +109,13 @@ pub(crate) fn put<N: Copy + Drop, M: Mark>(
 {
     let same = common(store.name(node), octets, 0);
     if same < node.len as usize {
-        let other = store.name(node)[same];
+        let other = store.octet(node, same);
         let branch = branch_at(store, node, same as u8)?;
         put_apart(store, &branch, other, octets, wild, value)
     } else if same < octets.len() {
         match find_kid(store, node, octets[same]) {
             Ok(place) => {
-                let kid = store.get(node.kids + place);
+                let kid = store.kid(node, place);
                 let kid = put(store, &kid, octets, wild, value)?;
                 rekid(store, node, place, Some(kid), place + 1)
             }

@@ -1,6 +1,6 @@
 //! The octets of keys, and the nodes.
 
-ghost use Rattle.std.specs.Prelude.{◌≡◌, ◌+◌, ◌<◌, ◌≤◌, ◌^◌, [], ◌∷◌, ◌++◌, length, IfOk};
+ghost use Rattle.std.specs.Prelude.{◌≡◌, ◌+◌, ◌<◌, ◌≤◌, ◌^◌, [], ◌∷◌, ◌++◌, length, slice_index, IfOk};
 ghost use Rattle.octet_trie.specs.Nodes.{IsAt, IsNode, name_of, stands};
 ghost use Rattle.octet_trie.specs.Plain.{plain};
 ghost use Rattle.octet_trie.specs.Written.{IsWritten};
@@ -67,12 +67,31 @@ impl<N: Copy + Drop, M: Mark> Store<N, M> {
         self.octets.get(node.key, node.len as usize)
     }
 
+    // An octet of the node's key.
+    pub(crate) fn octet(&self, node: &Node<N, M>, place: usize) -> u8
+        requires node { IsNode self.now (plain M.present node.now) }
+        requires within { place < node.now.len }
+        ensures { result ≡ slice_index (name_of self.now.octets (plain M.present node.now)) place }
+    {
+        self.name(node)[place]
+    }
+
     // The node of the number.
     pub(crate) fn get(&self, number: u32) -> Node<N, M>
         requires { number < length self.now.subs }
         ensures { IsAt self.now number (plain M.present result) }
     {
         *self.nodes.get(number as usize)
+    }
+
+    // The node at the place among those right under a node.
+    pub(crate) fn kid(&self, node: &Node<N, M>, place: u32) -> Node<N, M>
+        requires node { IsNode self.now (plain M.present node.now) }
+        requires within { place < node.now.count }
+        ensures { IsAt self.now (node.now.kids + place) (plain M.present result) }
+    {
+        let _len = self.len();
+        self.get(node.kids + place)
     }
 
     // Puts the octets of a key behind the others, and gives their place.
