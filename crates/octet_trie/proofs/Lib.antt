@@ -8,3 +8,5 @@ pub mod Between
 pub mod Searching
 pub mod Commons
 pub mod Putting
+pub mod Taking
+pub mod Walking

@@ -3,3 +3,4 @@ pub mod Nodes
 pub mod Plain
 pub mod Written
 pub mod Edits
+pub mod Fits

@@ -6,5 +6,7 @@ mod find;
 mod node;
 mod put;
 mod store;
+mod take;
+mod walk;
 
 pub use node::Node;

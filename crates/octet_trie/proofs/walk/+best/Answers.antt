@@ -1,0 +1,83 @@
+use Rattle.std.proofs.Common.{◌≡◌, ◌≤◌, ◌<◌, ◌+◌, get_or, length, take, sym, ap, ◌∙◌, subst, arith, rules}
+use Rattle.std.specs.Option.{option_map}
+use Rattle.octet_trie.specs.Edits.{GapAt, KidAt}
+use Rattle.octet_trie.specs.Fits.{acting, entry_of}
+use Rattle.octet_trie.specs.Nodes.{kids_of, name_of}
+use Rattle.octet_trie.specs.Plain.{plain}
+use Rattle.octet_trie.proofs.Putting.{common_with, same_key, same_len, key_goes, name_length}
+use Rattle.octet_trie.proofs.Searching.{kids_count}
+use Rattle.octet_trie.proofs.Walking.{best_apart, best_here, best_gap, best_below, kid_longer, kid_begins, scan}
+use Rattle.octet_trie.proofs.walk.+best.Goals as goal
+use Rattle.trie_keys.specs.Scan.{option_else, else_assoc}
+
+pub best-requires : goal.best-requires
+best-requires g t c =
+    let p = g.M.Mark.present in
+    let s = c.args.store.now in
+    let n = plain p c.args.node.now in
+    let k = plain p c.kid-kid.result in
+    let octets = c.args.octets.now in
+    let common = common_with s n c.name.result.now octets c.common-same.result c.name.ensures c.common-same.ensures in
+    let len = same_len s n octets c.common-same.result c.requires.node common c.if-same-node.false in
+    let goes = key_goes s n octets c.common-same.result c.requires.node common c.if-same-node.false c.if-same-octets.true in
+    let kid = subst (λ x. KidAt (kids_of s.subs n) (get_or octets x 0) c.in-Ok.place) (len ∙ sym (name_length s n c.requires.node)) c.in-Ok.ensures in
+    let longer = kid_longer s n k _ c.in-Ok.place c.requires.node kid c.kid-kid.ensures in
+    let count = kids_count s n c.requires.node in
+    let begins = subst (λ x. take (x + 1) (name_of s.octets k) ≡ take (x + 1) octets) (sym len) (kid_begins s n k octets c.in-Ok.place c.requires.node goes kid c.kid-kid.ensures) in
+    search (rules, begins, longer, count, len)
+
+pub returns-then-same-node-clause-found : goal.returns-then-same-node-clause-found
+returns-then-same-node-clause-found g t c =
+    let p = g.M.Mark.present in
+    let s = c.args.store.now in
+    let n = plain p c.args.node.now in
+    let common = common_with s n c.name.result.now c.args.octets.now c.common-same.result c.name.ensures c.common-same.ensures in
+    best_apart g.M.Mark.acts s n c.args.octets.now c.common-same.result (option_map (entry_of s.octets) c.args.found) c.requires.node common c.if-same-node.true
+
+pub returns-in-Ok-clause-found : goal.returns-in-Ok-clause-found
+returns-in-Ok-clause-found g t c =
+    let p = g.M.Mark.present in
+    let a = g.M.Mark.acts in
+    let s = c.args.store.now in
+    let n = plain p c.args.node.now in
+    let k = plain p c.kid-kid.result in
+    let octets = c.args.octets.now in
+    let before = option_map (entry_of s.octets) c.args.found in
+    let common = common_with s n c.name.result.now octets c.common-same.result c.name.ensures c.common-same.ensures in
+    let len = same_len s n octets c.common-same.result c.requires.node common c.if-same-node.false in
+    let goes = key_goes s n octets c.common-same.result c.requires.node common c.if-same-node.false c.if-same-octets.true in
+    let kid = subst (λ x. KidAt (kids_of s.subs n) (get_or octets x 0) c.in-Ok.place) (len ∙ sym (name_length s n c.requires.node)) c.in-Ok.ensures in
+    let below = best_below a s n k octets c.in-Ok.place c.requires.node goes kid c.kid-kid.ensures in
+    c.best.ensures.found ∙ ap (λ o. option_else _ o) c.own_or-found.ensures.found ∙ sym (else_assoc _ _ before) ∙ ap (λ o. option_else o before) (sym below)
+
+pub returns-in-Ok-clause-cost : goal.returns-in-Ok-clause-cost
+returns-in-Ok-clause-cost g t c =
+    let p = g.M.Mark.present in
+    let longer = kid_longer c.args.store.now (plain p c.args.node.now) (plain p c.kid-kid.result) _ c.in-Ok.place c.requires.node c.in-Ok.ensures c.kid-kid.ensures in
+    omega (arith, longer, c.best.ensures.cost, c.tick.ensures)
+
+pub returns-in-Err-clause-found : goal.returns-in-Err-clause-found
+returns-in-Err-clause-found g t c =
+    let p = g.M.Mark.present in
+    let a = g.M.Mark.acts in
+    let s = c.args.store.now in
+    let n = plain p c.args.node.now in
+    let octets = c.args.octets.now in
+    let before = option_map (entry_of s.octets) c.args.found in
+    let common = common_with s n c.name.result.now octets c.common-same.result c.name.ensures c.common-same.ensures in
+    let len = same_len s n octets c.common-same.result c.requires.node common c.if-same-node.false in
+    let goes = key_goes s n octets c.common-same.result c.requires.node common c.if-same-node.false c.if-same-octets.true in
+    let gap = subst (λ x. GapAt (kids_of s.subs n) (get_or octets x 0) _) (len ∙ sym (name_length s n c.requires.node)) c.in-Err.ensures in
+    c.own_or-found.ensures.found ∙ ap (λ o. option_else o before) (sym (best_gap a s n octets _ c.requires.node goes gap))
+
+pub returns-else-same-octets-clause-found : goal.returns-else-same-octets-clause-found
+returns-else-same-octets-clause-found g t c =
+    let p = g.M.Mark.present in
+    let a = g.M.Mark.acts in
+    let s = c.args.store.now in
+    let n = plain p c.args.node.now in
+    let octets = c.args.octets.now in
+    let before = option_map (entry_of s.octets) c.args.found in
+    let common = common_with s n c.name.result.now octets c.common-same.result c.name.ensures c.common-same.ensures in
+    let same = same_key s n octets c.common-same.result c.requires.node common c.if-same-node.false c.if-same-octets.false in
+    c.own_or.ensures.found ∙ ap (λ o. option_else o before) (sym (best_here a s n octets c.requires.node same))

@@ -1,0 +1,119 @@
+//! Look-ups.
+
+ghost use Rattle.std.specs.Prelude.{◌≡◌, ◌+◌, ◌<◌, ◌≤◌, ◌&&◌, length, take, cond, IfSome};
+ghost use Rattle.std.specs.BTreeMap.{is_at};
+ghost use Rattle.std.specs.Map.{lookup};
+ghost use Rattle.std.specs.Option.{option_map};
+ghost use Rattle.octet_trie.specs.Fits.{acting, entry_of, fits};
+ghost use Rattle.octet_trie.specs.ListKeys.{entry_key, octet_keys};
+ghost use Rattle.octet_trie.specs.Nodes.{IsNode, name_of, stands};
+ghost use Rattle.octet_trie.specs.Plain.{plain};
+ghost use Rattle.shared_list.specs.Octets.{StandsWhole};
+ghost use Rattle.trie_keys.specs.Scan.{last_where, option_else};
+
+use crate::find::{common, find_kid};
+use crate::node::Node;
+use crate::store::Store;
+use std::sync::ledger::Ledger;
+use trie_keys::{Mark, Marked, Steps};
+
+// An entry that was found, by where the octets of its key stand.
+#[derive(Clone, Copy, Drop)]
+pub(crate) struct Hit<N, M> {
+    pub(crate) value: Marked<N, M>,
+    pub(crate) key: u32,
+    pub(crate) len: u8,
+    pub(crate) wild: bool,
+}
+
+// The value at the key, among the entries for which the node stands.
+pub(crate) fn get<N: Copy + Drop, M: Mark>(
+    store: &Store<N, M>,
+    node: &Node<N, M>,
+    octets: &[u8],
+    wild: bool,
+) -> Option<Marked<N, M>>
+    requires node { IsNode store.now (plain M.present node.now) }
+    requires short { length octets.now < 255 }
+    ensures { result ≡ lookup (is_at (octet_keys.order (entry_key octets.now wild))) (stands store.now (plain M.present node.now)).list }
+{
+    let same = common(store.name(node), octets, 0);
+    if same < node.len as usize {
+        None
+    } else if same < octets.len() {
+        match find_kid(store, node, octets[same]) {
+            Ok(place) => {
+                let kid = store.kid(node, place);
+                get(store, &kid, octets, wild)
+            }
+            Err(_) => None,
+        }
+    } else {
+        node.value(wild)
+    }
+}
+
+// The node's own entry, if it acts, or else what was found before.
+fn own_or<N: Copy + Drop, M: Mark>(
+    store: &Store<N, M>,
+    node: &Node<N, M>,
+    wild: bool,
+    found: Option<Hit<N, M>>,
+) -> Option<Hit<N, M>>
+    requires node { IsNode store.now (plain M.present node.now) }
+    requires whole { IfSome found (λ h. StandsWhole store.now.octets h.key h.len) }
+    ensures found { option_map (entry_of store.now.octets) result ≡ option_else (acting M.acts (entry_key (name_of store.now.octets (plain M.present node.now)) wild) (cond wild (plain M.present node.now).wild (plain M.present node.now).exact)) (option_map (entry_of store.now.octets) found) }
+    ensures whole { IfSome result (λ h. StandsWhole store.now.octets h.key h.len) }
+{
+    let _store = store;
+    let Some(value) = node.value(wild) else {
+        return found;
+    };
+    if value.mark.does_act() {
+        Some(Hit {
+            value,
+            key: node.key,
+            len: node.len,
+            wild,
+        })
+    } else {
+        found
+    }
+}
+
+// The last entry that acts and answers the question for the octets, among those for which the node stands, or else what was
+// found before.
+pub(crate) fn best<N: Copy + Drop, M: Mark, L: Ledger>(
+    store: &Store<N, M>,
+    node: &Node<N, M>,
+    octets: &[u8],
+    from: usize,
+    found: Option<Hit<N, M>>,
+    steps: &mut Steps<L>,
+) -> Option<Hit<N, M>>
+    requires node { IsNode store.now (plain M.present node.now) }
+    requires here { from ≤ node.now.len }
+    requires there { from ≤ length octets.now }
+    requires same { take from (name_of store.now.octets (plain M.present node.now)) ≡ take from octets.now }
+    requires whole { IfSome found (λ h. StandsWhole store.now.octets h.key h.len) }
+    ensures found { option_map (entry_of store.now.octets) result ≡ option_else (last_where (λ e. fits octets.now e.0 && M.acts e.1.mark) (stands store.now (plain M.present node.now)).list) (option_map (entry_of store.now.octets) found) }
+    ensures whole { IfSome result (λ h. StandsWhole store.now.octets h.key h.len) }
+    ensures cost { steps.new + node.now.len ≤ steps.old + 255 }
+{
+    steps.tick();
+    let same = common(store.name(node), octets, from);
+    if same < node.len as usize {
+        found
+    } else if same < octets.len() {
+        let found = own_or(store, node, true, found);
+        match find_kid(store, node, octets[same]) {
+            Ok(place) => {
+                let kid = store.kid(node, place);
+                best(store, &kid, octets, same + 1, found, steps)
+            }
+            Err(_) => found,
+        }
+    } else {
+        own_or(store, node, false, found)
+    }
+}
