@@ -215,10 +215,10 @@ module _ {N M : Type 0} (present : M → Bool) where
       let all : AreKids top 0 (with_others ks place mids (place + 1)) = lifted_kids old mid k k' l top key (take place ks) (drop (place + 1) ks) there.0 at.node p lifted (subst (λ zs. AreKids top 0 zs) split node.kids) in
       take_from old mid new n m key p.extends node
       (take_some mid new n m key t place a mids (node_after old mid n p.extends node)
-        (subst (λ zs. place < length zs) (sym kids) kid.within)
-        (ap (λ zs. get_or zs place a) kids ∙ same)
-        there.1
-        (subst (λ name. AreKids (symbols name) 0 (with_others (kids_of mid.subs n) place mids (place + 1))) (sym names) (subst (λ zs. AreKids top 0 (with_others zs place mids (place + 1))) (sym kids) all))
-        (lifted_joined mid k' l lifted ∙ p.list)
-        (subst (λ name. Under octet_keys (symbols name) (t + 2) key) (sym names) u)
-        r)
+      (subst (λ zs. place < length zs) (sym kids) kid.within)
+      (ap (λ zs. get_or zs place a) kids ∙ same)
+      there.1
+      (subst (λ name. AreKids (symbols name) 0 (with_others (kids_of mid.subs n) place mids (place + 1))) (sym names) (subst (λ zs. AreKids top 0 (with_others zs place mids (place + 1))) (sym kids) all))
+      (lifted_joined mid k' l lifted ∙ p.list)
+      (subst (λ name. Under octet_keys (symbols name) (t + 2) key) (sym names) u)
+      r)

@@ -132,6 +132,12 @@ fits_apart name octets key n c short u =
 
 -- ---- the last that answers and acts
 
+pub chained : {X : Type 0} (result below own after before whole : Option X) → result ≡ option_else below after → after ≡ option_else own before → whole ≡ option_else below own → result ≡ option_else whole before
+chained result below own after before whole e f w = e ∙ ap (option_else below) f ∙ sym (else_assoc below own before) ∙ ap (λ o. option_else o before) (sym w)
+
+pub settled : {X : Type 0} (result own before whole : Option X) → result ≡ option_else own before → whole ≡ own → result ≡ option_else whole before
+settled result own before whole e w = e ∙ ap (λ o. option_else o before) (sym w)
+
 not_both : {M : Type 0} (acts : M → Bool) (b : Bool) (m : M) → b ≡ false → (b && acts m) ≡ false
 not_both acts b m e = ap (λ x. x && acts m) e
 
@@ -159,8 +165,8 @@ module _ {N M : Type 0} (acts : M → Bool) where
   none_under name octets q (k ∷ ks) e kids all =
       last_append (test octets) k.list (joined ks)
       ∙ (λ i. option_else (none_under name octets q ks e kids.1 all.1 i)
-          (last_none (test octets) k.list (all_map (λ x. Under octet_keys (symbols name) (k.symbol + 2) x.0) (λ x. test octets x ≡ false) k.list
-            (λ x u. not_both acts (fits octets x.0) x.1.mark (ap (λ xs. fits xs x.0) e ∙ fits_under name q x.0 (k.symbol + 2) u ∙ all.0 (drop (length (symbols name) + 1) x.0))) kids.0.list) i))
+      (last_none (test octets) k.list (all_map (λ x. Under octet_keys (symbols name) (k.symbol + 2) x.0) (λ x. test octets x ≡ false) k.list
+      (λ x u. not_both acts (fits octets x.0) x.1.mark (ap (λ xs. fits xs x.0) e ∙ fits_under name q x.0 (k.symbol + 2) u ∙ all.0 (drop (length (symbols name) + 1) x.0))) kids.0.list) i))
 
   all_past : (ks : List (Sub (Marked N M))) → AllByRecursion (λ k. (xs : List ℕ) → fits [] ((k.symbol + 2) ∷ xs) ≡ false) ks
   all_past [] = tt
@@ -182,9 +188,9 @@ module _ {N M : Type 0} (acts : M → Bool) where
       let len = name_length s n node in
       let u : Under octet_keys (symbols (take same name)) (get_or name same 0 + 2) (symbols name) = under_front name same (omega (arith, len)) (omega (arith, len, node.short)) in
       let none : scan octets (stands s n).list ≡ None =
-          last_none (test octets) (stands s n).list (all_map (λ e. Begins octet_keys (key_of s.octets n) e.0) (λ e. test octets e ≡ false) (stands s n).list
-            (λ e b. not_both acts (fits octets e.0) e.1.mark (fits_apart name octets e.0 same c (omega (arith, len)) (further octet_keys (list_laws 255) (symbols (take same name)) (symbols name) e.0 (get_or name same 0 + 2) u b)))
-            (begins_at s n node)) in
+      last_none (test octets) (stands s n).list (all_map (λ e. Begins octet_keys (key_of s.octets n) e.0) (λ e. test octets e ≡ false) (stands s n).list
+      (λ e b. not_both acts (fits octets e.0) e.1.mark (fits_apart name octets e.0 same c (omega (arith, len)) (further octet_keys (list_laws 255) (symbols (take same name)) (symbols name) e.0 (get_or name same 0 + 2) u b)))
+      (begins_at s n node)) in
       ap (λ x. option_else x o) (sym none)
 
   pub best_here : (s : Stored (Marked N M)) (n : PlainNode (Marked N M)) (octets : List ℕ) → IsNode s n → name_of s.octets n ≡ octets → scan octets (stands s n).list ≡ acting acts (entry_key (name_of s.octets n) false) n.exact
@@ -228,8 +234,8 @@ module _ {N M : Type 0} (acts : M → Bool) where
       let split : ks ≡ xs ++ ys = sym (take-append-drop place ks) in
       let each = each_kid top 0 (xs ++ ys) (subst (λ zs. AreKids top 0 zs) split node.kids) in
       let none : scan octets (joined ks) ≡ None =
-          ap (λ zs. scan octets (joined zs)) split
-          ∙ joined_scan octets xs [] ys (none_under name octets (o ∷ q) xs goes (all_first (λ k. IsKid top k) xs ys each) (all_less o q xs gap.below)) (none_under name octets (o ∷ q) ys goes (all_second (λ k. IsKid top k) xs ys each) (all_more o q ys gap.above)) in
+      ap (λ zs. scan octets (joined zs)) split
+      ∙ joined_scan octets xs [] ys (none_under name octets (o ∷ q) xs goes (all_first (λ k. IsKid top k) xs ys each) (all_less o q xs gap.below)) (none_under name octets (o ∷ q) ys goes (all_second (λ k. IsKid top k) xs ys each) (all_more o q ys gap.above)) in
       best_two name octets q o n.exact n.wild ks goes ∙ ap (λ x. option_else x (acting acts (entry_key name true) n.wild)) none
 
   pub best_below : (s : Stored (Marked N M)) (n k : PlainNode (Marked N M)) (octets : List ℕ) (place : ℕ) → IsNode s n → GoesOn (name_of s.octets n) octets → KidAt (kids_of s.subs n) (get_or octets (length (name_of s.octets n)) 0) place → IsAt s (n.kids + place) k
@@ -249,11 +255,11 @@ module _ {N M : Type 0} (acts : M → Bool) where
       let all : AreKids top 0 (xs ++ (a ∷ ys)) = subst (λ zs. AreKids top 0 zs) split node.kids in
       let each = each_kid top 0 (xs ++ (a ∷ ys)) all in
       let one : scan octets (joined ks) ≡ scan octets a.list =
-          ap (λ zs. scan octets (joined zs)) split
-          ∙ joined_scan octets xs (a ∷ []) ys
-            (none_under name octets (o ∷ q) xs goes (all_first (λ k. IsKid top k) xs (a ∷ ys) each) (all_less o q xs (subst (λ z. AllBelow z xs) there.1 (below_kid top 0 xs ys a all))))
-            (none_under name octets (o ∷ q) ys goes (all_second (λ k. IsKid top k) xs (a ∷ ys) each).1 (all_more o q ys (subst (λ z. AllAbove z ys) there.1 (above_kid top 0 xs ys a all))))
-          ∙ ap (scan octets) (append-nil a.list) in
+      ap (λ zs. scan octets (joined zs)) split
+      ∙ joined_scan octets xs (a ∷ []) ys
+      (none_under name octets (o ∷ q) xs goes (all_first (λ k. IsKid top k) xs (a ∷ ys) each) (all_less o q xs (subst (λ z. AllBelow z xs) there.1 (below_kid top 0 xs ys a all))))
+      (none_under name octets (o ∷ q) ys goes (all_second (λ k. IsKid top k) xs (a ∷ ys) each).1 (all_more o q ys (subst (λ z. AllAbove z ys) there.1 (above_kid top 0 xs ys a all))))
+      ∙ ap (scan octets) (append-nil a.list) in
       best_two name octets q o n.exact n.wild ks goes ∙ ap (λ x. option_else x (acting acts (entry_key name true) n.wild)) one
 
 -- ---- how far down
@@ -279,10 +285,10 @@ module _ {V : Type 0} where
       let long : length (symbols name ++ (o + 2) ∷ []) ≡ n.len + 1 = omega (arith, length-append (symbols name) ((o + 2) ∷ []), length_symbols name, len) in
       let same_length : length (name ++ o ∷ []) ≡ n.len + 1 = omega (arith, length-append name (o ∷ []), len) in
       let first : symbols (take (n.len + 1) below) ≡ symbols name ++ (o + 2) ∷ [] =
-          sym (take-map (λ (x : ℕ). x + 2) (n.len + 1) below)
-          ∙ ap (take (n.len + 1)) (spelled (symbols name) (symbols below) (o + 2) u ∙ sym (append_assoc (symbols name) ((o + 2) ∷ []) more))
-          ∙ take_at (symbols name ++ (o + 2) ∷ []) more (n.len + 1) long in
+      sym (take-map (λ (x : ℕ). x + 2) (n.len + 1) below)
+      ∙ ap (take (n.len + 1)) (spelled (symbols name) (symbols below) (o + 2) u ∙ sym (append_assoc (symbols name) ((o + 2) ∷ []) more))
+      ∙ take_at (symbols name ++ (o + 2) ∷ []) more (n.len + 1) long in
       let second : take (n.len + 1) octets ≡ name ++ o ∷ [] =
-          ap (take (n.len + 1)) (goes ∙ sym (append_assoc name (o ∷ []) rest))
-          ∙ take_at (name ++ o ∷ []) rest (n.len + 1) same_length in
+      ap (take (n.len + 1)) (goes ∙ sym (append_assoc name (o ∷ []) rest))
+      ∙ take_at (name ++ o ∷ []) rest (n.len + 1) same_length in
       unmapped (take (n.len + 1) below) (take (n.len + 1) octets) (first ∙ sym (symbols_append name (o ∷ [])) ∙ ap symbols (sym second))

@@ -6,7 +6,7 @@ use Rattle.octet_trie.specs.Nodes.{kids_of, name_of}
 use Rattle.octet_trie.specs.Plain.{plain}
 use Rattle.octet_trie.proofs.Putting.{common_with, same_key, same_len, key_goes, name_length}
 use Rattle.octet_trie.proofs.Searching.{kids_count}
-use Rattle.octet_trie.proofs.Walking.{best_apart, best_here, best_gap, best_below, kid_longer, kid_begins, scan}
+use Rattle.octet_trie.proofs.Walking.{best_apart, best_here, best_gap, best_below, kid_longer, kid_begins, chained, settled}
 use Rattle.octet_trie.proofs.walk.+best.Goals as goal
 use Rattle.trie_keys.specs.Scan.{option_else, else_assoc}
 
@@ -42,13 +42,12 @@ returns-in-Ok-clause-found g t c =
     let n = plain p c.args.node.now in
     let k = plain p c.kid-kid.result in
     let octets = c.args.octets.now in
-    let before = option_map (entry_of s.octets) c.args.found in
     let common = common_with s n c.name.result.now octets c.common-same.result c.name.ensures c.common-same.ensures in
     let len = same_len s n octets c.common-same.result c.requires.node common c.if-same-node.false in
     let goes = key_goes s n octets c.common-same.result c.requires.node common c.if-same-node.false c.if-same-octets.true in
     let kid = subst (λ x. KidAt (kids_of s.subs n) (get_or octets x 0) c.in-Ok.place) (len ∙ sym (name_length s n c.requires.node)) c.in-Ok.ensures in
     let below = best_below a s n k octets c.in-Ok.place c.requires.node goes kid c.kid-kid.ensures in
-    c.best.ensures.found ∙ ap (λ o. option_else _ o) c.own_or-found.ensures.found ∙ sym (else_assoc _ _ before) ∙ ap (λ o. option_else o before) (sym below)
+    chained _ _ _ _ _ _ c.best.ensures.found c.own_or-found.ensures.found below
 
 pub returns-in-Ok-clause-cost : goal.returns-in-Ok-clause-cost
 returns-in-Ok-clause-cost g t c =
@@ -63,12 +62,11 @@ returns-in-Err-clause-found g t c =
     let s = c.args.store.now in
     let n = plain p c.args.node.now in
     let octets = c.args.octets.now in
-    let before = option_map (entry_of s.octets) c.args.found in
     let common = common_with s n c.name.result.now octets c.common-same.result c.name.ensures c.common-same.ensures in
     let len = same_len s n octets c.common-same.result c.requires.node common c.if-same-node.false in
     let goes = key_goes s n octets c.common-same.result c.requires.node common c.if-same-node.false c.if-same-octets.true in
-    let gap = subst (λ x. GapAt (kids_of s.subs n) (get_or octets x 0) _) (len ∙ sym (name_length s n c.requires.node)) c.in-Err.ensures in
-    c.own_or-found.ensures.found ∙ ap (λ o. option_else o before) (sym (best_gap a s n octets _ c.requires.node goes gap))
+    let gap = subst (λ x. GapAt (kids_of s.subs n) (get_or octets x 0) c.in-Err.field-0) (len ∙ sym (name_length s n c.requires.node)) c.in-Err.ensures in
+    settled _ _ _ _ c.own_or-found.ensures.found (best_gap a s n octets c.in-Err.field-0 c.requires.node goes gap)
 
 pub returns-else-same-octets-clause-found : goal.returns-else-same-octets-clause-found
 returns-else-same-octets-clause-found g t c =
@@ -77,7 +75,6 @@ returns-else-same-octets-clause-found g t c =
     let s = c.args.store.now in
     let n = plain p c.args.node.now in
     let octets = c.args.octets.now in
-    let before = option_map (entry_of s.octets) c.args.found in
     let common = common_with s n c.name.result.now octets c.common-same.result c.name.ensures c.common-same.ensures in
     let same = same_key s n octets c.common-same.result c.requires.node common c.if-same-node.false c.if-same-octets.false in
-    c.own_or.ensures.found ∙ ap (λ o. option_else o before) (sym (best_here a s n octets c.requires.node same))
+    settled _ _ _ _ c.own_or.ensures.found (best_here a s n octets c.requires.node same)
