@@ -1,5 +1,5 @@
 -- Where a key stands among the entries of a node.
-use Rattle.std.proofs.Common.{◌≡◌, ℕ, zero, suc, ◌+◌, ◌<◌, ◌≤◌, Bool, true, false, cond, Option, Some, None, List, [], ◌∷◌, ◌++◌, length, refl, sym, ap, ◌∙◌, subst, arith, append_assoc, append-nil, is_eq}
+use Rattle.std.proofs.Common.{◌≡◌, ℕ, ◌+◌, ◌<◌, cond, Option, Some, None, List, [], ◌∷◌, ◌++◌, length, refl, sym, ap, ◌∙◌, arith, append_assoc, is_eq}
 use Rattle.std.specs.BTreeMap.{insert_entry, is_at}
 use Rattle.std.specs.Cmp.{tied_itself}
 use Rattle.std.specs.List.{AllByRecursion}
@@ -7,7 +7,7 @@ use Rattle.std.specs.Map.{remove_entry, lookup}
 use Rattle.std.specs.Ordering.{match_ordering}
 use Rattle.std.specs.declared.cmp.Ordering.{Ordering}
 use Rattle.std.specs.declared.cmp.Ordering.TheVariants.{Less, Equal, Greater}
-use Rattle.octet_trie.specs.ListKeys.{octet_keys, end_symbol}
+use Rattle.octet_trie.specs.ListKeys.{octet_keys}
 use Rattle.octet_trie.specs.Nodes.{Sub, joined, list_of, IsKid}
 use Rattle.octet_trie.proofs.Kinship.{AllBelow, AllAbove, behind_joined, before_joined, past_two, past_ends}
 use Rattle.octet_trie.proofs.ListLaws.{list_laws}

@@ -1,9 +1,8 @@
 -- What two keys have in common.
-use Rattle.std.proofs.Common.{◌≡◌, ℕ, zero, suc, ◌+◌, ◌<◌, ◌≤◌, Bool, true, false, List, [], ◌∷◌, ◌++◌, length, take, drop, get_or, map, refl, sym, ap, ◌∙◌, subst, arith, append-nil, append_assoc, length-append}
-use Rattle.std.proofs.lemmas.List.{take_all, take-append-drop, drop_more, get_or_at, length-take-le}
+use Rattle.std.proofs.Common.{◌≡◌, ℕ, ◌+◌, ◌<◌, ◌≤◌, Bool, true, false, List, [], ◌∷◌, ◌++◌, length, take, drop, get_or, sym, ap, ◌∙◌, subst, arith, append-nil, append_assoc, length-append}
+use Rattle.std.proofs.lemmas.List.{take_all, take-append-drop, get_or_at, length-take-le}
 use Rattle.octet_trie.specs.Edits.{IsCommon, GoesOn}
 use Rattle.octet_trie.specs.ListKeys.{octet_keys, symbols, end_symbol, entry_key}
-use Rattle.octet_trie.proofs.ListLaws.{list_laws}
 use Rattle.octet_trie.proofs.Spelling.{length_symbols, symbols_append, under_top, valid_short}
 use Rattle.octet_trie.proofs.Stretches.{parted}
 use Rattle.trie_keys.specs.Keys.{Keys, KeyLaws, Under}

@@ -1,5 +1,5 @@
 -- Nodes side by side under another.
-use Rattle.std.proofs.Common.{◌≡◌, ℕ, zero, suc, ◌+◌, ◌<◌, ◌≤◌, Bool, true, List, [], ◌∷◌, ◌++◌, length, take, drop, get_or, refl, sym, ap, ◌∙◌, subst, arith, add-one, append-nil}
+use Rattle.std.proofs.Common.{◌≡◌, ℕ, ◌+◌, ◌<◌, ◌≤◌, List, [], ◌∷◌, ◌++◌, length, take, drop, get_or, sym, subst, arith}
 use Rattle.std.proofs.lemmas.List.{take_more, drop_more}
 use Rattle.std.specs.List.{AllByRecursion}
 use Rattle.std.specs.declared.cmp.Ordering.TheVariants.{Less, Greater}
@@ -8,7 +8,7 @@ use Rattle.octet_trie.specs.Nodes.{Sub, joined, IsKid, AreKids}
 use Rattle.octet_trie.proofs.ListLaws.{list_laws}
 use Rattle.octet_trie.proofs.Stretches.{parted}
 use Rattle.trie_keys.specs.Beginning.{before_side, behind_side}
-use Rattle.trie_keys.specs.Entries.{Before, Behind, all_append, all_first, all_second}
+use Rattle.trie_keys.specs.Entries.{Before, Behind, all_append}
 use Rattle.trie_keys.specs.Keys.{Under}
 
 module _ {V : Type 0} where

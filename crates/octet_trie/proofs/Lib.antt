@@ -10,3 +10,4 @@ pub mod Commons
 pub mod Putting
 pub mod Taking
 pub mod Walking
+pub mod Tries

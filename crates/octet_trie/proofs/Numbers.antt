@@ -1,6 +1,6 @@
 -- For what the numbers of nodes stand, as octets and nodes come behind others.
-use Rattle.std.proofs.Common.{◌≡◌, ℕ, zero, suc, ◌+◌, ◌<◌, ◌≤◌, Bool, true, Option, Some, None, List, [], ◌∷◌, ◌++◌, length, take, drop, refl, sym, ap, ◌∙◌, subst, arith, slice_get, get_or, length-append, append_assoc, append-nil, add-zero}
-use Rattle.std.proofs.lemmas.List.{get_or_append_left, get_or_at}
+use Rattle.std.proofs.Common.{◌≡◌, ℕ, zero, suc, ◌+◌, ◌≤◌, Some, List, [], ◌∷◌, ◌++◌, length, refl, sym, ap, ◌∙◌, subst, arith, slice_get, get_or, length-append, append_assoc, append-nil}
+use Rattle.std.proofs.lemmas.List.{get_or_at}
 use Rattle.octet_trie.specs.ListKeys.{symbols}
 use Rattle.octet_trie.specs.Nodes.{PlainNode, Sub, Stored, name_of, key_of, kids_of, list_of, sub_of, stands, AreKids, IsNode, subs_from, AreNodes, IsAt, Extends}
 use Rattle.octet_trie.proofs.Stretches.{stretch_kept}

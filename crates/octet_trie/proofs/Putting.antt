@@ -1,17 +1,17 @@
 -- A value at a key.
-use Rattle.std.proofs.Common.{◌≡◌, ℕ, zero, suc, ◌+◌, ◌<◌, ◌≤◌, Bool, true, false, cond, Option, Some, None, List, [], ◌∷◌, ◌++◌, length, take, drop, get_or, Result, Ok, Err, IfOk, refl, sym, ap, ◌∙◌, subst, arith, append-nil, append_assoc, length-append}
-use Rattle.std.proofs.lemmas.List.{take_all, take-take, take-append-drop, length-take-le}
-use Rattle.std.specs.BTreeMap.{insert_entry, is_at}
+use Rattle.std.proofs.Common.{◌≡◌, ℕ, ◌+◌, ◌<◌, ◌≤◌, Bool, true, false, cond, Option, Some, None, List, [], ◌∷◌, ◌++◌, length, take, drop, get_or, Result, Ok, Err, IfOk, refl, sym, ap, ◌∙◌, subst, arith, append-nil, length-append}
+use Rattle.std.proofs.lemmas.List.{take-append-drop}
+use Rattle.std.specs.BTreeMap.{insert_entry}
 use Rattle.std.specs.List.{AllByRecursion}
 use Rattle.octet_trie.specs.Edits.{KidAt, GapAt, OneKid, GoesOn, IsCommon, Rekid, IsLeaf, IsBranch, Put, with_others}
-use Rattle.octet_trie.specs.ListKeys.{octet_keys, symbols, end_symbol, entry_key}
+use Rattle.octet_trie.specs.ListKeys.{octet_keys, symbols, entry_key}
 use Rattle.octet_trie.specs.Nodes.{PlainNode, Sub, Stored, name_of, key_of, kids_of, joined, list_of, stands, IsKid, AreKids, IsNode, IsAt, Extends}
 use Rattle.octet_trie.specs.Written.{IsWritten}
-use Rattle.octet_trie.proofs.Between.{IsBetween, between_insert, insert_own, at_exact, at_wild, at_kids, list_parts, front_of}
-use Rattle.octet_trie.proofs.Commons.{middle, goes_from, goes_under, goes_under_entry, PartsAt, parts_at, under_front, whole_common, front_common}
+use Rattle.octet_trie.proofs.Between.{between_insert, insert_own, at_exact, at_wild, at_kids, list_parts, front_of}
+use Rattle.octet_trie.proofs.Commons.{middle, goes_from, goes_under, goes_under_entry, parts_at, under_front, whole_common, front_common}
 use Rattle.octet_trie.proofs.Kinship.{AllBelow, AllAbove, each_kid, kid_of, below_kid, above_kid, kids_replaced, kids_with}
 use Rattle.octet_trie.proofs.ListLaws.{list_laws}
-use Rattle.octet_trie.proofs.Numbers.{node_after, stands_after, name_after, kids_after, extends_itself, extends_subs, extends_along, longer_after}
+use Rattle.octet_trie.proofs.Numbers.{node_after, stands_after, name_after, kids_after, extends_itself, extends_subs, extends_along}
 use Rattle.octet_trie.proofs.Searching.{kid_is, kids_count}
 use Rattle.octet_trie.proofs.Spelling.{length_symbols, own_under}
 use Rattle.octet_trie.proofs.Stretches.{parted, stretch_new, stretch_front, length_stretch}

@@ -1,12 +1,12 @@
 -- Nodes found among those under another, and copies of them.
-use Rattle.std.proofs.Common.{◌≡◌, ℕ, zero, suc, ◌+◌, ◌-◌, ◌<◌, ◌≤◌, Bool, Option, Some, None, List, [], ◌∷◌, ◌++◌, length, take, drop, get_or, refl, sym, ap, ◌∙◌, subst, arith, append_assoc, append-nil, length-append, length-take, length-drop, IfSome}
+use Rattle.std.proofs.Common.{◌≡◌, ℕ, ◌+◌, ◌-◌, ◌<◌, ◌≤◌, Bool, Option, Some, None, List, [], ◌∷◌, ◌++◌, length, take, drop, get_or, refl, sym, ap, ◌∙◌, subst, arith, append_assoc, length-append, length-take, length-drop, IfSome}
 use Rattle.std.proofs.lemmas.List.{get_or_append_left}
 use Rattle.octet_trie.specs.Edits.{subs_if, with_others}
-use Rattle.octet_trie.specs.Nodes.{PlainNode, Sub, Stored, kids_of, stands, AreKids, IsNode, IsAt, Extends}
+use Rattle.octet_trie.specs.Nodes.{PlainNode, Sub, Stored, kids_of, stands, IsNode, IsAt, Extends}
 use Rattle.octet_trie.specs.Plain.{plain}
 use Rattle.octet_trie.specs.declared.node.Node.{Node}
 use Rattle.octet_trie.proofs.Kinship.{AllBelow, AllAbove, all_below, all_above, few_kids}
-use Rattle.octet_trie.proofs.Numbers.{node_after, stands_after, extends_subs}
+use Rattle.octet_trie.proofs.Numbers.{node_after, stands_after}
 use Rattle.octet_trie.proofs.Stretches.{stretch_at, stretch_more, stretch_kept, stretch_front, stretch_rest, length_stretch}
 use Rattle.trie_keys.specs.declared.marked.Marked.{Marked}
 

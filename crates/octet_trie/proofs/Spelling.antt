@@ -1,10 +1,10 @@
 -- Keys of lists of numbers, spelled out.
-use Rattle.std.proofs.Common.{◌≡◌, ℕ, zero, suc, ◌+◌, ◌<◌, ◌≤◌, Bool, true, false, List, [], ◌∷◌, ◌++◌, length, take, drop, get_or, map, refl, sym, ap, ◌∙◌, subst, arith, add-one, length-append}
+use Rattle.std.proofs.Common.{◌≡◌, ℕ, ◌+◌, ◌<◌, ◌≤◌, true, List, [], ◌∷◌, ◌++◌, length, take, drop, refl, sym, ap, ◌∙◌, arith, length-append}
 use Rattle.std.proofs.lemmas.List.{take_all, take_at, take-append-drop, drop_more, get_or_at}
-use Rattle.octet_trie.specs.ListKeys.{octet_keys, list_keys, symbols}
-use Rattle.octet_trie.proofs.ListLaws.{same_from, from_same, short_from, from_short}
+use Rattle.octet_trie.specs.ListKeys.{octet_keys, symbols}
+use Rattle.octet_trie.proofs.ListLaws.{same_from, from_same, from_short}
 use Rattle.octet_trie.proofs.Stretches.{map_length}
-use Rattle.trie_keys.specs.Keys.{Under, Begins}
+use Rattle.trie_keys.specs.Keys.{Under}
 
 pub length_symbols : (octets : List ℕ) → length (symbols octets) ≡ length octets
 length_symbols octets = map_length (λ o. o + 2) octets

@@ -1,7 +1,7 @@
 -- What a pool of octets and a list of nodes come to, as either grows.
-use Rattle.std.proofs.Common.{◌≡◌, ℕ, zero, suc, ◌+◌, ◌<◌, ◌≤◌, Bool, Option, Some, None, List, [], ◌∷◌, ◌++◌, length, take, drop, map, refl, sym, ap, ◌∙◌, subst, arith, slice_get, length-append, append_assoc, append-nil}
+use Rattle.std.proofs.Common.{◌≡◌, ℕ, zero, suc, Bool, Some, List, [], ◌∷◌, ◌++◌, length, take, drop, map, sym, ap, ◌∙◌, subst, arith, slice_get, length-append, append_assoc}
 use Rattle.std.proofs.lemmas.List.{map_push, drop_at, take_all}
-use Rattle.octet_trie.specs.Nodes.{PlainNode, Sub, Stored, stands, IsNode, subs_from, AreNodes, IsAt}
+use Rattle.octet_trie.specs.Nodes.{Stored, stands, IsNode, subs_from, AreNodes, IsAt}
 use Rattle.octet_trie.specs.Plain.{plain}
 use Rattle.octet_trie.specs.Written.{stored, AreStored, IsWritten}
 use Rattle.octet_trie.specs.declared.node.Node.{Node}

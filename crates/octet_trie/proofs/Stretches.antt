@@ -1,6 +1,6 @@
 -- Stretches of lists.
-use Rattle.std.proofs.Common.{◌≡◌, ℕ, zero, suc, ◌+◌, ◌-◌, ◌<◌, ◌≤◌, List, [], ◌∷◌, ◌++◌, length, take, drop, get_or, map, refl, sym, ap, ◌∙◌, subst, arith, add-one, append_assoc, append-nil, length-append, length-drop}
-use Rattle.std.proofs.lemmas.List.{take_all, take-take, drop-take, take_at, drop_at, take-append-le, drop-append-le, take-append-drop, drop_more, take_more, get_or-take, get_or-drop, length-take, length-take-le, drop-drop}
+use Rattle.std.proofs.Common.{◌≡◌, ℕ, suc, ◌+◌, ◌-◌, ◌<◌, ◌≤◌, List, [], ◌∷◌, ◌++◌, length, take, drop, get_or, map, refl, sym, ap, ◌∙◌, arith, append_assoc, length-drop}
+use Rattle.std.proofs.lemmas.List.{take_all, take-take, drop-take, drop_at, take-append-le, drop-append-le, take-append-drop, drop_more, take_more, get_or-take, get_or-drop, length-take-le, drop-drop}
 use Rattle.std.specs.List.{flat_map}
 
 module _ {X : Type 0} where

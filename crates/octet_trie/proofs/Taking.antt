@@ -1,5 +1,5 @@
 -- A key taken out.
-use Rattle.std.proofs.Common.{◌≡◌, ℕ, zero, suc, ◌+◌, ◌<◌, ◌≤◌, Bool, true, false, cond, Option, Some, None, List, [], ◌∷◌, ◌++◌, length, take, drop, get_or, refl, sym, ap, ◌∙◌, subst, arith, append-nil, IfSome}
+use Rattle.std.proofs.Common.{◌≡◌, ℕ, ◌+◌, ◌<◌, Bool, true, false, cond, Option, Some, None, List, [], ◌∷◌, ◌++◌, length, take, drop, get_or, refl, sym, ap, ◌∙◌, subst, arith, append-nil, IfSome}
 use Rattle.std.proofs.lemmas.List.{take-append-drop}
 use Rattle.std.specs.BTreeMap.{is_at}
 use Rattle.std.specs.List.{AllByRecursion}
@@ -11,15 +11,15 @@ use Rattle.octet_trie.specs.Nodes.{PlainNode, Sub, Stored, name_of, key_of, kids
 use Rattle.octet_trie.specs.Plain.{plain}
 use Rattle.octet_trie.specs.declared.node.Node.{Node}
 use Rattle.octet_trie.proofs.Between.{between_remove, remove_own, at_exact, at_wild, at_kids, list_parts, front_of}
-use Rattle.octet_trie.proofs.Commons.{PartsAt, parts_at}
+use Rattle.octet_trie.proofs.Commons.{parts_at}
 use Rattle.octet_trie.proofs.Kinship.{AllBelow, AllAbove, each_kid, below_kid, above_kid, kids_replaced, kids_without}
-use Rattle.octet_trie.proofs.ListLaws.{list_laws, same_from}
+use Rattle.octet_trie.proofs.ListLaws.{list_laws}
 use Rattle.octet_trie.proofs.Numbers.{node_after, stands_after, name_after, kids_after, extends_itself, extends_subs, extends_along}
 use Rattle.octet_trie.proofs.Putting.{name_length, key_short, each_under, begins_at, kid_under, kid_there, rekid_node, rekid_stands, rekid_name}
 use Rattle.octet_trie.proofs.Searching.{kid_is, kids_count}
 use Rattle.octet_trie.proofs.Stretches.{parted}
-use Rattle.trie_keys.specs.Beginning.{all_further, under_begins, further}
-use Rattle.trie_keys.specs.Entries.{all_first, all_second, all_map, all_removed, remove_absent}
+use Rattle.trie_keys.specs.Beginning.{under_begins, further}
+use Rattle.trie_keys.specs.Entries.{all_first, all_second, all_map, remove_absent}
 use Rattle.trie_keys.specs.Keys.{Keys, KeyLaws, Under, Begins}
 use Rattle.trie_keys.specs.Scan.{own}
 use Rattle.trie_keys.specs.declared.marked.Marked.{Marked}

@@ -1,5 +1,5 @@
 -- A walk finds what a scan over the entries finds.
-use Rattle.std.proofs.Common.{◌≡◌, ℕ, zero, suc, ◌+◌, ◌<◌, ◌≤◌, ◌==◌, Bool, true, false, cond, ◌&&◌, Option, Some, None, List, [], ◌∷◌, ◌++◌, length, take, drop, get_or, map, refl, sym, ap, ◌∙◌, subst, arith, append-nil, append_assoc, length-append, eqb}
+use Rattle.std.proofs.Common.{◌≡◌, ℕ, ◌+◌, ◌<◌, Bool, true, false, cond, ◌&&◌, Option, Some, None, List, [], ◌∷◌, ◌++◌, length, take, drop, get_or, refl, sym, ap, ◌∙◌, subst, arith, append-nil, append_assoc, length-append, eqb}
 use Rattle.std.proofs.lemmas.Bool.Decides.{nat_tests}
 use Rattle.std.proofs.lemmas.List.{take-append-drop, take-map, take_at, length-take-le, get_or_at}
 use Rattle.std.specs.BTreeMap.{is_at}
@@ -7,19 +7,19 @@ use Rattle.std.specs.List.{AllByRecursion}
 use Rattle.std.specs.Map.{lookup}
 use Rattle.octet_trie.specs.Edits.{KidAt, GapAt, IsCommon, GoesOn}
 use Rattle.octet_trie.specs.Fits.{is_last, fits, acting}
-use Rattle.octet_trie.specs.ListKeys.{octet_keys, symbols, end_symbol, entry_key}
+use Rattle.octet_trie.specs.ListKeys.{octet_keys, symbols, entry_key}
 use Rattle.octet_trie.specs.Nodes.{PlainNode, Sub, Stored, name_of, key_of, kids_of, joined, list_of, stands, IsKid, AreKids, IsNode, IsAt}
-use Rattle.octet_trie.proofs.Between.{between_lookup, lookup_own, lookup_absent, at_exact, at_wild, at_kids, front_of, list_parts}
-use Rattle.octet_trie.proofs.Commons.{under_front, goes_from}
+use Rattle.octet_trie.proofs.Between.{between_lookup, lookup_own, lookup_absent, at_exact, at_wild, at_kids, front_of}
+use Rattle.octet_trie.proofs.Commons.{under_front}
 use Rattle.octet_trie.proofs.Kinship.{AllBelow, AllAbove, each_kid, below_kid, above_kid}
 use Rattle.octet_trie.proofs.ListLaws.{list_laws}
-use Rattle.octet_trie.proofs.Putting.{name_length, key_short, each_under, begins_at, kid_there, key_goes}
+use Rattle.octet_trie.proofs.Putting.{name_length, key_short, each_under, begins_at, kid_there}
 use Rattle.octet_trie.proofs.Searching.{kid_is, kids_count}
 use Rattle.octet_trie.proofs.Spelling.{spelled, length_symbols, symbols_append, unmapped}
 use Rattle.octet_trie.proofs.Stretches.{parted, flat_append}
 use Rattle.octet_trie.proofs.Taking.{none_apart}
 use Rattle.trie_keys.specs.Beginning.{further}
-use Rattle.trie_keys.specs.Entries.{all_append, all_first, all_second, all_map}
+use Rattle.trie_keys.specs.Entries.{all_first, all_second, all_map}
 use Rattle.trie_keys.specs.Keys.{Under, Begins}
 use Rattle.trie_keys.specs.Scan.{own, last_where, option_else, last_append, last_none, else_none, else_assoc}
 use Rattle.trie_keys.specs.declared.marked.Marked.{Marked}

@@ -4,3 +4,4 @@ pub mod Plain
 pub mod Written
 pub mod Edits
 pub mod Fits
+pub mod Trie

@@ -1,6 +1,6 @@
 -- What a pool of octets and a list of nodes come to.
 use Rattle.std.specs.Prelude.{◌≡◌, ℕ, Bool, List, [], ◌++◌, length, map, take, drop}
-use Rattle.octet_trie.specs.Nodes.{PlainNode, Stored, subs_from, AreNodes}
+use Rattle.octet_trie.specs.Nodes.{Stored, subs_from, AreNodes}
 use Rattle.octet_trie.specs.Plain.{plain}
 use Rattle.octet_trie.specs.declared.node.Node.{Node}
 use Rattle.shared_list.specs.Octets.{StandsWhole}

@@ -7,6 +7,7 @@ mod node;
 mod put;
 mod store;
 mod take;
+mod trie;
 mod walk;
 
-pub use node::Node;
+pub use trie::{OctetFound, OctetTrie};

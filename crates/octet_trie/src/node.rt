@@ -7,7 +7,7 @@ use trie_keys::{Mark, Marked};
 
 /// A node. It takes 24 octets where a value takes four and a mark one.
 #[derive(Clone, Copy, Drop)]
-pub struct Node<N, M> {
+pub(crate) struct Node<N, M> {
     // where the octets of its key begin
     pub(crate) key: u32,
     // the number of the first node under it

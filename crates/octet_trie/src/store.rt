@@ -1,9 +1,10 @@
 //! The octets of keys, and the nodes.
 
-ghost use Rattle.std.specs.Prelude.{◌≡◌, ◌+◌, ◌<◌, ◌≤◌, ◌^◌, [], ◌∷◌, ◌++◌, length, slice_index, IfOk};
+ghost use Rattle.std.specs.Prelude.{◌≡◌, ◌+◌, ◌<◌, ◌≤◌, ◌^◌, [], ◌∷◌, ◌++◌, length, slice_index, take, drop, IfOk};
 ghost use Rattle.octet_trie.specs.Nodes.{IsAt, IsNode, name_of, stands};
 ghost use Rattle.octet_trie.specs.Plain.{plain};
 ghost use Rattle.octet_trie.specs.Written.{IsWritten};
+ghost use Rattle.shared_list.specs.Octets.{StandsWhole};
 
 use crate::node::Node;
 use shared_list::{Share, SharedList, SharedOctets};
@@ -65,6 +66,14 @@ impl<N: Copy + Drop, M: Mark> Store<N, M> {
         ensures { result.now ≡ name_of self.now.octets (plain M.present node.now) }
     {
         self.octets.get(node.key, node.len as usize)
+    }
+
+    // So many octets from the place on.
+    pub(crate) fn read(&self, place: u32, len: u8) -> &[u8]
+        requires { StandsWhole self.now.octets place len }
+        ensures { result.now ≡ take len (drop place self.now.octets) }
+    {
+        self.octets.get(place, len as usize)
     }
 
     // An octet of the node's key.

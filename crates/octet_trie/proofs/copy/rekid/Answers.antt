@@ -1,6 +1,6 @@
-use Rattle.std.proofs.Common.{◌≡◌, ℕ, ◌<◌, ◌≤◌, ◌-◌, ◌++◌, length, sym, ap, ◌∙◌, subst, arith, Fits-lit}
-use Rattle.octet_trie.specs.Edits.{Rekid, subs_if, with_others}
-use Rattle.octet_trie.specs.Nodes.{Stored, kids_of}
+use Rattle.std.proofs.Common.{◌++◌, ◌∙◌, arith}
+use Rattle.octet_trie.specs.Edits.{subs_if, with_others}
+use Rattle.octet_trie.specs.Nodes.{kids_of}
 use Rattle.octet_trie.specs.Plain.{plain}
 use Rattle.octet_trie.proofs.Searching.{rekidded, few_others, others_count, subs_if_after, node_if_after, one_if}
 use Rattle.octet_trie.proofs.Numbers.{extends_subs}

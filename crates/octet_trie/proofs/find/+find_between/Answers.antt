@@ -1,7 +1,6 @@
-use Rattle.std.proofs.Common.{◌≡◌, ◌<◌, ◌≤◌, ◌+◌, ◌-◌, ◌/◌, arith, rules}
+use Rattle.std.proofs.Common.{◌+◌, ◌-◌, ◌/◌, arith, rules}
 use Rattle.octet_trie.specs.Plain.{plain}
 use Rattle.octet_trie.proofs.Searching.{found_below, found_above}
-use Rattle.octet_trie.proofs.Between.{at_kids}
 use Rattle.octet_trie.proofs.find.+find_between.Goals as goal
 
 pub find_between-requires : goal.find_between-requires

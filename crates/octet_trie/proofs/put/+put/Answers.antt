@@ -1,6 +1,3 @@
-use Rattle.std.proofs.Common.{◌≡◌, ◌≤◌, ◌<◌, sym, ap, ◌∙◌, subst, arith}
-use Rattle.octet_trie.specs.Edits.{IsCommon}
-use Rattle.octet_trie.specs.Nodes.{name_of}
 use Rattle.octet_trie.specs.Plain.{plain}
 use Rattle.octet_trie.proofs.Putting.{told, put_whole, put_below, put_branched, common_with, same_key, key_under}
 use Rattle.octet_trie.proofs.put.+put.Goals as goal

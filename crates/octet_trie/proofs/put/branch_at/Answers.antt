@@ -1,4 +1,4 @@
-use Rattle.std.proofs.Common.{◌≡◌, ◌<◌, refl, subst, ◌∙◌, arith}
+use Rattle.std.proofs.Common.{◌<◌, refl, subst, ◌∙◌}
 use Rattle.octet_trie.specs.Nodes.{name_of}
 use Rattle.octet_trie.specs.Plain.{plain}
 use Rattle.octet_trie.proofs.Putting.{branch_is}

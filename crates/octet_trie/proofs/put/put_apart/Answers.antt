@@ -1,7 +1,7 @@
-use Rattle.std.proofs.Common.{◌≡◌, sym, ◌∙◌, arith}
+use Rattle.std.proofs.Common.{sym, ◌∙◌}
 use Rattle.std.proofs.lemmas.List.{take_all}
 use Rattle.octet_trie.specs.Plain.{plain}
-use Rattle.octet_trie.proofs.Putting.{put_whole, gap_first, gap_last}
+use Rattle.octet_trie.proofs.Putting.{put_whole}
 use Rattle.octet_trie.proofs.put.put_apart.Goals as goal
 
 pub returns-then-len-octets : goal.returns-then-len-octets

@@ -1,9 +1,6 @@
-use Rattle.std.proofs.Common.{◌≡◌, ◌≤◌, ◌<◌, sym, ap, ◌∙◌, subst, arith}
-use Rattle.octet_trie.specs.Edits.{IsCommon}
-use Rattle.octet_trie.specs.Nodes.{name_of}
 use Rattle.octet_trie.specs.Plain.{plain}
 use Rattle.octet_trie.proofs.Putting.{told, common_with, same_key, key_under}
-use Rattle.octet_trie.proofs.Taking.{take_apart, take_gap, take_whole, take_below, lifted_node}
+use Rattle.octet_trie.proofs.Taking.{take_apart, take_gap, take_whole, take_below}
 use Rattle.octet_trie.proofs.take.+take.Goals as goal
 
 pub returns-then-same-node : goal.returns-then-same-node

@@ -1,6 +1,6 @@
-use Rattle.std.proofs.Common.{◌≡◌, Bool, false, cond, Option, Some, None, ap, arith}
+use Rattle.std.proofs.Common.{◌≡◌, Bool, false, cond, Some, None, ap, arith}
 use Rattle.octet_trie.specs.Plain.{plain}
-use Rattle.octet_trie.proofs.Taking.{lifted_kid, lifted_none}
+use Rattle.octet_trie.proofs.Taking.{lifted_kid}
 use Rattle.octet_trie.proofs.take.lift.Goals as goal
 
 missing : {V : Type 0} (b : Bool) (v : V) → b ≡ false → cond b (Some v) None ≡ None

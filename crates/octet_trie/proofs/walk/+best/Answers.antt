@@ -1,14 +1,13 @@
-use Rattle.std.proofs.Common.{◌≡◌, ◌≤◌, ◌<◌, ◌+◌, get_or, length, take, sym, ap, ◌∙◌, subst, arith, rules}
+use Rattle.std.proofs.Common.{◌≡◌, ◌+◌, get_or, take, sym, ◌∙◌, subst, arith, rules}
 use Rattle.std.specs.Option.{option_map}
 use Rattle.octet_trie.specs.Edits.{GapAt, KidAt}
-use Rattle.octet_trie.specs.Fits.{acting, entry_of}
+use Rattle.octet_trie.specs.Fits.{entry_of}
 use Rattle.octet_trie.specs.Nodes.{kids_of, name_of}
 use Rattle.octet_trie.specs.Plain.{plain}
 use Rattle.octet_trie.proofs.Putting.{common_with, same_key, same_len, key_goes, name_length}
 use Rattle.octet_trie.proofs.Searching.{kids_count}
 use Rattle.octet_trie.proofs.Walking.{best_apart, best_here, best_gap, best_below, kid_longer, kid_begins, chained, settled}
 use Rattle.octet_trie.proofs.walk.+best.Goals as goal
-use Rattle.trie_keys.specs.Scan.{option_else, else_assoc}
 
 pub best-requires : goal.best-requires
 best-requires g t c =

@@ -1,6 +1,6 @@
-use Rattle.std.proofs.Common.{◌≡◌, ◌≤◌, ◌<◌, sym, ap, ◌∙◌, subst, arith}
+use Rattle.std.proofs.Common.{◌∙◌}
 use Rattle.octet_trie.specs.Plain.{plain}
-use Rattle.octet_trie.proofs.Putting.{told, common_with, same_key, key_under}
+use Rattle.octet_trie.proofs.Putting.{common_with, same_key, key_under}
 use Rattle.octet_trie.proofs.Walking.{get_apart, get_gap, get_whole, get_below}
 use Rattle.octet_trie.proofs.walk.+get.Goals as goal
 

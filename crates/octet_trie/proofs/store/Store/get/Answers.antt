@@ -1,6 +1,4 @@
-use Rattle.std.proofs.Common.{◌≡◌, ◌<◌, length, arith}
-use Rattle.octet_trie.proofs.ListLaws.{list_laws}
-use Rattle.octet_trie.proofs.Spelling.{spelled}
+use Rattle.std.proofs.Common.{arith}
 use Rattle.octet_trie.proofs.Storing.{stored_at, stored_len}
 use Rattle.octet_trie.proofs.store.Store.get.Goals as goal
 

@@ -1,4 +1,4 @@
-use Rattle.std.proofs.Common.{◌≡◌, ◌∙◌, length, arith}
+use Rattle.std.proofs.Common.{◌∙◌}
 use Rattle.octet_trie.proofs.Storing.{stored_len}
 use Rattle.octet_trie.proofs.store.Store.len.Goals as goal
 

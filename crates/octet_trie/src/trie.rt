@@ -1,0 +1,176 @@
+//! A trie.
+
+ghost use Rattle.std.specs.Prelude.{◌≡◌, ◌+◌, ◌≤◌, ◌&&◌, [], true, length, IfOk};
+ghost use Rattle.std.specs.BTreeMap.{insert_entry, is_at};
+ghost use Rattle.std.specs.Cmp.Lexicographic.{slice_cmp};
+ghost use Rattle.std.specs.Map.{lookup, remove_entry};
+ghost use Rattle.std.specs.Option.{option_map};
+ghost use Rattle.std.specs.Ordering.{nat_cmp};
+ghost use Rattle.octet_trie.specs.Fits.{fits};
+ghost use Rattle.octet_trie.specs.ListKeys.{entry_key, octet_keys};
+ghost use Rattle.octet_trie.specs.Trie.{found_entry};
+ghost use Rattle.trie_keys.specs.Scan.{last_where};
+ghost use Rattle.trie_keys.specs.Sorting.{AreEntries};
+
+use crate::node::Node;
+use crate::put::put;
+use crate::store::Store;
+use crate::take::take;
+use crate::walk;
+use std::alloc::{AllocError, Global};
+use std::marker::Model;
+use std::sync::ledger::Ledger;
+use trie_keys::{Mark, Marked, Steps};
+
+/// An entry of a trie: the octets of its key, whether it is wild, and its value.
+#[derive(Drop)]
+pub struct OctetFound<'a, N, M> {
+    /// The octets of its key.
+    pub key: &'a [u8],
+    /// Whether it is wild.
+    pub wild: bool,
+    /// Its value.
+    pub value: Marked<N, M>,
+}
+
+/// A map from keys of up to 254 octets, each exact or wild, to small plain values with marks. Contracts see its entries in the
+/// order of their keys, an exact one before the wild one of the same octets, and both before those of longer keys. An edit gives a
+/// new version, and the two share what is the same in both.
+#[derive(Drop)]
+pub struct OctetTrie<N, M: Mark> {
+    store: Store<N, M>,
+    root: Node<N, M>,
+    alloc: Global,
+}
+
+impl<N, M: Mark> Model for OctetTrie<N, M> {
+    ghost use Rattle.std.specs.Prelude.{ℕ, List};
+    ghost use Rattle.octet_trie.specs.Nodes.{stands};
+    ghost use Rattle.octet_trie.specs.Plain.{plain};
+    ghost use Rattle.octet_trie.specs.Trie.{IsTrie};
+    ghost use Rattle.trie_keys.specs.declared.marked.Marked.{Marked};
+
+    ghost Value = { List (List ℕ × Marked N M) };
+
+    ghost view = { λ t. (stands t.store (plain M.present t.root)).list };
+
+    ghost invariant = { λ t. IsTrie t.store (plain M.present t.root) };
+}
+
+impl<N: Copy + Drop, M: Mark> OctetTrie<N, M> {
+    /// No entries. It takes no memory.
+    pub fn empty(alloc: Global) -> Self
+    where
+        N: Default,
+        ensures { result ≡ [] }
+    {
+        OctetTrie {
+            store: Store::new(alloc),
+            root: Node::root(),
+            alloc,
+        }
+    }
+
+    /// The same version once more, in constant time.
+    pub fn share(&self) -> Result<Self, AllocError>
+        ensures { IfOk result (λ trie. trie ≡ self.now) }
+    {
+        Ok(OctetTrie {
+            store: self.store.share()?,
+            root: self.root,
+            alloc: self.alloc,
+        })
+    }
+
+    /// With the value at the key, in place of this version: one of many edits.
+    pub fn inserted(
+        self,
+        octets: &[u8],
+        wild: bool,
+        value: Marked<N, M>,
+    ) -> Result<Self, AllocError>
+        requires short { length octets.now ≤ 254 }
+        requires present { M.present value.mark ≡ true }
+        ensures { IfOk result (λ trie. trie ≡ insert_entry (slice_cmp nat_cmp) self (entry_key octets.now wild) value) }
+    {
+        let OctetTrie {
+            mut store,
+            root,
+            alloc,
+        } = self;
+        let root = put(&mut store, &root, octets, wild, value)?;
+        Ok(OctetTrie { store, root, alloc })
+    }
+
+    /// Without the key, in place of this version: one of many edits.
+    pub fn removed(self, octets: &[u8], wild: bool) -> Result<Self, AllocError>
+        requires { length octets.now ≤ 254 }
+        ensures { IfOk result (λ trie. trie ≡ remove_entry (is_at (slice_cmp nat_cmp (entry_key octets.now wild))) self) }
+    {
+        if self.get(octets, wild).is_none() {
+            return Ok(self);
+        }
+        self.taken(octets, wild)
+    }
+
+    // Without the key, where it has a value.
+    fn taken(self, octets: &[u8], wild: bool) -> Result<Self, AllocError>
+        requires { length octets.now ≤ 254 }
+        ensures { IfOk result (λ trie. trie ≡ remove_entry (is_at (slice_cmp nat_cmp (entry_key octets.now wild))) self) }
+    {
+        let OctetTrie {
+            mut store,
+            root,
+            alloc,
+        } = self;
+        let root = take(&mut store, &root, octets, wild)?;
+        Ok(OctetTrie { store, root, alloc })
+    }
+
+    /// With the value at the key. This version stays as it is.
+    pub fn with(&self, octets: &[u8], wild: bool, value: Marked<N, M>) -> Result<Self, AllocError>
+        requires short { length octets.now ≤ 254 }
+        requires present { M.present value.mark ≡ true }
+        ensures { IfOk result (λ trie. trie ≡ insert_entry (slice_cmp nat_cmp) self.now (entry_key octets.now wild) value) }
+    {
+        self.share()?.inserted(octets, wild, value)
+    }
+
+    /// Without the key. This version stays as it is.
+    pub fn without(&self, octets: &[u8], wild: bool) -> Result<Self, AllocError>
+        requires { length octets.now ≤ 254 }
+        ensures { IfOk result (λ trie. trie ≡ remove_entry (is_at (slice_cmp nat_cmp (entry_key octets.now wild))) self.now) }
+    {
+        self.share()?.removed(octets, wild)
+    }
+
+    /// The value at the key, whether it acts or not. It takes no memory.
+    pub fn get(&self, octets: &[u8], wild: bool) -> Option<Marked<N, M>>
+        requires { length octets.now ≤ 254 }
+        ensures value { result ≡ lookup (is_at (slice_cmp nat_cmp (entry_key octets.now wild))) self.now }
+        ensures ordered { AreEntries octet_keys self.now }
+    {
+        walk::get(&self.store, &self.root, octets, wild)
+    }
+
+    /// The exact entry of the octets, or else the wild one of the longest key that is shorter and begins them, each only where it
+    /// acts. It takes no memory, and as many steps as there are nodes on the way.
+    pub fn best<L: Ledger>(
+        &self,
+        octets: &[u8],
+        steps: &mut Steps<L>,
+    ) -> Option<OctetFound<'_, N, M>>
+        ensures found { option_map found_entry result ≡ last_where (λ e. fits octets.now e.0 && M.acts e.1.mark) self.now }
+        ensures cost { steps.new ≤ steps.old + 256 }
+        ensures ordered { AreEntries octet_keys self.now }
+    {
+        match walk::best(&self.store, &self.root, octets, 0, None, steps) {
+            Some(hit) => Some(OctetFound {
+                key: self.store.read(hit.key, hit.len),
+                wild: hit.wild,
+                value: hit.value,
+            }),
+            None => None,
+        }
+    }
+}
