@@ -11,3 +11,4 @@ pub mod Putting
 pub mod Taking
 pub mod Walking
 pub mod Tries
+pub mod Copying

@@ -5,3 +5,4 @@ pub mod Written
 pub mod Edits
 pub mod Fits
 pub mod Trie
+pub mod Copies

@@ -5,6 +5,7 @@ mod copy;
 mod find;
 mod node;
 mod put;
+mod rebuild;
 mod store;
 mod take;
 mod trie;

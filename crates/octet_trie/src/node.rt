@@ -129,6 +129,16 @@ impl<N: Copy + Drop, M: Mark> Node<N, M> {
         node
     }
 
+    // The same node over others, where the octets of its key begin elsewhere.
+    pub(crate) fn moved(&self, key: u32, kids: u32) -> Self
+        ensures { plain M.present result ≡ record (plain M.present self.now) { key = key; kids = kids } }
+    {
+        let mut node = *self;
+        node.key = key;
+        node.kids = kids;
+        node
+    }
+
     // A node of the first octets of the key, over another and without values.
     pub(crate) fn branch(&self, len: u8, kids: u32) -> Self
         ensures { plain M.present result ≡ record { key = self.now.key; len = len; symbol = self.now.symbol; kids = kids; count = 1; exact = None; wild = None } }
