@@ -12,3 +12,4 @@ pub mod Taking
 pub mod Walking
 pub mod Tries
 pub mod Copying
+pub mod Collecting

@@ -1,6 +1,7 @@
 //! Maps from keys of octets, whose versions share their nodes.
 #![tactic(auto)]
 
+mod collect;
 mod copy;
 mod find;
 mod node;

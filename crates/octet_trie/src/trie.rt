@@ -1,6 +1,6 @@
 //! A trie.
 
-ghost use Rattle.std.specs.Prelude.{◌≡◌, ◌+◌, ◌≤◌, ◌&&◌, [], true, length, IfOk};
+ghost use Rattle.std.specs.Prelude.{◌≡◌, ◌+◌, ◌≤◌, ◌&&◌, [], true, length, map, IfOk};
 ghost use Rattle.std.specs.BTreeMap.{insert_entry, is_at};
 ghost use Rattle.std.specs.Cmp.Lexicographic.{slice_cmp};
 ghost use Rattle.std.specs.Map.{lookup, remove_entry};
@@ -12,8 +12,10 @@ ghost use Rattle.octet_trie.specs.Trie.{found_entry};
 ghost use Rattle.trie_keys.specs.Scan.{last_where};
 ghost use Rattle.trie_keys.specs.Sorting.{AreEntries};
 
+use crate::collect::collect;
 use crate::node::Node;
 use crate::put::put;
+use crate::rebuild::copy_node;
 use crate::store::Store;
 use crate::take::take;
 use crate::walk;
@@ -21,6 +23,9 @@ use std::alloc::{AllocError, Global};
 use std::marker::Model;
 use std::sync::ledger::Ledger;
 use trie_keys::{Mark, Marked, Steps};
+
+// How many nodes more than twice those that were in use may stand before they are copied.
+const SPARE: u32 = 2048;
 
 /// An entry of a trie: the octets of its key, whether it is wild, and its value.
 #[derive(Drop)]
@@ -40,6 +45,8 @@ pub struct OctetFound<'a, N, M> {
 pub struct OctetTrie<N, M: Mark> {
     store: Store<N, M>,
     root: Node<N, M>,
+    // how many nodes there were when these were built anew
+    fresh: u32,
     alloc: Global,
 }
 
@@ -67,6 +74,7 @@ impl<N: Copy + Drop, M: Mark> OctetTrie<N, M> {
         OctetTrie {
             store: Store::new(alloc),
             root: Node::root(),
+            fresh: 0,
             alloc,
         }
     }
@@ -78,6 +86,33 @@ impl<N: Copy + Drop, M: Mark> OctetTrie<N, M> {
         Ok(OctetTrie {
             store: self.store.share()?,
             root: self.root,
+            fresh: self.fresh,
+            alloc: self.alloc,
+        })
+    }
+
+    // This version, or one of copies of the nodes in use, once there are more than twice as many as at the last time.
+    fn tidied(self) -> Result<Self, AllocError>
+        ensures { IfOk result (λ trie. trie ≡ self) }
+    {
+        if (self.store.len() / 2).saturating_sub(SPARE / 2) > self.fresh {
+            self.rebuilt()
+        } else {
+            Ok(self)
+        }
+    }
+
+    /// The same version, of copies of the nodes in use and of the octets of their keys.
+    pub fn rebuilt(&self) -> Result<Self, AllocError>
+        ensures { IfOk result (λ trie. trie ≡ self.now) }
+    {
+        let mut store = Store::new(self.alloc);
+        let root = copy_node(self.alloc, &self.store, &self.root, &mut store)?;
+        let fresh = store.len();
+        Ok(OctetTrie {
+            store,
+            root,
+            fresh,
             alloc: self.alloc,
         })
     }
@@ -96,10 +131,17 @@ impl<N: Copy + Drop, M: Mark> OctetTrie<N, M> {
         let OctetTrie {
             mut store,
             root,
+            fresh,
             alloc,
         } = self;
         let root = put(&mut store, &root, octets, wild, value)?;
-        Ok(OctetTrie { store, root, alloc })
+        OctetTrie {
+            store,
+            root,
+            fresh,
+            alloc,
+        }
+        .tidied()
     }
 
     /// Without the key, in place of this version: one of many edits.
@@ -121,10 +163,17 @@ impl<N: Copy + Drop, M: Mark> OctetTrie<N, M> {
         let OctetTrie {
             mut store,
             root,
+            fresh,
             alloc,
         } = self;
         let root = take(&mut store, &root, octets, wild)?;
-        Ok(OctetTrie { store, root, alloc })
+        OctetTrie {
+            store,
+            root,
+            fresh,
+            alloc,
+        }
+        .tidied()
     }
 
     /// With the value at the key. This version stays as it is.
@@ -172,5 +221,14 @@ impl<N: Copy + Drop, M: Mark> OctetTrie<N, M> {
             }),
             None => None,
         }
+    }
+
+    /// The entries in the order of their keys.
+    pub fn entries(&self) -> Result<Vec<OctetFound<'_, N, M>>, AllocError>
+        ensures { IfOk result (λ entries. map found_entry entries.items ≡ self.now) }
+    {
+        let mut entries = Vec::new(self.alloc);
+        collect(&self.store, &self.root, &mut entries)?;
+        Ok(entries)
     }
 }
