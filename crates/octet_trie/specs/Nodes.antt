@@ -1,5 +1,5 @@
 -- Nodes by number, each behind those under it, and the entries for which each number stands.
-use Rattle.std.specs.Prelude.{◌≡◌, ℕ, ◌+◌, ◌<◌, ◌≤◌, Option, List, [], ◌∷◌, ◌++◌, length, take, drop, slice_index_or}
+use Rattle.std.specs.Prelude.{◌≡◌, ℕ, ◌+◌, ◌<◌, ◌≤◌, Bool, cond, Option, Some, None, List, [], ◌∷◌, ◌++◌, length, take, drop, slice_index_or}
 use Rattle.std.specs.List.{AllByRecursion, flat_map}
 use Rattle.octet_trie.specs.ListKeys.{octet_keys, symbols}
 use Rattle.shared_list.specs.Octets.{StandsWhole}
@@ -16,6 +16,30 @@ pub record PlainNode (V : Type 0) : Type 0 where
   pub count : ℕ
   pub exact : Option V
   pub wild : Option V
+
+module _ {V : Type 0} where
+  -- a node with no key and no values
+  abbrev pub root_node : PlainNode V
+  root_node = record { key = 0; len = 0; symbol = 0; kids = 0; count = 0; exact = None; wild = None }
+
+  -- a node with one value and nothing under it
+  abbrev pub leaf_node : ℕ → ℕ → ℕ → Bool → V → PlainNode V
+  leaf_node key len symbol wild v = record { key = key; len = len; symbol = symbol; kids = 0; count = 0; exact = cond wild None (Some v); wild = cond wild (Some v) None }
+
+  -- a node of the first octets of another's key, over one node and without values
+  abbrev pub branch_node : PlainNode V → ℕ → ℕ → PlainNode V
+  branch_node n len kids = record { key = n.key; len = len; symbol = n.symbol; kids = kids; count = 1; exact = None; wild = None }
+
+  -- the value at the node's exact or wild key
+  abbrev pub value_of : PlainNode V → Bool → Option V
+  value_of n wild = cond wild n.wild n.exact
+
+  -- the node with a value there, or without
+  abbrev pub with_value : PlainNode V → Bool → V → PlainNode V
+  with_value n wild v = cond wild (record n { wild = Some v }) (record n { exact = Some v })
+
+  abbrev pub without_value : PlainNode V → Bool → PlainNode V
+  without_value n wild = cond wild (record n { wild = None }) (record n { exact = None })
 
 -- for what a node stands: its key as symbols, the octet behind the key of the node above, and the entries of it and of all under it
 pub record Sub (V : Type 0) : Type 0 where

@@ -1,8 +1,8 @@
 //! All entries.
 
-ghost use Rattle.std.specs.Prelude.{◌≡◌, ◌++◌, cond, map, IfOk};
+ghost use Rattle.std.specs.Prelude.{◌≡◌, ◌++◌, map, IfOk};
 ghost use Rattle.octet_trie.specs.ListKeys.{entry_key};
-ghost use Rattle.octet_trie.specs.Nodes.{IsNode, name_of, stands};
+ghost use Rattle.octet_trie.specs.Nodes.{IsNode, name_of, stands, value_of};
 ghost use Rattle.octet_trie.specs.Plain.{plain};
 ghost use Rattle.octet_trie.specs.Trie.{found_entry};
 ghost use Rattle.trie_keys.specs.Scan.{own};
@@ -21,7 +21,10 @@ fn collect_own<'a, N: Copy + Drop, M: Mark>(
     out: &mut Vec<OctetFound<'a, N, M>>,
 ) -> Result<(), AllocError>
     requires { IsNode store.now (plain M.present node.now) }
-    ensures { IfOk result (λ _. map found_entry out.new.items ≡ map found_entry out.old.items ++ own (entry_key (name_of store.now.octets (plain M.present node.now)) wild) (cond wild (plain M.present node.now).wild (plain M.present node.now).exact)) }
+    ensures { IfOk result
+        (λ _. map found_entry out.new.items ≡ map found_entry out.old.items ++ own
+        (entry_key (name_of store.now.octets (plain M.present node.now)) wild)
+        (value_of (plain M.present node.now) wild)) }
 {
     match node.value(wild) {
         Some(value) => {
@@ -43,7 +46,9 @@ pub(crate) fn collect<'a, N: Copy + Drop, M: Mark>(
     out: &mut Vec<OctetFound<'a, N, M>>,
 ) -> Result<(), AllocError>
     requires { IsNode store.now (plain M.present node.now) }
-    ensures { IfOk result (λ _. map found_entry out.new.items ≡ map found_entry out.old.items ++ (stands store.now (plain M.present node.now)).list) }
+    ensures { IfOk result
+        (λ _. map found_entry out.new.items ≡ map found_entry out.old.items ++
+        (stands store.now (plain M.present node.now)).list) }
 {
     collect_own(store, node, false, out)?;
     collect_own(store, node, true, out)?;

@@ -18,7 +18,9 @@ fn copy<N: Copy + Drop, M: Mark>(
 ) -> Result<(), AllocError>
     requires order { first ≤ end }
     requires within { end ≤ length store.old.subs }
-    ensures { IfOk result (λ _. store.new ≡ record store.old { subs = store.old.subs ++ take (end - first) (drop first store.old.subs) }) }
+    ensures { IfOk result
+        (λ _. store.new ≡ record store.old
+        { subs = store.old.subs ++ take (end - first) (drop first store.old.subs) }) }
 {
     for number in first..end {
         let node = store.get(number);
@@ -33,7 +35,9 @@ fn push_some<N: Copy + Drop, M: Mark>(
     node: Option<Node<N, M>>,
 ) -> Result<(), AllocError>
     requires { IfSome node (λ n. IsNode store.old (plain M.present n)) }
-    ensures { IfOk result (λ _. store.new ≡ record store.old { subs = store.old.subs ++ subs_if M.present store.old node }) }
+    ensures { IfOk result
+        (λ _. store.new ≡ record store.old
+        { subs = store.old.subs ++ subs_if M.present store.old node }) }
 {
     match node {
         Some(node) => {
@@ -56,7 +60,10 @@ pub(crate) fn rekid<N: Copy + Drop, M: Mark>(
     requires kid { IfSome kid (λ n. IsNode store.old (plain M.present n)) }
     requires order { place ≤ rest }
     requires within { rest ≤ node.now.count }
-    ensures { IfOk result (λ m. Rekid store.old store.new (plain M.present node.now) (with_others (kids_of store.old.subs (plain M.present node.now)) place (subs_if M.present store.old kid) rest) (plain M.present m)) }
+    ensures { IfOk result
+        (λ m. Rekid store.old store.new (plain M.present node.now)
+        (with_others (kids_of store.old.subs (plain M.present node.now)) place
+        (subs_if M.present store.old kid) rest) (plain M.present m)) }
 {
     let kids = store.len();
     copy(store, node.kids, node.kids + place)?;

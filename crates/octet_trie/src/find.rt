@@ -51,8 +51,10 @@ fn find_between<N: Copy + Drop, M: Mark>(
     requires node { IsNode store.now (plain M.present node.now) }
     requires order { low ≤ high }
     requires within { high ≤ node.now.count }
-    requires below { AllByRecursion (λ k. k.symbol < symbol) (take low (kids_of store.now.subs (plain M.present node.now))) }
-    requires above { AllByRecursion (λ k. symbol < k.symbol) (drop high (kids_of store.now.subs (plain M.present node.now))) }
+    requires below { AllByRecursion (λ k. k.symbol < symbol)
+        (take low (kids_of store.now.subs (plain M.present node.now))) }
+    requires above { AllByRecursion (λ k. symbol < k.symbol)
+        (drop high (kids_of store.now.subs (plain M.present node.now))) }
     ensures { MatchResult result
         (λ place. KidAt (kids_of store.now.subs (plain M.present node.now)) symbol place)
         (λ place. GapAt (kids_of store.now.subs (plain M.present node.now)) symbol place) }

@@ -1,6 +1,7 @@
 //! A node of a trie.
 
-ghost use Rattle.std.specs.Prelude.{◌≡◌, ◌<◌, true, cond, Some, None};
+ghost use Rattle.std.specs.Prelude.{◌≡◌, true};
+ghost use Rattle.octet_trie.specs.Nodes.{branch_node, leaf_node, root_node, value_of, with_value, without_value};
 ghost use Rattle.octet_trie.specs.Plain.{plain};
 
 use trie_keys::{Mark, Marked};
@@ -24,12 +25,14 @@ pub(crate) struct Node<N, M> {
     pub(crate) wild_mark: M,
 }
 
+const _: () = prove!(size_of::<Node<u32, bool>>() == 24);
+
 impl<N: Copy + Drop, M: Mark> Node<N, M> {
     // A node with no key and no values.
     pub(crate) fn root() -> Self
     where
         N: Default,
-        ensures { plain M.present result ≡ record { key = 0; len = 0; symbol = 0; kids = 0; count = 0; exact = None; wild = None } }
+        ensures { plain M.present result ≡ root_node }
     {
         Node {
             key: 0,
@@ -47,7 +50,7 @@ impl<N: Copy + Drop, M: Mark> Node<N, M> {
     // A node with one value and nothing under it.
     pub(crate) fn leaf(key: u32, len: u8, symbol: u8, wild: bool, value: Marked<N, M>) -> Self
         requires { M.present value.mark ≡ true }
-        ensures { plain M.present result ≡ record { key = key; len = len; symbol = symbol; kids = 0; count = 0; exact = cond wild None (Some value); wild = cond wild (Some value) None } }
+        ensures { plain M.present result ≡ leaf_node key len symbol wild value }
     {
         let exact_mark = if wild { M::absent() } else { value.mark };
         let wild_mark = if wild { value.mark } else { M::absent() };
@@ -66,7 +69,7 @@ impl<N: Copy + Drop, M: Mark> Node<N, M> {
 
     // The value of the exact or of the wild key.
     pub(crate) fn value(&self, wild: bool) -> Option<Marked<N, M>>
-        ensures { result ≡ cond wild (plain M.present self.now).wild (plain M.present self.now).exact }
+        ensures { result ≡ value_of (plain M.present self.now) wild }
     {
         let value = if wild { self.wild } else { self.exact };
         let mark = if wild {
@@ -84,7 +87,7 @@ impl<N: Copy + Drop, M: Mark> Node<N, M> {
     // The same node with a value.
     pub(crate) fn with_value(&self, wild: bool, value: Marked<N, M>) -> Self
         requires { M.present value.mark ≡ true }
-        ensures { plain M.present result ≡ cond wild (record (plain M.present self.now) { wild = Some value }) (record (plain M.present self.now) { exact = Some value }) }
+        ensures { plain M.present result ≡ with_value (plain M.present self.now) wild value }
     {
         let mut node = *self;
         if wild {
@@ -99,7 +102,7 @@ impl<N: Copy + Drop, M: Mark> Node<N, M> {
 
     // The same node without a value.
     pub(crate) fn without_value(&self, wild: bool) -> Self
-        ensures { plain M.present result ≡ cond wild (record (plain M.present self.now) { wild = None }) (record (plain M.present self.now) { exact = None }) }
+        ensures { plain M.present result ≡ without_value (plain M.present self.now) wild }
     {
         let mut node = *self;
         if wild {
@@ -121,7 +124,8 @@ impl<N: Copy + Drop, M: Mark> Node<N, M> {
 
     // The same node, over others.
     pub(crate) fn with_kids(&self, kids: u32, count: u16) -> Self
-        ensures { plain M.present result ≡ record (plain M.present self.now) { kids = kids; count = count } }
+        ensures { plain M.present result ≡ record (plain M.present self.now)
+            { kids = kids; count = count } }
     {
         let mut node = *self;
         node.kids = kids;
@@ -131,7 +135,8 @@ impl<N: Copy + Drop, M: Mark> Node<N, M> {
 
     // The same node over others, where the octets of its key begin elsewhere.
     pub(crate) fn moved(&self, key: u32, kids: u32) -> Self
-        ensures { plain M.present result ≡ record (plain M.present self.now) { key = key; kids = kids } }
+        ensures { plain M.present result ≡ record (plain M.present self.now)
+            { key = key; kids = kids } }
     {
         let mut node = *self;
         node.key = key;
@@ -141,7 +146,7 @@ impl<N: Copy + Drop, M: Mark> Node<N, M> {
 
     // A node of the first octets of the key, over another and without values.
     pub(crate) fn branch(&self, len: u8, kids: u32) -> Self
-        ensures { plain M.present result ≡ record { key = self.now.key; len = len; symbol = self.now.symbol; kids = kids; count = 1; exact = None; wild = None } }
+        ensures { plain M.present result ≡ branch_node (plain M.present self.now) len kids }
     {
         let mut node = *self;
         node.len = len;

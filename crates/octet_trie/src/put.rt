@@ -23,7 +23,8 @@ fn leaf<N: Copy + Drop, M: Mark>(
 ) -> Result<Node<N, M>, AllocError>
     requires short { length octets.now < 255 }
     requires present { M.present value.mark ≡ true }
-    ensures { IfOk result (λ m. IsLeaf store.old store.new octets.now symbol wild value (plain M.present m)) }
+    ensures { IfOk result
+        (λ m. IsLeaf store.old store.new octets.now symbol wild value (plain M.present m)) }
 {
     let key = store.write(octets)?;
     Ok(Node::leaf(key, octets.len() as u8, symbol, wild, value))
@@ -43,8 +44,11 @@ fn put_leaf<N: Copy + Drop, M: Mark>(
     requires present { M.present value.mark ≡ true }
     requires longer { node.now.len < length octets.now }
     requires goes { GoesOn (name_of store.old.octets (plain M.present node.now)) octets.now }
-    requires gap { GapAt (kids_of store.old.subs (plain M.present node.now)) (slice_index octets.now node.now.len) place }
-    ensures { IfOk result (λ m. Put store.old store.new (plain M.present node.now) (entry_key octets.now wild) value (plain M.present m)) }
+    requires gap { GapAt (kids_of store.old.subs (plain M.present node.now))
+        (slice_index octets.now node.now.len) place }
+    ensures { IfOk result
+        (λ m. Put store.old store.new (plain M.present node.now) (entry_key octets.now wild) value
+        (plain M.present m)) }
 {
     let leaf = leaf(store, octets, octets[node.len as usize], wild, value)?;
     rekid(store, node, place, Some(leaf), place)
@@ -58,7 +62,8 @@ fn branch_at<N: Copy + Drop, M: Mark>(
 ) -> Result<Node<N, M>, AllocError>
     requires node { IsNode store.old (plain M.present node.now) }
     requires shorter { len < node.now.len }
-    ensures { IfOk result (λ m. IsBranch store.old store.new (plain M.present node.now) len (plain M.present m)) }
+    ensures { IfOk result
+        (λ m. IsBranch store.old store.new (plain M.present node.now) len (plain M.present m)) }
 {
     let symbol = store.octet(node, len as usize);
     let kids = store.len();
@@ -79,10 +84,14 @@ fn put_apart<N: Copy + Drop, M: Mark>(
     requires short { length octets.now < 255 }
     requires present { M.present value.mark ≡ true }
     requires long { node.now.len ≤ length octets.now }
-    requires begins { take node.now.len octets.now ≡ name_of store.old.octets (plain M.present node.now) }
+    requires begins { take node.now.len octets.now ≡ name_of store.old.octets
+        (plain M.present node.now) }
     requires one { OneKid (kids_of store.old.subs (plain M.present node.now)) other }
-    requires apart { node.now.len < length octets.now → slice_index octets.now node.now.len ≡ other → ⊥ }
-    ensures { IfOk result (λ m. Put store.old store.new (plain M.present node.now) (entry_key octets.now wild) value (plain M.present m)) }
+    requires apart { node.now.len < length octets.now → slice_index octets.now node.now.len ≡ other
+        → ⊥ }
+    ensures { IfOk result
+        (λ m. Put store.old store.new (plain M.present node.now) (entry_key octets.now wild) value
+        (plain M.present m)) }
 {
     let len = node.len as usize;
     if len >= octets.len() {
@@ -105,7 +114,9 @@ pub(crate) fn put<N: Copy + Drop, M: Mark>(
     requires node { IsNode store.old (plain M.present node.now) }
     requires short { length octets.now < 255 }
     requires present { M.present value.mark ≡ true }
-    ensures { IfOk result (λ m. Put store.old store.new (plain M.present node.now) (entry_key octets.now wild) value (plain M.present m)) }
+    ensures { IfOk result
+        (λ m. Put store.old store.new (plain M.present node.now) (entry_key octets.now wild) value
+        (plain M.present m)) }
 {
     let same = common(store.name(node), octets, 0);
     if same < node.len as usize {

@@ -16,7 +16,9 @@ fn push_all<N: Copy + Drop, M: Mark>(
     nodes: &Vec<Node<N, M>>,
 ) -> Result<(), AllocError>
     requires { AreAll M.present into.old nodes.now.items }
-    ensures { IfOk result (λ _. into.new ≡ record into.old { subs = into.old.subs ++ stands_all M.present into.old nodes.now.items }) }
+    ensures { IfOk result
+        (λ _. into.new ≡ record into.old
+        { subs = into.old.subs ++ stands_all M.present into.old nodes.now.items }) }
 {
     for node in nodes {
         into.push(*node)?;
@@ -33,8 +35,11 @@ fn place_key<N: Copy + Drop, M: Mark>(
 ) -> Result<u32, AllocError>
     requires node { IsNode source.now (plain M.present node.now) }
     requires nodes { AreAll M.present into.old kids.now.items }
-    requires subs { stands_all M.present into.old kids.now.items ≡ kids_of source.now.subs (plain M.present node.now) }
-    ensures { IfOk result (λ place. IsKeyAt into.old into.new (name_of source.now.octets (plain M.present node.now)) node.now.len place) }
+    requires subs { stands_all M.present into.old kids.now.items ≡ kids_of source.now.subs
+        (plain M.present node.now) }
+    ensures { IfOk result
+        (λ place. IsKeyAt into.old into.new (name_of source.now.octets (plain M.present node.now))
+        node.now.len place) }
 {
     if kids.is_empty() {
         let place = into.write(source.name(node))?;
@@ -52,7 +57,9 @@ pub(crate) fn copy_node<N: Copy + Drop, M: Mark>(
     into: &mut Store<N, M>,
 ) -> Result<Node<N, M>, AllocError>
     requires { IsNode source.now (plain M.present node.now) }
-    ensures { IfOk result (λ m. IsCopied source.now (plain M.present node.now) into.old into.new (plain M.present m)) }
+    ensures { IfOk result
+        (λ m. IsCopied source.now (plain M.present node.now) into.old into.new
+        (plain M.present m)) }
 {
     let mut kids = Vec::new(alloc);
     for place in 0..u32::from(node.count) {

@@ -115,7 +115,9 @@ impl<N: Copy + Drop, M: Mark> Store<N, M> {
     // Puts a node behind the others.
     pub(crate) fn push(&mut self, node: Node<N, M>) -> Result<(), AllocError>
         requires { IsNode self.old (plain M.present node) }
-        ensures { IfOk result (λ _. self.new ≡ record self.old { subs = self.old.subs ++ stands self.old (plain M.present node) ∷ [] }) }
+        ensures { IfOk result
+            (λ _. self.new ≡ record self.old
+            { subs = self.old.subs ++ stands self.old (plain M.present node) ∷ [] }) }
     {
         self.nodes.push(node)?;
         Ok(())

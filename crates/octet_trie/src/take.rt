@@ -38,7 +38,9 @@ pub(crate) fn take<N: Copy + Drop, M: Mark>(
 ) -> Result<Node<N, M>, AllocError>
     requires node { IsNode store.old (plain M.present node.now) }
     requires short { length octets.now < 255 }
-    ensures { IfOk result (λ m. Taken store.old store.new (plain M.present node.now) (entry_key octets.now wild) (plain M.present m)) }
+    ensures { IfOk result
+        (λ m. Taken store.old store.new (plain M.present node.now) (entry_key octets.now wild)
+        (plain M.present m)) }
 {
     let same = common(store.name(node), octets, 0);
     if same < node.len as usize {

@@ -126,7 +126,9 @@ impl<N: Copy + Drop, M: Mark> OctetTrie<N, M> {
     ) -> Result<Self, AllocError>
         requires short { length octets.now ≤ 254 }
         requires present { M.present value.mark ≡ true }
-        ensures { IfOk result (λ trie. trie ≡ insert_entry (slice_cmp nat_cmp) self (entry_key octets.now wild) value) }
+        ensures { IfOk result
+            (λ trie. trie ≡ insert_entry (slice_cmp nat_cmp) self (entry_key octets.now wild)
+            value) }
     {
         let OctetTrie {
             mut store,
@@ -147,7 +149,9 @@ impl<N: Copy + Drop, M: Mark> OctetTrie<N, M> {
     /// Without the key, in place of this version: one of many edits.
     pub fn removed(self, octets: &[u8], wild: bool) -> Result<Self, AllocError>
         requires { length octets.now ≤ 254 }
-        ensures { IfOk result (λ trie. trie ≡ remove_entry (is_at (slice_cmp nat_cmp (entry_key octets.now wild))) self) }
+        ensures { IfOk result
+            (λ trie. trie ≡ remove_entry (is_at (slice_cmp nat_cmp (entry_key octets.now wild)))
+            self) }
     {
         if self.get(octets, wild).is_none() {
             return Ok(self);
@@ -158,7 +162,9 @@ impl<N: Copy + Drop, M: Mark> OctetTrie<N, M> {
     // Without the key, where it has a value.
     fn taken(self, octets: &[u8], wild: bool) -> Result<Self, AllocError>
         requires { length octets.now ≤ 254 }
-        ensures { IfOk result (λ trie. trie ≡ remove_entry (is_at (slice_cmp nat_cmp (entry_key octets.now wild))) self) }
+        ensures { IfOk result
+            (λ trie. trie ≡ remove_entry (is_at (slice_cmp nat_cmp (entry_key octets.now wild)))
+            self) }
     {
         let OctetTrie {
             mut store,
@@ -180,7 +186,9 @@ impl<N: Copy + Drop, M: Mark> OctetTrie<N, M> {
     pub fn with(&self, octets: &[u8], wild: bool, value: Marked<N, M>) -> Result<Self, AllocError>
         requires short { length octets.now ≤ 254 }
         requires present { M.present value.mark ≡ true }
-        ensures { IfOk result (λ trie. trie ≡ insert_entry (slice_cmp nat_cmp) self.now (entry_key octets.now wild) value) }
+        ensures { IfOk result
+            (λ trie. trie ≡ insert_entry (slice_cmp nat_cmp) self.now (entry_key octets.now wild)
+            value) }
     {
         self.share()?.inserted(octets, wild, value)
     }
@@ -188,7 +196,9 @@ impl<N: Copy + Drop, M: Mark> OctetTrie<N, M> {
     /// Without the key. This version stays as it is.
     pub fn without(&self, octets: &[u8], wild: bool) -> Result<Self, AllocError>
         requires { length octets.now ≤ 254 }
-        ensures { IfOk result (λ trie. trie ≡ remove_entry (is_at (slice_cmp nat_cmp (entry_key octets.now wild))) self.now) }
+        ensures { IfOk result
+            (λ trie. trie ≡ remove_entry (is_at (slice_cmp nat_cmp (entry_key octets.now wild)))
+            self.now) }
     {
         self.share()?.removed(octets, wild)
     }
@@ -196,7 +206,8 @@ impl<N: Copy + Drop, M: Mark> OctetTrie<N, M> {
     /// The value at the key, whether it acts or not. It takes no memory.
     pub fn get(&self, octets: &[u8], wild: bool) -> Option<Marked<N, M>>
         requires { length octets.now ≤ 254 }
-        ensures value { result ≡ lookup (is_at (slice_cmp nat_cmp (entry_key octets.now wild))) self.now }
+        ensures value { result ≡ lookup (is_at (slice_cmp nat_cmp (entry_key octets.now wild)))
+            self.now }
         ensures ordered { AreEntries octet_keys self.now }
     {
         walk::get(&self.store, &self.root, octets, wild)
@@ -209,7 +220,8 @@ impl<N: Copy + Drop, M: Mark> OctetTrie<N, M> {
         octets: &[u8],
         steps: &mut Steps<L>,
     ) -> Option<OctetFound<'_, N, M>>
-        ensures found { option_map found_entry result ≡ last_where (λ e. fits octets.now e.0 && M.acts e.1.mark) self.now }
+        ensures found { option_map found_entry result ≡ last_where
+            (λ e. fits octets.now e.0 && M.acts e.1.mark) self.now }
         ensures cost { steps.new ≤ steps.old + 256 }
         ensures ordered { AreEntries octet_keys self.now }
     {

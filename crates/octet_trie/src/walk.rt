@@ -1,12 +1,12 @@
 //! Look-ups.
 
-ghost use Rattle.std.specs.Prelude.{◌≡◌, ◌+◌, ◌<◌, ◌≤◌, ◌&&◌, length, take, cond, IfSome};
+ghost use Rattle.std.specs.Prelude.{◌≡◌, ◌+◌, ◌<◌, ◌≤◌, ◌&&◌, length, take, IfSome};
 ghost use Rattle.std.specs.BTreeMap.{is_at};
 ghost use Rattle.std.specs.Map.{lookup};
 ghost use Rattle.std.specs.Option.{option_map};
 ghost use Rattle.octet_trie.specs.Fits.{acting, entry_of, fits};
 ghost use Rattle.octet_trie.specs.ListKeys.{entry_key, octet_keys};
-ghost use Rattle.octet_trie.specs.Nodes.{IsNode, name_of, stands};
+ghost use Rattle.octet_trie.specs.Nodes.{IsNode, name_of, stands, value_of};
 ghost use Rattle.octet_trie.specs.Plain.{plain};
 ghost use Rattle.shared_list.specs.Octets.{StandsWhole};
 ghost use Rattle.trie_keys.specs.Scan.{last_where, option_else};
@@ -35,7 +35,8 @@ pub(crate) fn get<N: Copy + Drop, M: Mark>(
 ) -> Option<Marked<N, M>>
     requires node { IsNode store.now (plain M.present node.now) }
     requires short { length octets.now < 255 }
-    ensures { result ≡ lookup (is_at (octet_keys.order (entry_key octets.now wild))) (stands store.now (plain M.present node.now)).list }
+    ensures { result ≡ lookup (is_at (octet_keys.order (entry_key octets.now wild)))
+        (stands store.now (plain M.present node.now)).list }
 {
     let same = common(store.name(node), octets, 0);
     if same < node.len as usize {
@@ -62,7 +63,9 @@ fn own_or<N: Copy + Drop, M: Mark>(
 ) -> Option<Hit<N, M>>
     requires node { IsNode store.now (plain M.present node.now) }
     requires whole { IfSome found (λ h. StandsWhole store.now.octets h.key h.len) }
-    ensures found { option_map (entry_of store.now.octets) result ≡ option_else (acting M.acts (entry_key (name_of store.now.octets (plain M.present node.now)) wild) (cond wild (plain M.present node.now).wild (plain M.present node.now).exact)) (option_map (entry_of store.now.octets) found) }
+    ensures found { option_map (entry_of store.now.octets) result ≡ option_else
+        (acting M.acts (entry_key (name_of store.now.octets (plain M.present node.now)) wild)
+        (value_of (plain M.present node.now) wild)) (option_map (entry_of store.now.octets) found) }
     ensures whole { IfSome result (λ h. StandsWhole store.now.octets h.key h.len) }
 {
     let _store = store;
@@ -94,9 +97,13 @@ pub(crate) fn best<N: Copy + Drop, M: Mark, L: Ledger>(
     requires node { IsNode store.now (plain M.present node.now) }
     requires here { from ≤ node.now.len }
     requires there { from ≤ length octets.now }
-    requires same { take from (name_of store.now.octets (plain M.present node.now)) ≡ take from octets.now }
+    requires same { take from (name_of store.now.octets (plain M.present node.now)) ≡ take from
+        octets.now }
     requires whole { IfSome found (λ h. StandsWhole store.now.octets h.key h.len) }
-    ensures found { option_map (entry_of store.now.octets) result ≡ option_else (last_where (λ e. fits octets.now e.0 && M.acts e.1.mark) (stands store.now (plain M.present node.now)).list) (option_map (entry_of store.now.octets) found) }
+    ensures found { option_map (entry_of store.now.octets) result ≡ option_else
+        (last_where (λ e. fits octets.now e.0 && M.acts e.1.mark)
+        (stands store.now (plain M.present node.now)).list)
+        (option_map (entry_of store.now.octets) found) }
     ensures whole { IfSome result (λ h. StandsWhole store.now.octets h.key h.len) }
     ensures cost { steps.new + node.now.len ≤ steps.old + 255 }
 {
