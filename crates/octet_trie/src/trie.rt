@@ -79,7 +79,7 @@ impl<N: Copy + Drop, M: Mark> OctetTrie<N, M> {
         }
     }
 
-    /// The same version once more, in constant time.
+    /// The same version once more. It takes the time of copying the last blocks, of up to 1,024 nodes and 4,096 octets.
     pub fn share(&self) -> Result<Self, AllocError>
         ensures { IfOk result (λ trie. trie ≡ self.now) }
     {
@@ -117,7 +117,8 @@ impl<N: Copy + Drop, M: Mark> OctetTrie<N, M> {
         })
     }
 
-    /// With the value at the key, in place of this version: one of many edits.
+    /// With the value at the key, in place of this version: one of many edits. An `Err` comes where allocation fails, or where
+    /// there are as many nodes or octets as there may be.
     pub fn inserted(
         self,
         octets: &[u8],
@@ -146,7 +147,7 @@ impl<N: Copy + Drop, M: Mark> OctetTrie<N, M> {
         .tidied()
     }
 
-    /// Without the key, in place of this version: one of many edits.
+    /// Without the key, in place of this version: one of many edits. Where there is no value at the key, nothing changes.
     pub fn removed(self, octets: &[u8], wild: bool) -> Result<Self, AllocError>
         requires { length octets.now ≤ 254 }
         ensures { IfOk result
