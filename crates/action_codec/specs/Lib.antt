@@ -1,3 +1,4 @@
 pub mod Local
 pub mod Action
 pub mod Laws
+pub mod Seen

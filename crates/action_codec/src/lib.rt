@@ -5,11 +5,13 @@ mod action;
 pub mod laws;
 mod live;
 mod local;
+mod local_ref;
 mod order;
 mod table;
 mod words;
 
-pub use action::Action;
+pub use action::{Action, ActionRef};
 pub use live::is_live_type;
-pub use local::{LocalRow, LocalRows};
+pub use local::LocalRows;
+pub use local_ref::{LocalPart, LocalRef};
 pub use table::{action_for, action_of};

@@ -4,6 +4,7 @@ ghost use Rattle.std.specs.Prelude.{◌≡◌, List, [], ◌∷◌, ◌++◌, le
 ghost use Rattle.dns_record.specs.Record.{IsData};
 ghost use Rattle.action_codec.specs.Local.{local_row};
 
+use crate::local_ref::LocalRef;
 use dns_name::Octets;
 use dns_record::Row;
 use std::alloc::{AllocError, Global};
@@ -96,10 +97,10 @@ impl LocalRows {
         Ok(())
     }
 
-    /// The rows.
-    pub fn as_slice(&self) -> &[LocalRow]
-        ensures { result.now ≡ self.now }
+    /// The rows, lent.
+    pub fn lend(&self) -> LocalRef<'_>
+        ensures { result ≡ self.now }
     {
-        self.rows.as_slice()
+        LocalRef::over(&self.rows)
     }
 }

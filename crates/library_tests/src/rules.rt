@@ -1,7 +1,7 @@
 //! The rules of a zone.
 
 use crate::row_samples::{SERVER, row, rows, zone_name};
-use action_codec::{Action, action_of};
+use action_codec::{Action, ActionRef, action_of};
 use dns_name::laws::case_does_not_matter;
 use dns_name::{Name, Pattern};
 use std::alloc::Global;
@@ -25,9 +25,9 @@ fn a_server_meets_its_rule(rt: HostRuntime) {
         .lower(rt.alloc())
         .expect(&rt, "no error");
     let found = rules.nsdname(&name);
-    assert!(rt; matches!(found, Some((_, Action::NoData))));
+    assert!(rt; matches!(found, Some((_, ActionRef::NoData))));
     let trigger = Trigger::NsDname(Pattern::new(rt.alloc(), &name, false).expect(&rt, "no error"));
-    assert!(rt; matches!(rules.get(&trigger), Some(Action::NoData)));
+    assert!(rt; matches!(rules.get(&trigger), Some(ActionRef::NoData)));
 }
 
 #[test]

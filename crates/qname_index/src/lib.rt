@@ -3,8 +3,10 @@
 
 mod key;
 mod map;
+mod pattern_ref;
 
 // Contracts of other crates can name the map only if the types of its fields are exported, too.
 #[doc(hidden)]
 pub use key::Key;
 pub use map::NameMap;
+pub use pattern_ref::PatternRef;

@@ -11,6 +11,7 @@ ghost use Rattle.qname_index.specs.Index.{IsIndex, IsMarked};
 ghost use Rattle.qname_index.specs.Rank.{has_rank};
 
 use crate::key::{Key, KeyParts, head_of};
+use crate::pattern_ref::PatternRef;
 use dns_name::laws::{names_of_equal_octets_are_equal, names_that_are_alike};
 use dns_name::{Name, Pattern};
 use std::alloc::{AllocError, Global};
@@ -164,7 +165,18 @@ impl<V> NameMap<V> {
     /// the longest base. The name is in lower case ([`Name::lower`]), as bases are. It takes no memory; its time is
     /// that of at most as many look-ups as the name has labels, and one. An ancestor of so many labels as no base of a
     /// wild pattern ever had in this map isn't looked up.
-    pub fn best(&self, name: &Name) -> Option<(&Pattern, &V)>
+    pub fn best(&self, name: &Name) -> Option<(PatternRef<'_>, &V)>
+        requires { lowered name.now ≡ name.now }
+        ensures { option_map (λ e. (e.0, e.1.now)) result ≡ best name.now self.now }
+    {
+        match self.find_best(name) {
+            Some((pattern, value)) => Some((PatternRef::of(pattern), value)),
+            None => None,
+        }
+    }
+
+    // The entry of `best`, with the pattern as it is kept.
+    fn find_best(&self, name: &Name) -> Option<(&Pattern, &V)>
         requires { lowered name.now ≡ name.now }
         ensures { option_map (λ e. (e.0.now, e.1.now)) result ≡ best name.now self.now }
     {

@@ -105,7 +105,7 @@ fn turn_at(
                 None => Ok(None),
                 Some(hit) => {
                     let verdict = Verdict::Hit {
-                        action: hit.action,
+                        action: &hit.action,
                         soa: hit.soa,
                         before,
                         name,

@@ -1,6 +1,7 @@
 -- Replies that are written piece by piece.
 use Rattle.std.proofs.Common.{◌≡◌, ℕ, ◌+◌, Bool, true, false, cond, List, [], ◌∷◌, ◌++◌, length, map, filter, drop, get_or, Some, refl, sym, ap, ◌∙◌, append_assoc, arith}
 use Rattle.std.specs.Prelude.{◌<◌, ◌≤◌}
+use mir.Val.{bool_byte}
 use Rattle.std.proofs.lemmas.List.{append-nil, length-append, length-map, at_drop_more, drop_all}
 use Rattle.std.proofs.lemmas.List.Concat.{flat_map-append}
 use Rattle.dns_record.specs.Record.{PlainRecord, record_octets}
@@ -220,3 +221,23 @@ one_asked owner qtype row old new t e = rw (t, append-nil (record_octets (local_
 
 pub none_asked : (owner : List (List ℕ)) (qtype : ℕ) (row : PlainLocal) (old : List ℕ) → is_asked qtype row ≡ false → old ≡ old ++ asked_octets owner qtype (row ∷ [])
 none_asked owner qtype row old f = rw f (sym (no_records old))
+
+one_of : (b : Bool) (row : PlainLocal) (rows : List PlainLocal) → length (cond b (row ∷ rows) rows) ≡ cond b 1 0 + length rows
+one_of true row rows = omega arith
+one_of false row rows = omega arith
+
+pub byte_of : (b : Bool) → bool_byte b ≡ cond b 1 0
+byte_of true = refl
+byte_of false = refl
+
+-- one row more is counted
+pub counted : (f : PlainLocal → Bool) (rows : List PlainLocal) (i count one whole : ℕ) (row : PlainLocal) → i < length rows → get_or rows i row ≡ row → one ≡ cond (f row) 1 0
+    → count + length (filter f (drop i rows)) ≡ whole → count + one + length (filter f (drop (i + 1) rows)) ≡ whole
+counted f rows i count one whole row lt here e h =
+    let first : length (filter f (drop i rows)) ≡ cond (f row) 1 0 + length (filter f (drop (i + 1) rows)) =
+        at_drop_more (λ l. length (filter f l)) rows i row lt ∙ ap (λ r. length (filter f (r ∷ drop (i + 1) rows))) here ∙ one_of (f row) row (filter f (drop (i + 1) rows)) in
+    omega (arith, first, e, h)
+
+pub least : (b : Bool) (one : ℕ) → one ≡ cond b 1 0 → one ≤ 1
+least true one e = omega arith
+least false one e = omega arith

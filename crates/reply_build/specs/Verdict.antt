@@ -2,6 +2,7 @@
 use Rattle.std.specs.Prelude.{ℕ, List}
 use Rattle.dns_name.specs.Labels.{Name}
 use Rattle.dns_record.specs.Record.{PlainRecord}
+use Rattle.action_codec.specs.Seen.{action_seen}
 use Rattle.action_codec.specs.declared.action.Action.{Action}
 use Rattle.reply_build.specs.declared.verdict.Verdict.{Verdict}
 use Rattle.reply_build.specs.declared.verdict.Verdict.TheVariants.{Pass, Fail, Hit}
@@ -13,8 +14,8 @@ pub data PlainVerdict : Type 0 where
   fails : PlainVerdict
   applies : Action → PlainRecord → List Name → Name → PlainVerdict
 
--- what the code holds by reference
+-- what the code has by reference
 abbrev pub verdict_of : Verdict → PlainVerdict
 verdict_of Pass = passes
 verdict_of Fail = fails
-verdict_of (Hit action soa before name) = applies action.now soa.now before.now name.now
+verdict_of (Hit action soa before name) = applies (action_seen action.now) soa.now before.now name.now

@@ -1,6 +1,7 @@
 //! The reply to a verdict, or the question that the reply needs.
 
 ghost use Rattle.std.specs.Prelude.{◌≡◌, ◌≤◌, IfOk};
+ghost use Rattle.action_codec.specs.Seen.{action_seen};
 ghost use Rattle.reply_build.specs.Draft.{draft_outcome};
 ghost use Rattle.reply_build.specs.Reply as form;
 ghost use Rattle.reply_build.specs.Reply.{reply};
@@ -18,7 +19,7 @@ use crate::reply::{denial, main_outcome, server_failure, truncation};
 use crate::said::Said;
 use crate::turn::Turn;
 use crate::verdict::Verdict;
-use action_codec::Action;
+use action_codec::ActionRef;
 use dns_message::{GREATEST_LIMIT, LEAST_LIMIT, Query, RecordRefs};
 use dns_name::Name;
 use dns_record::Record;
@@ -101,19 +102,20 @@ fn by_action(
     query: &Query,
     facts: &Facts,
     place: &PlaceRef<'_>,
-    action: &Action,
+    action: &ActionRef<'_>,
 ) -> Result<DraftOutcome, AllocError>
     ensures { IfOk result (λ outcome. outcome
         ≡ draft_outcome query.now
-        (form.by_action query.now facts.now (place_seen place.now) action.now)) }
+        (form.by_action query.now facts.now (place_seen place.now)
+        (action_seen action.now))) }
 {
     match action {
-        Action::NxDomain => Ok(DraftOutcome::Gives(denial(alloc, 3, query, place)?)),
-        Action::NoData => Ok(DraftOutcome::Gives(denial(alloc, 0, query, place)?)),
-        Action::PassThru => main_outcome(alloc, query, facts),
-        Action::Drop => Ok(DraftOutcome::Silent),
-        Action::TcpOnly => tcp_only_outcome(alloc, query, facts),
-        Action::Local(rows) => local_outcome(alloc, query, rows.as_slice(), place, facts),
+        ActionRef::NxDomain => Ok(DraftOutcome::Gives(denial(alloc, 3, query, place)?)),
+        ActionRef::NoData => Ok(DraftOutcome::Gives(denial(alloc, 0, query, place)?)),
+        ActionRef::PassThru => main_outcome(alloc, query, facts),
+        ActionRef::Drop => Ok(DraftOutcome::Silent),
+        ActionRef::TcpOnly => tcp_only_outcome(alloc, query, facts),
+        ActionRef::Local(rows) => local_outcome(alloc, query, rows, place, facts),
     }
 }
 

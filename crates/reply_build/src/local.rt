@@ -1,7 +1,8 @@
 //! Replies with local data (draft-vixie-dnsop-dns-rpz, section 3.6).
 
 ghost use Rattle.std.specs.Prelude.{◌≡◌, ◌^◌, ◌<◌, ◌∷◌, [], ◌++◌, length, map, filter, option_copied, IfOk, OnOk};
-ghost use Rattle.dns_record.specs.Record.{record_octets};
+ghost use Rattle.action_codec.specs.Seen.{part_seen};
+ghost use Rattle.dns_record.specs.Record.{IsData, record_octets};
 ghost use Rattle.dns_message.specs.Aged.{aged};
 ghost use Rattle.dns_message.specs.Spelling.{records_octets};
 ghost use Rattle.reply_build.specs.Draft.{draft_of, draft_outcome};
@@ -16,7 +17,7 @@ use crate::draft_outcome::DraftOutcome;
 use crate::place::PlaceRef;
 use crate::reply::{begin, reply_header, server_failure, soa_slice};
 use crate::target::{alias_in, target_of};
-use action_codec::LocalRow;
+use action_codec::{LocalPart, LocalRef};
 use dns_message::{Query, Question, RecordRefs, write_aged_records, write_records};
 use dns_name::{Name, Octets};
 use dns_record::{Record, class, rtype, write_record};
@@ -25,25 +26,31 @@ use std::slice;
 use upstream_link::{Answer, Fact, Facts, asks_alias};
 
 // Whether the row has the type that is asked for.
-fn is_asked(qtype: u16, row: &LocalRow) -> bool
-    ensures { result ≡ form.is_asked qtype row.now }
+fn is_asked(qtype: u16, row: LocalPart<'_>) -> bool
+    ensures { result ≡ form.is_asked qtype (part_seen row.entry) }
 {
-    qtype == rtype::ANY || row.rtype() == qtype
+    qtype == rtype::ANY || row.rtype == qtype
 }
 
 // How many rows have the type that is asked for.
-fn count_asked(qtype: u16, rows: &[LocalRow]) -> usize
+fn count_asked(qtype: u16, rows: &LocalRef<'_>) -> usize
     ensures count { result ≡ length (filter (form.is_asked qtype) rows.now) }
     ensures few { result < 2 ^ 62 }
 {
-    rows.iter().filter(|row| is_asked(qtype, row)).count()
+    let mut count = 0;
+    for place in 0..rows.len() {
+        count += usize::from(is_asked(qtype, rows.at(place)));
+    }
+    count
 }
 
 // Writes a row at the end, with the name as its owner.
-fn write_row(out: &mut Octets, owner: &Name, row: &LocalRow) -> Result<(), AllocError>
-    ensures ok { OnOk result (out.new ≡ out.old ++ record_octets (local_record owner.now row.now)) }
+fn write_row(out: &mut Octets, owner: &Name, row: LocalPart<'_>) -> Result<(), AllocError>
+    requires { IsData row.rtype 1 row.rdata.now }
+    ensures ok { OnOk result (out.new
+        ≡ out.old ++ record_octets (local_record owner.now (part_seen row.entry))) }
 {
-    write_record(out, owner, row.rtype(), class::IN, row.ttl(), row.rdata())
+    write_record(out, owner, row.rtype, class::IN, row.ttl, row.rdata)
 }
 
 // Writes a row at the end, if it has the type that is asked for.
@@ -52,12 +59,13 @@ fn write_if_asked(
     out: &mut Octets,
     owner: &Name,
     qtype: u16,
-    row: &LocalRow,
+    row: LocalPart<'_>,
 ) -> Result<(), AllocError>
+    requires { IsData row.rtype 1 row.rdata.now }
     ensures { OnOk result (out.new
         ≡ out.old
-        ++ records_octets
-        (map (local_record owner.now) (filter (form.is_asked qtype) (row.now ∷ [])))) }
+        ++ records_octets (map (local_record owner.now)
+        (filter (form.is_asked qtype) (part_seen row.entry ∷ [])))) }
 {
     if is_asked(qtype, row) {
         write_row(out, owner, row)
@@ -71,14 +79,14 @@ fn write_asked(
     out: &mut Octets,
     owner: &Name,
     qtype: u16,
-    rows: &[LocalRow],
+    rows: &LocalRef<'_>,
 ) -> Result<(), AllocError>
     ensures { OnOk result (out.new
         ≡ out.old
         ++ records_octets (map (local_record owner.now) (filter (form.is_asked qtype) rows.now))) }
 {
-    for row in rows {
-        write_if_asked(out, owner, qtype, row)?;
+    for place in 0..rows.len() {
+        write_if_asked(out, owner, qtype, rows.at(place))?;
     }
     Ok(())
 }
@@ -87,7 +95,7 @@ fn write_asked(
 fn local_draft(
     alloc: Global,
     query: &Query,
-    rows: &[LocalRow],
+    rows: &LocalRef<'_>,
     place: &PlaceRef<'_>,
 ) -> Result<Draft, AllocError>
     ensures { IfOk result (λ draft. draft
@@ -231,7 +239,7 @@ fn target_outcome(
 pub fn local_outcome(
     alloc: Global,
     query: &Query,
-    rows: &[LocalRow],
+    rows: &LocalRef<'_>,
     place: &PlaceRef<'_>,
     facts: &Facts,
 ) -> Result<DraftOutcome, AllocError>
@@ -242,8 +250,8 @@ pub fn local_outcome(
     match alias_in(rows) {
         None => Ok(DraftOutcome::Gives(local_draft(alloc, query, rows, place)?)),
         Some(row) => {
-            let target = target_of(alloc, place.name, row.rdata())?;
-            target_outcome(alloc, query, row.ttl(), place, facts, target)
+            let target = target_of(alloc, place.name, row.rdata)?;
+            target_outcome(alloc, query, row.ttl, place, facts, target)
         }
     }
 }

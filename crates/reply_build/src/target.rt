@@ -1,21 +1,27 @@
 //! The alias of a rule.
 
-ghost use Rattle.std.specs.Prelude.{◌≡◌, List, [], ◌∷◌, Option, option_copied, IfOk};
+ghost use Rattle.std.specs.Prelude.{◌≡◌, List, [], ◌∷◌, Option, option_map, IfOk};
+ghost use Rattle.action_codec.specs.Seen.{part_seen};
 ghost use Rattle.dns_name.specs.Reading.{name_at};
 ghost use Rattle.reply_build.specs.Target.{alias_in as alias_among, target_by as target_form, target_of as target_named};
 
-use action_codec::LocalRow;
+use action_codec::{LocalPart, LocalRef};
 use dns_name::{JoinError, Name, NameError};
 use dns_record::rtype;
 use std::alloc::{AllocError, Global};
 
 /// The row, if local data is one CNAME row.
-pub fn alias_in(rows: &[LocalRow]) -> Option<&LocalRow>
-    ensures { option_copied result ≡ alias_among rows.now }
+pub fn alias_in<'a>(rows: &LocalRef<'a>) -> Option<LocalPart<'a>>
+    ensures { option_map part_seen result ≡ alias_among rows.now }
 {
-    match rows {
-        [row] if row.rtype() == rtype::CNAME => Some(row),
-        _ => None,
+    if rows.len() != 1 {
+        return None;
+    }
+    let row = rows.at(0);
+    if row.rtype == rtype::CNAME {
+        Some(row)
+    } else {
+        None
     }
 }
 

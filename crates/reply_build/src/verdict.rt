@@ -1,6 +1,6 @@
 //! Verdicts of the policy.
 
-use action_codec::Action;
+use action_codec::ActionRef;
 use dns_name::Name;
 use dns_record::Record;
 
@@ -14,7 +14,7 @@ pub enum Verdict<'a> {
     /// A rule is about it.
     Hit {
         /// What the rule does.
-        action: &'a Action,
+        action: &'a ActionRef<'a>,
         /// The SOA record of the rule's zone, with the zone's origin as its owner.
         soa: &'a Record,
         /// The names of the chain of aliases before the one at which the rule is hit.

@@ -1,13 +1,12 @@
 //! The order of ranks. It takes no memory.
 
 ghost use Rattle.std.specs.Prelude.{◌≡◌};
-ghost use Rattle.qname_index.specs.Best.{pattern_order};
 ghost use Rattle.rpz_precedence.specs.Rank.{kind_number, place_order, precedes, rank_order, server_order, trigger_order};
 ghost use Rattle.rpz_precedence.specs.Seen.{hit_seen, trigger_seen};
 
 use crate::hit::Hit;
 use crate::trigger_ref::TriggerRef;
-use dns_name::Pattern;
+use qname_index::PatternRef;
 use std::cmp::Ordering;
 
 /// Whether the rule of the first hit goes before that of the second (draft-vixie-dnsop-dns-rpz, section 5): the smaller
@@ -62,7 +61,7 @@ fn compare_places(a: &TriggerRef, b: &TriggerRef) -> Ordering
 {
     match (a, b) {
         (TriggerRef::ClientIp(p), TriggerRef::ClientIp(q)) => p.rank_cmp(q),
-        (TriggerRef::Qname(p), TriggerRef::Qname(q)) => compare_patterns(p, q),
+        (TriggerRef::Qname(p), TriggerRef::Qname(q)) => p.rank_cmp(q),
         (TriggerRef::ResponseIp(p), TriggerRef::ResponseIp(q)) => p.rank_cmp(q),
         (TriggerRef::NsDname(p), TriggerRef::NsDname(q)) => compare_servers(p, q),
         (TriggerRef::NsIp(p), TriggerRef::NsIp(q)) => p.rank_cmp(q),
@@ -70,24 +69,12 @@ fn compare_places(a: &TriggerRef, b: &TriggerRef) -> Ordering
     }
 }
 
-fn compare_patterns(a: &Pattern, b: &Pattern) -> Ordering
-    ensures { result ≡ pattern_order a.now b.now }
-{
-    match a.is_wild().cmp(&b.is_wild()) {
-        Ordering::Equal => match b.base().label_count().cmp(&a.base().label_count()) {
-            Ordering::Equal => a.base().octets().cmp(b.base().octets()),
-            order => order,
-        },
-        order => order,
-    }
-}
-
-fn compare_servers(a: &Pattern, b: &Pattern) -> Ordering
+fn compare_servers(a: &PatternRef<'_>, b: &PatternRef<'_>) -> Ordering
     ensures { result ≡ server_order a.now b.now }
 {
-    match b.base().label_count().cmp(&a.base().label_count()) {
+    match b.label_count().cmp(&a.label_count()) {
         Ordering::Equal => match a.is_wild().cmp(&b.is_wild()) {
-            Ordering::Equal => a.base().canonical_cmp(b.base()),
+            Ordering::Equal => a.canonical_cmp(b),
             order => order,
         },
         order => order,

@@ -5,12 +5,13 @@ ghost use Rattle.std.specs.List.{find};
 ghost use Rattle.std.specs.List.Sorted.{IsStrictlySortedBy};
 ghost use Rattle.std.specs.Map.{keys_of};
 ghost use Rattle.std.specs.Option.{option_map};
+ghost use Rattle.action_codec.specs.Seen.{action_seen};
 ghost use Rattle.ip_prefix.specs.Prefix.{prefix_order};
 ghost use Rattle.prefix_index.specs.Longest.{longest};
 ghost use Rattle.zone_index.specs.Addresses.{first_about as first_of, holds_within};
 ghost use Rattle.zone_index.specs.Earlier.{earlier_key};
 
-use action_codec::Action;
+use action_codec::{Action, ActionRef};
 use dns_message::RecordRefs;
 use dns_name::Name;
 use dns_record::RecordRef;
@@ -85,8 +86,9 @@ pub(crate) fn first_about<'a>(
     rules: &'a PrefixMap<Action>,
     owner: &Name,
     records: &RecordRefs<'_>,
-) -> Option<(Prefix, &'a Action)>
-    ensures { option_map (λ e. (e.0, e.1.now)) result ≡ first_of owner.now records.now rules.now }
+) -> Option<(Prefix, ActionRef<'a>)>
+    ensures { option_map (λ e. (e.0, action_seen e.1)) result
+        ≡ first_of owner.now records.now rules.now }
 {
     if rules.len() == 0 {
         return None;
@@ -94,6 +96,6 @@ pub(crate) fn first_about<'a>(
     let prefix = first_prefix(rules, owner, records)?;
     match rules.get(prefix) {
         None => None,
-        Some(action) => Some((prefix, action)),
+        Some(action) => Some((prefix, action.lend())),
     }
 }

@@ -2,6 +2,7 @@
 
 ghost use Rattle.std.specs.Prelude.{◌≡◌, All, IfOk};
 ghost use Rattle.std.specs.Option.{option_copied, option_map};
+ghost use Rattle.action_codec.specs.Seen.{action_seen};
 ghost use Rattle.dns_name.specs.Labels.{lowered};
 ghost use Rattle.dns_record.specs.Row.{IsRow};
 ghost use Rattle.prefix_index.specs.Longest.{longest};
@@ -15,13 +16,13 @@ use crate::addresses::first_about;
 use crate::by_kind::ByKind;
 use crate::groups::Groups;
 use crate::kinds::{name_rules, prefix_rules};
-use action_codec::Action;
+use action_codec::{Action, ActionRef};
 use dns_message::RecordRefs;
-use dns_name::{Name, Pattern};
+use dns_name::Name;
 use dns_record::Row;
 use ip_prefix::{Addr, Prefix};
 use prefix_index::PrefixMap;
-use qname_index::NameMap;
+use qname_index::{NameMap, PatternRef};
 use std::alloc::{AllocError, Global};
 use std::marker::Model;
 use trigger_codec::{Kind, Trigger};
@@ -68,7 +69,17 @@ impl Rules {
 
     /// What the rule of exactly this trigger does, if there is one. It takes no memory, and its time is
     /// logarithmic in the number of rules.
-    pub fn get(&self, trigger: &Trigger) -> Option<&Action>
+    pub fn get(&self, trigger: &Trigger) -> Option<ActionRef<'_>>
+        ensures { option_map action_seen result ≡ rule_at self.now trigger.now }
+    {
+        match self.stored(trigger) {
+            Some(action) => Some(action.lend()),
+            None => None,
+        }
+    }
+
+    // The action of `get`, as it is kept.
+    fn stored(&self, trigger: &Trigger) -> Option<&Action>
         ensures { option_copied result ≡ rule_at self.now trigger.now }
     {
         match trigger {
@@ -95,24 +106,34 @@ impl Rules {
     }
 
     /// The rule that comes first of those about a client of this address.
-    pub fn client_ip(&self, addr: Addr) -> Option<(Prefix, &Action)>
-        ensures { option_map (λ e. (e.0, e.1.now)) result ≡ longest addr self.now.client_ip }
+    pub fn client_ip(&self, addr: Addr) -> Option<(Prefix, ActionRef<'_>)>
+        ensures { option_map (λ e. (e.0, action_seen e.1)) result ≡ longest addr self.now.client_ip }
     {
-        self.by_kind.client_ip.longest(addr)
+        match self.by_kind.client_ip.longest(addr) {
+            Some((prefix, action)) => Some((prefix, action.lend())),
+            None => None,
+        }
     }
 
     /// The rule that comes first of those about a query for the name, which is in lower case. It takes no memory.
-    pub fn qname(&self, name: &Name) -> Option<(&Pattern, &Action)>
+    pub fn qname(&self, name: &Name) -> Option<(PatternRef<'_>, ActionRef<'_>)>
         requires { lowered name.now ≡ name.now }
-        ensures { option_map (λ e. (e.0.now, e.1.now)) result ≡ best name.now self.now.qname }
+        ensures { option_map (λ e. (e.0, action_seen e.1)) result ≡ best name.now self.now.qname }
     {
-        self.by_kind.qname.best(name)
+        match self.by_kind.qname.best(name) {
+            Some((pattern, action)) => Some((pattern, action.lend())),
+            None => None,
+        }
     }
 
     /// The rule that comes first of those about an answer: its prefix contains some address that the records hold
     /// for the name. Its time is linear in the number of records.
-    pub fn response_ip(&self, owner: &Name, records: &RecordRefs<'_>) -> Option<(Prefix, &Action)>
-        ensures { option_map (λ e. (e.0, e.1.now)) result
+    pub fn response_ip(
+        &self,
+        owner: &Name,
+        records: &RecordRefs<'_>,
+    ) -> Option<(Prefix, ActionRef<'_>)>
+        ensures { option_map (λ e. (e.0, action_seen e.1)) result
             ≡ first_of owner.now records.now self.now.response_ip }
     {
         first_about(&self.by_kind.response_ip, owner, records)
@@ -120,17 +141,23 @@ impl Rules {
 
     /// The rule that comes first of those about a name server of this name, which is in lower case. It takes no
     /// memory.
-    pub fn nsdname(&self, name: &Name) -> Option<(&Pattern, &Action)>
+    pub fn nsdname(&self, name: &Name) -> Option<(PatternRef<'_>, ActionRef<'_>)>
         requires { lowered name.now ≡ name.now }
-        ensures { option_map (λ e. (e.0.now, e.1.now)) result ≡ best name.now self.now.nsdname }
+        ensures { option_map (λ e. (e.0, action_seen e.1)) result ≡ best name.now self.now.nsdname }
     {
-        self.by_kind.nsdname.best(name)
+        match self.by_kind.nsdname.best(name) {
+            Some((pattern, action)) => Some((pattern, action.lend())),
+            None => None,
+        }
     }
 
     /// The rule that comes first of those about a name server of this address.
-    pub fn nsip(&self, addr: Addr) -> Option<(Prefix, &Action)>
-        ensures { option_map (λ e. (e.0, e.1.now)) result ≡ longest addr self.now.nsip }
+    pub fn nsip(&self, addr: Addr) -> Option<(Prefix, ActionRef<'_>)>
+        ensures { option_map (λ e. (e.0, action_seen e.1)) result ≡ longest addr self.now.nsip }
     {
-        self.by_kind.nsip.longest(addr)
+        match self.by_kind.nsip.longest(addr) {
+            Some((prefix, action)) => Some((prefix, action.lend())),
+            None => None,
+        }
     }
 }

@@ -1,13 +1,14 @@
 //! A policy zone with its rules.
 
 ghost use Rattle.std.specs.Prelude.{◌≡◌, option_copied, option_map, IfOk};
+ghost use Rattle.action_codec.specs.Seen.{action_seen};
 ghost use Rattle.zone_rows.specs.Content.{content_count, content_serial, unloaded};
 ghost use Rattle.zone_rows.specs.Distinct.{HasDistinctRows};
 ghost use Rattle.zone_rows.specs.Zone.{Gives, apply_outcome};
 ghost use Rattle.zone_index.specs.Indexed.{HasRows, content_rule, index_of};
 
 use crate::rules::Rules;
-use action_codec::Action;
+use action_codec::ActionRef;
 use dns_name::Name;
 use dns_record::{Record, Soa};
 use std::alloc::{AllocError, Global};
@@ -131,8 +132,8 @@ impl Zone {
     /// What the rule of exactly this trigger does: what the live rows of the trigger do. `None` where there are
     /// none, or they do nothing. It takes no memory, and its time is logarithmic in the number of rules.
     #[tactic(auto, using(crate::proofs::Zones::rule_of_index))]
-    pub fn rule(&self, trigger: &Trigger) -> Option<&Action>
-        ensures { option_copied result ≡ content_rule self.now.origin self.now.content trigger.now }
+    pub fn rule(&self, trigger: &Trigger) -> Option<ActionRef<'_>>
+        ensures { option_map action_seen result ≡ content_rule self.now.origin self.now.content trigger.now }
     {
         match &self.index {
             None => None,

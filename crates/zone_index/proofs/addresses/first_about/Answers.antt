@@ -1,4 +1,4 @@
-use Rattle.std.proofs.Common.{sym, ap, ◌∙◌, option_map}
+use Rattle.std.proofs.Common.{Some, sym, ap, ◌∙◌, option_map}
 use Rattle.zone_index.proofs.FirstRule.{none_in_empty, rule_at}
 use Rattle.zone_index.proofs.addresses.first_about.Goals as goal
 
@@ -13,4 +13,4 @@ returns-in-None c =
 pub returns-in-Some : goal.returns-in-Some
 returns-in-Some c =
     let at = rule_at c.args.owner.now c.args.records.now c.args.rules.now c.in_ok-prefix.prefix c.in_ok-prefix.ensures.sorted c.in_ok-prefix.ensures.prefix in
-    ap (option_map (λ v. (c.in_ok-prefix.prefix, v))) c.in-Some.ensures ∙ at
+    ap (λ action. Some (c.in_ok-prefix.prefix, action)) c.lend.ensures ∙ ap (option_map (λ v. (c.in_ok-prefix.prefix, v))) c.in-Some.ensures ∙ at

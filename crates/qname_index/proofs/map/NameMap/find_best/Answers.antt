@@ -1,7 +1,7 @@
 use Rattle.std.proofs.Common.{◌-◌, refl}
 use Rattle.qname_index.proofs.Ranks.{Laws}
 use Rattle.qname_index.proofs.Turns.{exact_hit, exact_miss, wild_hit, wild_miss, none_tried}
-use Rattle.qname_index.proofs.map.NameMap.best.Goals as goal
+use Rattle.qname_index.proofs.map.NameMap.find_best.Goals as goal
 
 pub returns-in-Some : goal.returns-in-Some
 returns-in-Some g c =

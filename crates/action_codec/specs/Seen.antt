@@ -1,0 +1,18 @@
+-- What an index lends, as plain values.
+use Rattle.action_codec.specs.Local.{PlainLocal}
+use Rattle.action_codec.specs.declared.action.Action.{Action}
+use Rattle.action_codec.specs.declared.action.Action.TheVariants as actions
+use Rattle.action_codec.specs.declared.action.ActionRef.{ActionRef}
+use Rattle.action_codec.specs.declared.action.ActionRef.TheVariants.{NxDomain, NoData, PassThru, Drop, TcpOnly, Local}
+use Rattle.action_codec.specs.declared.local_ref.LocalPart.{LocalPart}
+
+abbrev pub part_seen : LocalPart → PlainLocal
+part_seen part = record { rtype = part.rtype; ttl = part.ttl; rdata = part.rdata.now }
+
+abbrev pub action_seen : ActionRef → Action
+action_seen NxDomain = actions.NxDomain
+action_seen NoData = actions.NoData
+action_seen PassThru = actions.PassThru
+action_seen Drop = actions.Drop
+action_seen TcpOnly = actions.TcpOnly
+action_seen (Local rows) = actions.Local rows
