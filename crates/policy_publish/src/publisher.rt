@@ -18,6 +18,7 @@ use dns_name::Name;
 use dns_record::Soa;
 use ixfr_apply::{Marks, wanted};
 use left_right::writer::Writer;
+use policy_snapshot::OldZone;
 use std::alloc::{AllocError, Global};
 use std::marker::Model;
 use std::sync::Wait;
@@ -32,6 +33,8 @@ pub struct Publisher<N: StoreName> {
     latest: Shown,
     marks: Marks,
     log_writer: LogWriter,
+    // Zones that others took the place of, and that readers may still hold. No clause speaks of them.
+    replaced: Vec<OldZone>,
     alloc: Global,
 }
 
@@ -100,6 +103,7 @@ impl<N: StoreName> Publisher<N> {
             latest: shown,
             marks,
             log_writer,
+            replaced: Vec::new(alloc),
             alloc,
         })
     }
@@ -117,7 +121,7 @@ impl<N: StoreName> Publisher<N> {
     /// Publishes the policy after one more transfer, whole or in steps, of the zone of this number, the first of which is zone 1, and
     /// answers what the zone holds then. The zone is no more marked. It answers `Fault` where the zone can't take the transfer, and
     /// `OutOfMemory` where memory ran out, or 2^62 transfers were published; all is as it was then. Its time is that of building one
-    /// zone, and it waits until no reader is entering.
+    /// zone, and it waits until no reader is entering. The zone as it was before is given up by [`Publisher::give_up_old`].
     pub fn publish<R: Wait>(
         &mut self,
         rt: &R,
@@ -129,17 +133,30 @@ impl<N: StoreName> Publisher<N> {
         ensures publishes { IfSome (zone_at self.old.version.zones number) (λ zone.
             Publishes number zone transfer result self.old self.new) }
     {
-        let Prepared { shown, again, size } = prepare::<N>(
-            self.alloc,
-            &self.latest,
-            &self.log_writer,
-            number,
-            transfer,
-        )?;
+        let before = self.latest.version.hold(number)?;
+        self.replaced.reserve(1)?;
+        let Prepared {
+            shown,
+            again,
+            twice,
+            size,
+        } = prepare::<N>(self.alloc, &self.latest, &self.log_writer, number, transfer)?;
         swap_in(rt, &mut self.writer, again);
+        // so that the copy that readers don't see has no version before this one
+        swap_in(rt, &mut self.writer, twice);
         self.latest = shown;
         self.marks.set(number, false);
+        keep(&mut self.replaced, before);
         Ok(size)
+    }
+
+    /// Gives up the zones that others took the place of, as far as no reader holds them any more, and says how many are left. So no
+    /// reader is the one that gives a zone up, which takes time linear in its rows. It waits for nobody and takes no memory.
+    pub fn give_up_old(&mut self) -> usize
+        ensures { self.new ≡ self.old }
+    {
+        self.replaced.retain(|zone| zone.is_held());
+        self.replaced.len()
     }
 
     /// The list as it is now, for a reader to learn. It waits for nobody and takes no memory.
@@ -219,10 +236,20 @@ impl<N: StoreName> Publisher<N> {
             latest: _latest,
             marks: _marks,
             log_writer: _log_writer,
+            replaced: _replaced,
             alloc: _,
         } = self;
         if let Some(writer) = writer {
             drop(writer.take(rt));
+        }
+    }
+}
+
+// Keeps a zone that another took the place of, for which there is room.
+fn keep(zones: &mut Vec<OldZone>, zone: Option<OldZone>) {
+    if let Some(zone) = zone {
+        if zones.len() < zones.capacity() {
+            zones.push_reserved(zone);
         }
     }
 }

@@ -68,6 +68,8 @@ pub(crate) struct Prepared {
     pub shown: Shown,
     /// The same once more.
     pub again: Shown,
+    /// The same a third time.
+    pub twice: Shown,
     pub size: Publication,
 }
 
@@ -92,8 +94,10 @@ pub(crate) fn prepare<N: StoreName>(
         p.shown.line.entries
         ≡ latest.now.line.entries ++ record { zone = number; transfer = transfer } ∷ []) }
     ensures store { IfOk result (λ p. IsOf N.store p.shown) }
-    ensures same { IfOk result (λ p. (p.again.line ≡ p.shown.line) ×
+    ensures again { IfOk result (λ p. (p.again.line ≡ p.shown.line) ×
         (arc_value p.again.version ≡ arc_value p.shown.version)) }
+    ensures twice { IfOk result (λ p. (p.twice.line ≡ p.shown.line) ×
+        (arc_value p.twice.version ≡ arc_value p.shown.version)) }
 {
     if latest.line.len() >= MOST {
         return Err(ApplyError::OutOfMemory);
@@ -107,6 +111,7 @@ pub(crate) fn prepare<N: StoreName>(
     let (next, size) = version_after(alloc, &latest.version, zone, transfer)?;
     let version = Arc::new(alloc, next)?;
     let again = Arc::try_clone(&version)?;
+    let twice = Arc::try_clone(&version)?;
     let Some(line) = log_writer.add(addition) else {
         return Err(ApplyError::OutOfMemory);
     };
@@ -117,6 +122,10 @@ pub(crate) fn prepare<N: StoreName>(
         },
         again: Shown {
             version: again,
+            line: line.again(),
+        },
+        twice: Shown {
+            version: twice,
             line,
         },
         size,

@@ -5,9 +5,11 @@ mod deciding;
 mod entry;
 pub mod laws;
 mod lookup;
+mod old_zone;
 mod questions;
 mod sight;
 mod snapshot;
 
 pub use entry::Entry;
+pub use old_zone::OldZone;
 pub use snapshot::Snapshot;

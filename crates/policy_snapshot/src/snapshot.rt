@@ -9,6 +9,7 @@ ghost use Rattle.policy_snapshot.specs.declared.entry.Entry.{Entry};
 ghost use Rattle.policy_snapshot.specs.Policy.{zone_at};
 ghost use Rattle.policy_snapshot.specs.Stands.{HaveRows, Stands, new_snapshot, with_zone};
 
+use crate::old_zone::OldZone;
 use dns_name::Name;
 use std::alloc::{AllocError, Global};
 use std::marker::Model;
@@ -99,6 +100,18 @@ impl Snapshot {
         match self.zones.get(number as usize - 1) {
             None => None,
             Some(zone) => Some(zone),
+        }
+    }
+
+    /// One more handle on the zone of a number, where there is one. It takes no memory, and answers an error only where there are
+    /// 2^63 handles.
+    pub fn hold(&self, number: u32) -> Result<Option<OldZone>, AllocError> {
+        if number == 0 {
+            return Ok(None);
+        }
+        match self.zones.get(number as usize - 1) {
+            None => Ok(None),
+            Some(zone) => Ok(Some(OldZone::of(Arc::try_clone(zone)?))),
         }
     }
 

@@ -17,6 +17,8 @@ mod items;
 #[cfg(test)]
 mod messages;
 #[cfg(test)]
+mod old_zones;
+#[cfg(test)]
 mod passing;
 #[cfg(test)]
 mod polls;

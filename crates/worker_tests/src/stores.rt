@@ -5,6 +5,7 @@ ghost use Rattle.std.specs.Prelude.{◌≡◌};
 use crate::answers::answer_all;
 use crate::faults::fail_all;
 use crate::items::take_all;
+use crate::old_zones::keep_old;
 use crate::passing::{pass_all, pass_one_of_two, refuse_one};
 use crate::polls::poll_all;
 use crate::publishing::follow_all;
@@ -29,6 +30,7 @@ pub enum Trial {
     Answers,
     Polls,
     Publishing,
+    OldZones,
     Runs,
     Faults,
     Passing,
@@ -79,6 +81,7 @@ fn attempt_over<
         Trial::Answers => answer_all(rt, alloc, publisher, readers),
         Trial::Polls => poll_all(rt, alloc, publisher),
         Trial::Publishing => follow_all(rt, alloc, publisher, readers),
+        Trial::OldZones => keep_old(rt, alloc, publisher, readers),
         Trial::Runs => run_all(rt, alloc, publisher, readers),
         Trial::Faults => fail_all(rt, alloc, publisher, readers),
         Trial::Passing => pass_all(rt, alloc, publisher, readers),
