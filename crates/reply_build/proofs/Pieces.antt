@@ -235,7 +235,7 @@ pub counted : (f : PlainLocal → Bool) (rows : List PlainLocal) (i count one wh
     → count + length (filter f (drop i rows)) ≡ whole → count + one + length (filter f (drop (i + 1) rows)) ≡ whole
 counted f rows i count one whole row lt here e h =
     let first : length (filter f (drop i rows)) ≡ cond (f row) 1 0 + length (filter f (drop (i + 1) rows)) =
-        at_drop_more (λ l. length (filter f l)) rows i row lt ∙ ap (λ r. length (filter f (r ∷ drop (i + 1) rows))) here ∙ one_of (f row) row (filter f (drop (i + 1) rows)) in
+    at_drop_more (λ l. length (filter f l)) rows i row lt ∙ ap (λ r. length (filter f (r ∷ drop (i + 1) rows))) here ∙ one_of (f row) row (filter f (drop (i + 1) rows)) in
     omega (arith, first, e, h)
 
 pub least : (b : Bool) (one : ℕ) → one ≡ cond b 1 0 → one ≤ 1
