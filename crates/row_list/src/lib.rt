@@ -2,6 +2,7 @@
 #![tactic(auto)]
 
 mod block;
+mod block_numbers;
 mod blocks;
 mod entry;
 mod list;

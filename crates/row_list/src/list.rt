@@ -7,7 +7,8 @@ ghost use Rattle.row_list.specs.Seen.{seen};
 ghost use Rattle.row_list.specs.Blocks.{no_rows, put_row, with_row, without_row};
 
 use crate::block::Block;
-use crate::blocks::{block_at, count_at_most, lowered, put_block};
+use crate::block_numbers::BlockNumbers;
+use crate::blocks::{block_at, put_block};
 use crate::stored_row::StoredRow;
 use shared_list::{Held, Share, SharedTable};
 use std::alloc::{AllocError, Global};
@@ -24,8 +25,9 @@ const SPARE: usize = 8192;
 pub struct RowList {
     blocks: SharedTable<Held<Block>>,
     tail: Block,
-    firsts: Vec<usize>,
-    starts: Vec<usize>,
+    // the first number that each block may have, and how many rows stand before it
+    firsts: BlockNumbers,
+    starts: BlockNumbers,
     next: u32,
     gone: usize,
     alloc: Global,
@@ -39,26 +41,24 @@ impl Model for RowList {
 
     ghost view = { λ l. record { rows = joined (l.blocks ++ l.tail ∷ []); next = l.next } };
 
-    ghost invariant = { λ l. IsIndexed l.firsts.items l.starts.items (l.blocks ++ l.tail ∷ [])
+    ghost invariant = { λ l. IsIndexed l.firsts l.starts (l.blocks ++ l.tail ∷ [])
         l.next };
 }
 
 impl RowList {
-    /// No rows; the first gets the number 0.
-    pub fn empty(alloc: Global) -> Result<Self, AllocError>
-        ensures { IfOk result (λ list. list ≡ no_rows) }
+    /// No rows; the first gets the number 0. It takes no memory.
+    pub fn empty(alloc: Global) -> Self
+        ensures { result ≡ no_rows }
     {
-        let firsts = Vec::from_slice(alloc, &[0])?;
-        let starts = Vec::from_slice(alloc, &[0])?;
-        Ok(RowList {
+        RowList {
             blocks: SharedTable::new(alloc),
             tail: Block::new(alloc),
-            firsts,
-            starts,
+            firsts: BlockNumbers::one(alloc, 0),
+            starts: BlockNumbers::one(alloc, 0),
             next: 0,
             gone: 0,
             alloc,
-        })
+        }
     }
 
     /// A list of the same rows. The two share all blocks but the last.
@@ -66,8 +66,8 @@ impl RowList {
         ensures { IfOk result (λ other. other ≡ self.now) }
     {
         let blocks = self.blocks.share()?;
-        let firsts = Vec::from_slice(self.alloc, &self.firsts)?;
-        let starts = Vec::from_slice(self.alloc, &self.starts)?;
+        let firsts = self.firsts.share(self.alloc)?;
+        let starts = self.starts.share(self.alloc)?;
         let tail = self.tail.share(self.alloc)?;
         Ok(RowList {
             blocks,
@@ -86,7 +86,7 @@ impl RowList {
         ensures rising { NumbersRise 0 self.now.rows self.now.next }
         ensures fits { self.now.next < 2 ^ 32 }
     {
-        self.starts[self.blocks.len()] + self.tail.len()
+        self.starts.get(self.blocks.len()) + self.tail.len()
     }
 
     /// The number that the next row gets.
@@ -106,7 +106,7 @@ impl RowList {
     pub fn get(&self, number: u32) -> Option<StoredRow<'_>>
         ensures { option_map seen result ≡ row_of_number number self.now.rows }
     {
-        let after = count_at_most(&self.firsts, number as usize);
+        let after = self.firsts.count_at_most(number as usize);
         if after == 0 {
             return None;
         }
@@ -118,9 +118,9 @@ impl RowList {
         requires { at < length self.now.rows }
         ensures { slice_get self.now.rows at ≡ Some (seen result) }
     {
-        let after = count_at_most(&self.starts, at);
+        let after = self.starts.count_at_most(at);
         let block = block_at(&self.blocks, &self.tail, after - 1);
-        block.get(at - self.starts[after - 1])
+        block.get(at - self.starts.get(after - 1))
     }
 
     // Puts the row at the end and answers true, or answers false where the last block is full.
@@ -146,11 +146,11 @@ impl RowList {
         let total = self.len();
         let block = self.tail.share(self.alloc)?;
         let held = Held::new(self.alloc, block)?;
-        self.firsts.reserve(1)?;
-        self.starts.reserve(1)?;
+        let firsts = self.firsts.with(self.alloc, self.next as usize)?;
+        let starts = self.starts.with(self.alloc, total)?;
         self.blocks.push(held)?;
-        self.firsts.push_reserved(self.next as usize);
-        self.starts.push_reserved(total);
+        self.firsts = firsts;
+        self.starts = starts;
         self.tail = Block::new(self.alloc);
         Ok(())
     }
@@ -206,7 +206,7 @@ impl RowList {
         ensures ok { IfOk result (λ _. self.new ≡ without_row number self.old) }
         ensures err { OnErr result (self.new ≡ self.old) }
     {
-        let after = count_at_most(&self.firsts, number as usize);
+        let after = self.firsts.count_at_most(number as usize);
         if after == 0 {
             return Ok(());
         }
@@ -214,7 +214,7 @@ impl RowList {
         let old = block_at(&self.blocks, &self.tail, place);
         let block = old.without(self.alloc, number)?;
         let gone = old.len().saturating_sub(block.len());
-        let starts = lowered(self.alloc, &self.starts, after, gone)?;
+        let starts = self.starts.lowered(self.alloc, after, gone)?;
         put_block(self.alloc, &mut self.blocks, &mut self.tail, place, block)?;
         self.starts = starts;
         self.gone = self.gone.saturating_add(gone);
@@ -225,7 +225,7 @@ impl RowList {
     pub fn rebuilt(&self) -> Result<Self, AllocError>
         ensures { IfOk result (λ other. other ≡ self.now) }
     {
-        let mut list = RowList::empty(self.alloc)?;
+        let mut list = RowList::empty(self.alloc);
         let count = self.len();
         for at in 0..count {
             list.put(self.nth(at))?;

@@ -10,8 +10,8 @@ invariant_of-self-then-branch c =
     let bs : List (List PlainStored) = c.self.inside.blocks in
     let new : c.push.new.self ≡ c.self.inside.tail ++ seen c.args.row ∷ [] = rw c.if-branch.true at c.in_ok-push.ensures.ok in
     let above : c.self.inside.next ≤ c.args.row.number = omega (arith, c.requires.above, ap (λ (v : PlainRowList). v.next) c.self.view_is) in
-    subst (λ (t : List PlainStored). IsIndexed c.self.inside.firsts.items c.self.inside.starts.items (bs ++ t ∷ []) (c.args.row.number + 1)) (sym new)
-    (indexed_row c.self.inside.firsts.items c.self.inside.starts.items bs c.self.inside.tail c.self.inside.next (seen c.args.row) c.self.invariant above c.requires.below)
+    subst (λ (t : List PlainStored). IsIndexed c.self.inside.firsts c.self.inside.starts (bs ++ t ∷ []) (c.args.row.number + 1)) (sym new)
+    (indexed_row c.self.inside.firsts c.self.inside.starts bs c.self.inside.tail c.self.inside.next (seen c.args.row) c.self.invariant above c.requires.below)
 
 pub returns-then-branch-clause-ok : goal.returns-then-branch-clause-ok
 returns-then-branch-clause-ok c =

@@ -10,14 +10,14 @@ invariant_of-self-2 c =
     let block : c.in_ok-held.held ≡ c.self.inside.tail = c.in_ok-held.ensures ∙ c.in_ok-block.ensures in
     let news : c.push.new.self ++ c.new-2.result ∷ [] ≡ bs ++ [] ∷ [] =
     ap (λ (l : List (List PlainStored)). l ++ c.new-2.result ∷ []) c.in_ok-push.ensures.ok ∙ (λ t. (c.self.inside.blocks ++ block t ∷ []) ++ c.new-2.ensures t ∷ []) in
-    let firsts : c.push_reserved.new.self.items ≡ c.self.inside.firsts.items ++ c.self.inside.next ∷ [] = c.push_reserved.ensures.items ∙ ap (λ l. l ++ c.self.inside.next ∷ []) c.in_ok-reserve.ensures.items in
-    let starts : c.push_reserved-2.new.self.items ≡ c.self.inside.starts.items ++ c.len-total.result ∷ [] = c.push_reserved-2.ensures.items ∙ ap (λ l. l ++ c.len-total.result ∷ []) c.in_ok-reserve-2.ensures.items in
+    let firsts : c.in_ok-firsts.firsts ≡ c.self.inside.firsts ++ c.self.inside.next ∷ [] = c.in_ok-firsts.ensures in
+    let starts : c.in_ok-starts.starts ≡ c.self.inside.starts ++ c.len-total.result ∷ [] = c.in_ok-starts.ensures in
     let total : c.len-total.result ≡ length (joined bs) = c.len-total.ensures.len ∙ ap (λ (v : PlainRowList). length v.rows) (sym c.self.view_is) in
     let P : List ℕ → List ℕ → List (List PlainStored) → Type 0 = λ fs ss l. IsIndexed fs ss l c.self.inside.next in
-    subst (λ l. P c.push_reserved.new.self.items c.push_reserved-2.new.self.items l) (sym news)
-    (subst (λ l. P c.push_reserved.new.self.items l (bs ++ [] ∷ [])) (sym starts)
-    (subst (λ l. P l (c.self.inside.starts.items ++ c.len-total.result ∷ []) (bs ++ [] ∷ [])) (sym firsts)
-    (indexed_more c.self.inside.firsts.items c.self.inside.starts.items bs c.self.inside.next c.len-total.result c.self.invariant total)))
+    subst (λ l. P c.in_ok-firsts.firsts c.in_ok-starts.starts l) (sym news)
+    (subst (λ l. P c.in_ok-firsts.firsts l (bs ++ [] ∷ [])) (sym starts)
+    (subst (λ l. P l (c.self.inside.starts ++ c.len-total.result ∷ []) (bs ++ [] ∷ [])) (sym firsts)
+    (indexed_more c.self.inside.firsts c.self.inside.starts bs c.self.inside.next c.len-total.result c.self.invariant total)))
 
 pub returns : goal.returns
 returns c =

@@ -5,5 +5,5 @@ use Rattle.row_list.proofs.list.RowList.skip_to.Goals as goal
 
 pub invariant_of-self : goal.invariant_of-self
 invariant_of-self c =
-    indexed_higher c.self.inside.firsts.items c.self.inside.starts.items (c.self.inside.blocks ++ c.self.inside.tail ∷ []) c.self.inside.next c.args.next c.self.invariant
+    indexed_higher c.self.inside.firsts c.self.inside.starts (c.self.inside.blocks ++ c.self.inside.tail ∷ []) c.self.inside.next c.args.next c.self.invariant
     (omega (arith, c.requires, ap (λ (v : PlainRowList). v.next) c.self.view_is)) (omega arith)
