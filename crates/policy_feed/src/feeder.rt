@@ -126,6 +126,13 @@ impl<N: StoreName> Feeder<N> {
         self.polls.iter().any(|poll| poll.is_some())
     }
 
+    // Gives up the zones that others took the place of, as far as no worker holds them any more.
+    pub(crate) fn give_up_old(&mut self)
+        ensures { self.new ≡ self.old }
+    {
+        let _left = self.publisher.give_up_old();
+    }
+
     /// Ends it. Versions that were taken stay. It waits until no reader is entering.
     pub fn close<R: Wait>(self, rt: &R) {
         let Feeder {

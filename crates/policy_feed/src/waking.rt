@@ -221,7 +221,7 @@ impl<N: StoreName> Feeder<N> {
         let what = self.take(rt, wires, now, wake, text)?;
         self.hasten_when(is_anew, now);
         self.order_due(rt, wires, ids, now, text)?;
-        let _old = self.publisher.give_up_old();
+        self.give_up_old();
         Ok(what)
     }
 }

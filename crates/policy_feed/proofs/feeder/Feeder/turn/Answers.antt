@@ -16,7 +16,8 @@ returns-clause-takes g c =
         first = took.0;
         takes = took.2 (g.I.Ids.ids c.args.ids.now);
         next = orders.0;
-        orders = subst (λ (x : PlainFeeder). OrdersDue c.args.now (feed_of x (g.W.Wires.told c.take.new.wires) (g.W.Wires.order_faults c.take.new.wires) (g.I.Ids.ids c.args.ids.now)) orders.0 after) c.hasten_when.ensures orders.2;
+        orders = subst (λ (x : PlainFeeder). OrdersDue c.args.now (feed_of c.hasten_when.new.self (g.W.Wires.told c.take.new.wires) (g.W.Wires.order_faults c.take.new.wires) (g.I.Ids.ids c.args.ids.now)) orders.0
+            (feed_of x (g.W.Wires.told c.order_due.new.wires) (g.W.Wires.order_faults c.order_due.new.wires) (g.I.Ids.ids c.order_due.new.ids))) (sym c.give_up_old.ensures) orders.2;
         lines_are = refl;
       },
     )
