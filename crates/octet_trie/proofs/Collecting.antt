@@ -1,9 +1,9 @@
 -- All entries of a node, one part behind another.
-use Rattle.std.proofs.Common.{◌≡◌, ℕ, zero, suc, ◌+◌, ◌<◌, ◌≤◌, Bool, true, false, cond, Option, Some, None, List, [], ◌∷◌, ◌++◌, length, take, drop, get_or, map, refl, sym, ap, ◌∙◌, subst, arith, append-nil, append_assoc, length-append}
+use Rattle.std.proofs.Common.{◌≡◌, ℕ, ◌+◌, ◌<◌, ◌≤◌, true, false, List, [], ◌∷◌, ◌++◌, length, take, get_or, sym, ap, ◌∙◌, subst, arith, append-nil, append_assoc}
 use Rattle.std.proofs.lemmas.List.{take_more, take_all}
 use Rattle.octet_trie.specs.Copies.{IsCopied}
 use Rattle.octet_trie.specs.ListKeys.{octet_keys, entry_key}
-use Rattle.octet_trie.specs.Nodes.{PlainNode, Sub, Stored, name_of, key_of, kids_of, joined, stands, IsNode, IsAt}
+use Rattle.octet_trie.specs.Nodes.{PlainNode, Sub, Stored, name_of, kids_of, joined, stands, IsNode, IsAt}
 use Rattle.octet_trie.specs.Trie.{IsTrie}
 use Rattle.octet_trie.proofs.Searching.{kid_is, kids_count}
 use Rattle.octet_trie.proofs.Stretches.{flat_append}

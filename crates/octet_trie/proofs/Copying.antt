@@ -1,6 +1,6 @@
 -- Copies of nodes stand for what the nodes stand for.
-use Rattle.std.proofs.Common.{◌≡◌, ℕ, zero, suc, ◌+◌, ◌<◌, ◌≤◌, Bool, Option, Some, None, List, [], ◌∷◌, ◌++◌, length, take, drop, get_or, map, refl, sym, ap, ◌∙◌, subst, arith, append-nil, append_assoc, length-append}
-use Rattle.std.proofs.lemmas.List.{map_push, take_more, take_all, take-map, take_at, take-append-le, length-map}
+use Rattle.std.proofs.Common.{◌≡◌, ℕ, zero, suc, ◌+◌, ◌<◌, ◌≤◌, Bool, List, [], ◌∷◌, ◌++◌, length, take, drop, get_or, refl, sym, ap, ◌∙◌, subst, arith, append-nil, append_assoc, length-append}
+use Rattle.std.proofs.lemmas.List.{map_push, take_more, take_all, take-map, take_at}
 use Rattle.std.specs.List.{AllByRecursion}
 use Rattle.octet_trie.specs.Copies.{IsCopied, stands_all, AreAll, AreCopied, IsKeyAt}
 use Rattle.octet_trie.specs.ListKeys.{octet_keys, symbols}
@@ -8,8 +8,7 @@ use Rattle.octet_trie.specs.Nodes.{PlainNode, Sub, Stored, name_of, key_of, kids
 use Rattle.octet_trie.specs.Plain.{plain}
 use Rattle.octet_trie.specs.Written.{IsWritten}
 use Rattle.octet_trie.specs.declared.node.Node.{Node}
-use Rattle.octet_trie.proofs.Kinship.{each_kid}
-use Rattle.octet_trie.proofs.Numbers.{node_after, stands_after, extends_itself, extends_subs, extends_along, longer_after}
+use Rattle.octet_trie.proofs.Numbers.{node_after, stands_after, extends_itself, extends_subs, extends_along}
 use Rattle.octet_trie.proofs.Putting.{name_length, each_under}
 use Rattle.octet_trie.proofs.Searching.{kid_is, kids_count}
 use Rattle.octet_trie.proofs.Spelling.{spelled, length_symbols, unmapped}

@@ -1,7 +1,7 @@
 -- Copies of nodes among others.
-use Rattle.std.specs.Prelude.{◌≡◌, ℕ, Bool, List, [], ◌∷◌, ◌++◌, length, map, take, drop}
+use Rattle.std.specs.Prelude.{◌≡◌, ℕ, Bool, List, ◌++◌, map, take, drop}
 use Rattle.std.specs.List.{AllByRecursion}
-use Rattle.octet_trie.specs.Nodes.{PlainNode, Sub, Stored, name_of, stands, IsNode, Extends}
+use Rattle.octet_trie.specs.Nodes.{PlainNode, Sub, Stored, stands, IsNode, Extends}
 use Rattle.octet_trie.specs.Plain.{plain}
 use Rattle.octet_trie.specs.declared.node.Node.{Node}
 use Rattle.shared_list.specs.Octets.{StandsWhole}

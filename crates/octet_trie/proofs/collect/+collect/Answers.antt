@@ -1,4 +1,4 @@
-use Rattle.std.proofs.Common.{◌≡◌, map, arith}
+use Rattle.std.proofs.Common.{map, arith}
 use Rattle.octet_trie.specs.Plain.{plain}
 use Rattle.octet_trie.specs.Trie.{found_entry}
 use Rattle.octet_trie.proofs.Collecting.{collected_more}

@@ -1,5 +1,5 @@
-use Rattle.std.proofs.Common.{◌≡◌, ◌<◌, ◌≤◌, length, arith}
-use Rattle.octet_trie.specs.Nodes.{kids_of, name_of}
+use Rattle.std.proofs.Common.{arith}
+use Rattle.octet_trie.specs.Nodes.{kids_of}
 use Rattle.octet_trie.specs.Plain.{plain}
 use Rattle.octet_trie.proofs.Copying.{copied_none, copied_more, copied_whole, copied_node, all_keyed}
 use Rattle.octet_trie.proofs.Searching.{kids_count}

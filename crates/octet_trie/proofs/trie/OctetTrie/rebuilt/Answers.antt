@@ -1,4 +1,4 @@
-use Rattle.octet_trie.proofs.Collecting.{copied_trie, copied_list}
+use Rattle.octet_trie.proofs.Collecting.{copied_trie}
 use Rattle.octet_trie.proofs.trie.OctetTrie.rebuilt.Goals as goal
 
 pub invariant_of-result : goal.invariant_of-result
