@@ -1,6 +1,7 @@
 use Rattle.std.proofs.Common.{◌++◌, ◌∙◌, List, ℕ, append_assoc, refl, sym, ap, subst}
 use Rattle.edge_io.specs.Edge.{Rose}
 use Rattle.policy_feed.specs.Feed.{PlainFeeder, feed_of}
+use Rattle.policy_feed.specs.Hastening.{hastened_when}
 use Rattle.policy_feed.specs.Ordering.{OrdersDue}
 use Rattle.policy_feed.proofs.feeder.Feeder.turn.Goals as goal
 
@@ -16,8 +17,9 @@ returns-clause-takes g c =
         first = took.0;
         takes = took.2 (g.I.Ids.ids c.args.ids.now);
         next = orders.0;
-        orders = subst (λ (x : PlainFeeder). OrdersDue c.args.now (feed_of c.hasten_when.new.self (g.W.Wires.told c.take.new.wires) (g.W.Wires.order_faults c.take.new.wires) (g.I.Ids.ids c.args.ids.now)) orders.0
-            (feed_of x (g.W.Wires.told c.order_due.new.wires) (g.W.Wires.order_faults c.order_due.new.wires) (g.I.Ids.ids c.order_due.new.ids))) (sym c.give_up_old.ensures) orders.2;
+        orders = subst (λ (x : PlainFeeder). OrdersDue c.args.now (feed_of (hastened_when c.args.is_anew c.args.now c.take.new.self) (g.W.Wires.told c.take.new.wires) (g.W.Wires.order_faults c.take.new.wires) (g.I.Ids.ids c.args.ids.now)) orders.0
+            (feed_of x (g.W.Wires.told c.order_due.new.wires) (g.W.Wires.order_faults c.order_due.new.wires) (g.I.Ids.ids c.order_due.new.ids))) (sym c.give_up_old.ensures)
+            (subst (λ (x : PlainFeeder). OrdersDue c.args.now (feed_of x (g.W.Wires.told c.take.new.wires) (g.W.Wires.order_faults c.take.new.wires) (g.I.Ids.ids c.args.ids.now)) orders.0 after) c.hasten_when.ensures orders.2);
         lines_are = refl;
       },
     )
