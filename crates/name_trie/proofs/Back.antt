@@ -5,7 +5,7 @@ use Rattle.std.proofs.lemmas.List.{reverse-reverse}
 use Rattle.std.specs.List.{flat_map}
 use Rattle.dns_name.specs.Alike.{PlainPattern}
 use Rattle.dns_name.specs.Labels.{Label, Name, label_octets}
-use Rattle.name_trie.specs.Fits.{entry_key}
+use Rattle.octet_trie.specs.ListKeys.{entry_key}
 use Rattle.name_trie.specs.Key.{name_key}
 use Rattle.name_trie.specs.Patterns.{is_wild_in, labels_behind, name_in, octets_in, pattern_in}
 

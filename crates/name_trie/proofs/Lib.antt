@@ -1,3 +1,13 @@
 pub mod Keys
 pub mod Matching
 pub mod Back
+pub mod ByKey
+pub mod OneList
+pub mod Same
+pub mod Ranking
+pub mod Last
+pub mod Longer
+pub mod Finding
+pub mod Edited
+pub mod Finds
+pub mod Listed

@@ -3,7 +3,8 @@ use Rattle.std.proofs.Common.{◌≡◌, ℕ, ◌+◌, ◌==◌, Bool, true, fal
 use Rattle.std.proofs.lemmas.Bool.{ne_eqb}
 use Rattle.dns_name.specs.Alike.{ends_with, same_name}
 use Rattle.dns_name.specs.Labels.{EndsWith, Label, Name, lowered}
-use Rattle.name_trie.specs.Fits.{entry_key, fits, is_end}
+use Rattle.octet_trie.specs.Fits.{fits, is_last}
+use Rattle.octet_trie.specs.ListKeys.{entry_key}
 use Rattle.name_trie.specs.Key.{name_key}
 use Rattle.name_trie.proofs.Keys.{key_begins, key_of_front, key_same}
 
@@ -13,7 +14,7 @@ both_ways true false f g = sym (f refl)
 both_ways false true f g = g refl
 both_ways false false f g = refl
 
-first_true : (a b : Bool) → (a && b) ≡ true → a ≡ true
+pub first_true : (a b : Bool) → (a && b) ≡ true → a ≡ true
 first_true true b e = refl
 first_true false b e = e
 
@@ -30,10 +31,10 @@ both_true a b e f = ap (λ x. x && b) e ∙ f
 
 -- an octet is no end
 on : (o x : ℕ) (q ss : List ℕ) → fits (o ∷ q) ((x + 2) ∷ ss) ≡ ((x + 2 == o + 2) && fits q ss)
-on o x q ss = ap (λ b. cond b (is_end ss) ((x + 2 == o + 2) && fits q ss)) (ne_eqb (x + 2) 1 (λ e. omega (arith, e)))
+on o x q ss = ap (λ b. cond b (is_last ss) ((x + 2 == o + 2) && fits q ss)) (ne_eqb (x + 2) 1 (λ e. omega (arith, e)))
 
 not_end : (x : ℕ) (ss : List ℕ) → fits [] ((x + 2) ∷ ss) ≡ false
-not_end x ss = ap (λ b. b && is_end ss) (ne_eqb (x + 2) 0 (λ e. omega (arith, e)))
+not_end x ss = ap (λ b. b && is_last ss) (ne_eqb (x + 2) 0 (λ e. omega (arith, e)))
 
 never : (b : Bool) → b ≡ false → b ≡ true → ⊥
 never true e f = cc e
@@ -70,7 +71,7 @@ wild_found [] o rest = refl
 wild_found (x ∷ b) o rest = on x x (b ++ o ∷ rest) (entry_key b true) ∙ both_true _ _ (eq-eqb (x + 2) (x + 2) refl) (wild_found b o rest)
 
 -- an exact pattern of a name in lower case is about the name that has its key
-exact_matches : (base name : Name) → lowered base ≡ base → lowered name ≡ name
+pub exact_matches : (base name : Name) → lowered base ≡ base → lowered name ≡ name
     → ((n o : Name) → IsTrue (same_name n o) ↔ (lowered n ≡ lowered o))
     → fits (name_key name) (entry_key (name_key base) false) ≡ same_name name base
 exact_matches base name lb ln alike = both_ways _ _
@@ -87,7 +88,7 @@ key_is_empty : (front : List Label) → name_key front ≡ [] → front ≡ []
 key_is_empty front e = key_same front [] e
 
 -- a wild pattern of a name in lower case is about the names whose keys begin with its key and are longer
-wild_matches : (base name : Name) → lowered base ≡ base → lowered name ≡ name
+pub wild_matches : (base name : Name) → lowered base ≡ base → lowered name ≡ name
     → ((n o : Name) → IsTrue (same_name n o) ↔ (lowered n ≡ lowered o))
     → ((n o : Name) → IsTrue (ends_with n o) ↔ EndsWith n o)
     → fits (name_key name) (entry_key (name_key base) true) ≡ (ends_with name base && not (same_name name base))

@@ -1,3 +1,6 @@
 pub mod Key
-pub mod Fits
 pub mod Patterns
+pub mod Ranked
+pub mod Trie
+pub mod Found
+pub mod Listing

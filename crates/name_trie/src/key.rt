@@ -12,6 +12,7 @@ const ROOM: usize = 255;
 
 /// The labels of a name from the root on, each behind its length, as a trie has them: so names that end alike begin alike. It lies
 /// on the stack.
+#[derive(Drop)]
 pub struct Key {
     octets: [u8; ROOM],
     // the key is what stands from here on

@@ -2,5 +2,9 @@
 #![tactic(auto)]
 
 mod key;
+mod map;
+mod pattern_ref;
 
 pub use key::Key;
+pub use map::{Found, NameTrie};
+pub use pattern_ref::PatternRef;

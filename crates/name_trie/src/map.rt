@@ -1,0 +1,142 @@
+//! A map from patterns of names.
+
+ghost use Rattle.std.specs.Prelude.{◌≡◌, ◌+◌, ◌≤◌, [], true, IfOk};
+ghost use Rattle.std.specs.BTreeMap.{insert_entry, is_at};
+ghost use Rattle.std.specs.Map.{lookup, remove_entry};
+ghost use Rattle.std.specs.Option.{option_map};
+ghost use Rattle.dns_name.specs.Labels.{lowered};
+ghost use Rattle.qname_index.specs.Best.{pattern_order};
+ghost use Rattle.name_trie.specs.Found.{found_pattern};
+ghost use Rattle.name_trie.specs.Trie.{best_acting};
+
+use crate::key::Key;
+use crate::pattern_ref::PatternRef;
+use dns_name::laws::names_that_are_alike;
+use dns_name::{Name, Pattern};
+use octet_trie::OctetTrie;
+use std::alloc::{AllocError, Global};
+use std::marker::Model;
+use std::sync::ledger::Ledger;
+use trie_keys::{Mark, Marked, Steps};
+
+/// An entry: its pattern, which lies in the trie, and its value.
+#[derive(Drop)]
+pub struct Found<'a, N, M> {
+    /// Its pattern.
+    pub pattern: PatternRef<'a>,
+    /// Its value.
+    pub value: Marked<N, M>,
+}
+
+/// A map from patterns of names to small plain values with their marks. Contracts see the list of its entries in order of
+/// precedence, each pattern once: exact patterns before wild ones, then the base of more labels first. An edit gives a new
+/// version, and the two share what is the same in both.
+#[derive(Drop)]
+pub struct NameTrie<N, M: Mark> {
+    trie: OctetTrie<N, M>,
+}
+
+impl<N, M: Mark> Model for NameTrie<N, M> {
+    ghost use Rattle.std.specs.Prelude.{List};
+    ghost use Rattle.dns_name.specs.Alike.{PlainPattern};
+    ghost use Rattle.trie_keys.specs.declared.marked.Marked.{Marked};
+    ghost use Rattle.name_trie.specs.Ranked.{ranked_patterns};
+    ghost use Rattle.name_trie.specs.Trie.{IsNameTrie};
+
+    ghost Value = { List (PlainPattern × Marked N M) };
+
+    ghost view = { λ t. ranked_patterns t.trie };
+
+    ghost invariant = { λ t. IsNameTrie t.trie };
+}
+
+impl<N: Copy + Drop, M: Mark> NameTrie<N, M> {
+    /// No entries. It takes no memory.
+    pub fn empty(alloc: Global) -> Self
+    where
+        N: Default,
+        ensures { result ≡ [] }
+    {
+        NameTrie {
+            trie: OctetTrie::empty(alloc),
+        }
+    }
+
+    /// The same version once more: for an edit of many patterns, by [`inserted`](Self::inserted) and [`removed`](Self::removed),
+    /// which leaves this version as it is.
+    pub fn share(&self) -> Result<Self, AllocError>
+        ensures { IfOk result (λ trie. trie ≡ self.now) }
+    {
+        Ok(NameTrie {
+            trie: self.trie.share()?,
+        })
+    }
+
+    /// With the value at the pattern. This version stays as it is.
+    pub fn with(&self, pattern: &Pattern, value: Marked<N, M>) -> Result<Self, AllocError>
+        requires { M.present value.mark ≡ true }
+        ensures { IfOk result
+            (λ trie. trie ≡ insert_entry pattern_order self.now pattern.now value) }
+    {
+        self.share()?.inserted(pattern, value)
+    }
+
+    /// Without the pattern. This version stays as it is.
+    pub fn without(&self, pattern: &Pattern) -> Result<Self, AllocError>
+        ensures { IfOk result
+            (λ trie. trie ≡ remove_entry (is_at (pattern_order pattern.now)) self.now) }
+    {
+        self.share()?.removed(pattern)
+    }
+
+    /// With the value at the pattern, in place of this version: one of many edits. An `Err` comes where allocation fails, or
+    /// where there is as much in the trie as there may be.
+    pub fn inserted(self, pattern: &Pattern, value: Marked<N, M>) -> Result<Self, AllocError>
+        requires { M.present value.mark ≡ true }
+        ensures { IfOk result
+            (λ trie. trie ≡ insert_entry pattern_order self pattern.now value) }
+    {
+        let NameTrie { trie } = self;
+        let key = Key::of(pattern.base());
+        let trie = trie.inserted(key.as_slice(), pattern.is_wild(), value)?;
+        Ok(NameTrie { trie })
+    }
+
+    /// Without the pattern, in place of this version: one of many edits.
+    pub fn removed(self, pattern: &Pattern) -> Result<Self, AllocError>
+        ensures { IfOk result
+            (λ trie. trie ≡ remove_entry (is_at (pattern_order pattern.now)) self) }
+    {
+        let NameTrie { trie } = self;
+        let key = Key::of(pattern.base());
+        let trie = trie.removed(key.as_slice(), pattern.is_wild())?;
+        Ok(NameTrie { trie })
+    }
+
+    /// The value at exactly this pattern, whether it acts or not. It takes no memory.
+    pub fn get(&self, pattern: &Pattern) -> Option<Marked<N, M>>
+        ensures { result ≡ lookup (is_at (pattern_order pattern.now)) self.now }
+    {
+        let key = Key::of(pattern.base());
+        self.trie.get(key.as_slice(), pattern.is_wild())
+    }
+
+    /// The first entry in order of precedence whose pattern matches the name, of those that act: the exact one, or else the wild
+    /// one of the longest base. The name is in lower case ([`Name::lower`]), as bases are. It takes no memory, and looks at no
+    /// more than 256 nodes.
+    pub fn best<L: Ledger>(&self, name: &Name, steps: &mut Steps<L>) -> Option<Found<'_, N, M>>
+        requires { lowered name.now ≡ name.now }
+        ensures found { option_map found_pattern result ≡ best_acting M.acts name.now self.now }
+        ensures cost { steps.new ≤ steps.old + 256 }
+    {
+        names_that_are_alike();
+        let key = Key::of(name);
+        match self.trie.best(key.as_slice(), steps) {
+            Some(found) => Some(Found {
+                pattern: PatternRef::new(found.key, found.wild),
+                value: found.value,
+            }),
+            None => None,
+        }
+    }
+}
