@@ -1,5 +1,5 @@
 -- An edit or a look-up of a trie of octets, as one of patterns.
-use Rattle.std.proofs.Common.{◌≡◌, ℕ, Bool, List, sym, ap, ◌∙◌, subst}
+use Rattle.std.proofs.Common.{◌≡◌, ℕ, Bool, Option, List, sym, ap, ◌∙◌, subst}
 use Rattle.std.specs.BTreeMap.{insert_entry, is_at}
 use Rattle.std.specs.Map.{lookup, remove_entry}
 use Rattle.dns_name.specs.Alike.{PlainPattern}
@@ -47,7 +47,7 @@ module _ {V : Type 0} where
       subst (λ es. IsWithout old es p) (sym same)
       (record { keys = keys_without p old trie.keys; ordered = sorted_removed key_order key_total (is_at (key_order (pattern_key p))) old trie.ordered }, ranked_without p old trie.ordered trie.keys)
 
-  pub found_pattern_at : (es : List (List ℕ × V)) (octets : List ℕ) (wild : Bool) (p : PlainPattern) → IsAsked octets wild p → IsNameTrie es
-      → lookup (is_at (key_order (entry_key octets wild))) es ≡ lookup (is_at (pattern_order p)) (ranked_patterns es)
-  found_pattern_at es octets wild p asked trie =
-      ap (λ k. lookup (is_at (key_order k)) es) (asked_key octets wild p asked) ∙ sym (found_at p es trie.keys)
+  pub found_pattern_at : (es : List (List ℕ × V)) (entries : List (PlainPattern × V)) (octets : List ℕ) (wild : Bool) (p : PlainPattern) (found : Option V) → IsAsked octets wild p → IsNameTrie es
+      → found ≡ lookup (is_at (key_order (entry_key octets wild))) es → ranked_patterns es ≡ entries → found ≡ lookup (is_at (pattern_order p)) entries
+  found_pattern_at es entries octets wild p found asked trie e view =
+      e ∙ ap (λ k. lookup (is_at (key_order k)) es) (asked_key octets wild p asked) ∙ sym (found_at p es trie.keys) ∙ ap (lookup (is_at (pattern_order p))) view

@@ -9,5 +9,6 @@ pub mod Last
 pub mod Longer
 pub mod Finding
 pub mod Edited
-pub mod Finds
+pub mod ByOctets
 pub mod Listed
+pub mod Written

@@ -1,5 +1,5 @@
 -- All entries, in another order.
-use Rattle.std.proofs.Common.{◌≡◌, ℕ, true, false, List, [], ◌∷◌, refl, sym, ap, ◌∙◌, is_eq}
+use Rattle.std.proofs.Common.{◌≡◌, ℕ, zero, suc, ◌+◌, ◌<◌, true, false, List, [], ◌∷◌, ◌++◌, map, reverse, length, take, slice_index_or, refl, sym, ap, ◌∙◌, subst, arith, append_assoc, is_eq}
 use Rattle.std.proofs.lemmas.Cmp.{lists_total, nat_list_cmp_total}
 use Rattle.std.proofs.lemmas.List.Sorted.{IsPermutation-cons, IsPermutation-insert, IsPermutation-refl, IsPermutation-sym, IsPermutation-trans}
 use Rattle.std.specs.BTreeMap.{insert_entry, is_at}
@@ -9,7 +9,6 @@ use Rattle.std.specs.List.{AllByRecursion}
 use Rattle.std.specs.List.Sorted.{IsPermutation, IsSortedBy, IsStrictlySortedBy}
 use Rattle.std.specs.Map.{keys_of}
 use Rattle.std.specs.Ordering.{is_lt, match_ordering}
-use Rattle.std.specs.Prelude.{map, reverse}
 use Rattle.std.specs.declared.cmp.Ordering.{Ordering}
 use Rattle.std.specs.declared.cmp.Ordering.TheVariants.{Less, Equal, Greater}
 use Rattle.dns_name.specs.Alike.{PlainPattern}
@@ -78,3 +77,37 @@ module _ {V : Type 0} where
     same = IsPermutation-trans (ranked_patterns es) (patterns es) listed (IsPermutation-sym (patterns es) (ranked_patterns es) (ranked_among es trie.keys trie.ordered)) moved;
     sorted = sorted;
   }
+
+-- ---- one entry more
+
+take_more : {X : Type 0} (xs : List X) (i : ℕ) (x : X) → i < length xs → x ≡ slice_index_or xs i x → take (i + 1) xs ≡ take i xs ++ x ∷ []
+take_more [] i x h e = absurd (omega (arith, h))
+take_more (y ∷ ys) zero x h e = ap (λ z. z ∷ []) (sym e)
+take_more (y ∷ ys) (suc i) x h e =
+    let more : suc i + 1 ≡ suc (i + 1) = omega arith in
+    ap (λ n. take n (y ∷ ys)) more ∙ ap (λ zs. y ∷ zs) (take_more ys i x (omega (arith, h)) e)
+
+module _ {X V : Type 0} (f : X → List ℕ × V) where
+  -- what is so of all is so of the one that comes
+  pub one_of_all : (P : List ℕ × V → Type 0) (xs : List X) (i : ℕ) (x : X) → i < length xs → x ≡ slice_index_or xs i x → AllByRecursion P (map f xs) → P (f x)
+  one_of_all P [] i x h e all = absurd (omega (arith, h))
+  one_of_all P (y ∷ ys) zero x h e all = subst (λ z. P (f z)) (sym e) all.0
+  one_of_all P (y ∷ ys) (suc i) x h e all = one_of_all P ys i x (omega (arith, h)) e all.1
+
+  patterns_push : (xs : List X) (x : X) → patterns (map f (xs ++ x ∷ [])) ≡ patterns (map f xs) ++ (pattern_in (f x).0, (f x).1) ∷ []
+  patterns_push [] x = refl
+  patterns_push (y ∷ xs) x = ap (λ zs. (pattern_in (f y).0, (f y).1) ∷ zs) (patterns_push xs x)
+
+  pub one_more : (old now new : List (PlainPattern × V)) (xs : List X) (i : ℕ) (x : X) (p : PlainPattern) → i < length xs → x ≡ slice_index_or xs i x
+      → now ≡ old ++ patterns (map f (take i xs)) → new ≡ now ++ (p, (f x).1) ∷ [] → p ≡ pattern_in (f x).0 → new ≡ old ++ patterns (map f (take (i + 1) xs))
+  one_more old now new xs i x p h e before pushed same =
+      pushed
+      ∙ ap (λ (es : List (PlainPattern × V)). es ++ (p, (f x).1) ∷ []) before
+      ∙ append_assoc old (patterns (map f (take i xs))) ((p, (f x).1) ∷ [])
+      ∙ ap (λ (q : PlainPattern). old ++ (patterns (map f (take i xs)) ++ (q, (f x).1) ∷ [])) same
+      ∙ ap (λ es. old ++ es) (sym (patterns_push (take i xs) x))
+      ∙ ap (λ ys. old ++ patterns (map f ys)) (sym (take_more xs i x h e))
+
+  -- all of them, behind none
+  pub all_put : (es : List (List ℕ × V)) (none all : List (PlainPattern × V)) (xs : List X) → map f xs ≡ es → none ≡ [] → all ≡ none ++ patterns (map f xs) → all ≡ patterns es
+  all_put es none all xs same first put = put ∙ (λ i. first i ++ patterns (same i))

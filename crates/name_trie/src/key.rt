@@ -1,8 +1,9 @@
 //! The octets by which a name stands in a trie.
 
 ghost use Rattle.std.specs.Prelude.{◌≡◌, ◌+◌, ◌≤◌, ◌++◌, length};
-ghost use Rattle.dns_name.specs.Labels.{label_octets};
+ghost use Rattle.dns_name.specs.Labels.{IsName, label_octets, name_octets};
 ghost use Rattle.name_trie.specs.Key.{name_key};
+ghost use Rattle.name_trie.specs.Patterns.{name_in};
 
 use dns_name::Name;
 use std::marker::Model;
@@ -44,6 +45,25 @@ impl Key {
             key.put_before(label);
         }
         key
+    }
+
+    // The name of which the octets are the key, as it is written. It takes no memory.
+    pub(crate) fn written(octets: &[u8]) -> Key
+        requires name { IsName (name_in octets.now) }
+        requires key { octets.now ≡ name_key (name_in octets.now) }
+        ensures { result ≡ name_octets (name_in octets.now) }
+    {
+        let mut written = Key {
+            octets: [0; ROOM],
+            start: ROOM - 1,
+        };
+        let mut rest = octets;
+        while let Some((len, others)) = rest.split_first() {
+            let (label, behind) = others.split_at(usize::from(*len));
+            written.put_before(label);
+            rest = behind;
+        }
+        written
     }
 
     // Puts a label behind its length in front.

@@ -2,6 +2,7 @@
 #![tactic(auto)]
 
 mod key;
+mod listing;
 mod map;
 mod pattern_ref;
 

@@ -7,9 +7,11 @@ ghost use Rattle.std.specs.Option.{option_map};
 ghost use Rattle.dns_name.specs.Labels.{lowered};
 ghost use Rattle.qname_index.specs.Best.{pattern_order};
 ghost use Rattle.name_trie.specs.Found.{found_pattern};
+ghost use Rattle.name_trie.specs.Listing.{AreListed};
 ghost use Rattle.name_trie.specs.Trie.{best_acting};
 
 use crate::key::Key;
+use crate::listing::{listing_cmp, push_entries};
 use crate::pattern_ref::PatternRef;
 use dns_name::laws::names_that_are_alike;
 use dns_name::{Name, Pattern};
@@ -138,5 +140,17 @@ impl<N: Copy + Drop, M: Mark> NameTrie<N, M> {
             }),
             None => None,
         }
+    }
+
+    /// All entries in the canonical order of their bases (RFC 4034, section 6.1), an exact pattern before the wild one of the same
+    /// base.
+    pub fn entries(&self, alloc: Global) -> Result<Vec<(Pattern, Marked<N, M>)>, AllocError>
+        ensures { IfOk result (λ entries. AreListed self.now entries.items) }
+    {
+        let found = self.trie.entries()?;
+        let mut entries = Vec::new(alloc);
+        push_entries(alloc, &found, &mut entries)?;
+        entries.sort_by(|a, b| listing_cmp(&a.0, &b.0))?;
+        Ok(entries)
     }
 }

@@ -1,6 +1,6 @@
 use Rattle.std.proofs.Common.{◌∙◌}
 use Rattle.octet_trie.specs.ListKeys.{entry_key}
-use Rattle.name_trie.proofs.Finds.{found_key, none_found, some_found}
+use Rattle.name_trie.proofs.ByOctets.{found_key, none_found, some_found}
 use Rattle.name_trie.proofs.map.NameTrie.best.Goals as goal
 
 pub new-requires : goal.new-requires
