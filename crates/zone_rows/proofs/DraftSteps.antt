@@ -1,10 +1,9 @@
 -- The rows of a zone, step by step.
-use Rattle.std.proofs.Common.{◌≡◌, ℕ, suc, ◌+◌, ◌<◌, ◌≤◌, Bool, true, false, if◌then◌else◌, List, [], ◌∷◌, ◌++◌, length, take, drop, get_or, Option, Some, None, Result, Ok, Err, refl, sym, ap, ◌∙◌, subst, arith, nat_lt, length-append, append_assoc}
+use Rattle.std.proofs.Common.{◌≡◌, ℕ, suc, ◌+◌, ◌<◌, ◌≤◌, Bool, true, false, if◌then◌else◌, List, [], ◌∷◌, ◌++◌, length, drop, get_or, slice_get, Option, Some, None, Result, Ok, Err, refl, sym, ap, ◌∙◌, subst, arith, nat_lt, length-append, append_assoc}
 use Rattle.std.specs.Prelude.{All, IfSome}
 use Rattle.std.specs.Option.{is_some, option_map}
-use Rattle.std.proofs.Math.Seq.{drop-cons}
 use Rattle.std.proofs.lemmas.Bool.{ltb-true, ltb-false}
-use Rattle.std.proofs.lemmas.List.{append-nil, take_more}
+use Rattle.std.proofs.lemmas.List.{append-nil}
 use Rattle.dns_name.specs.Reading.{◌>>=◌}
 use Rattle.dns_record.specs.declared.soa.Soa.{Soa}
 use Rattle.dns_record.specs.Row.{PlainRow, identity}
@@ -21,10 +20,8 @@ use Rattle.zone_rows.specs.Marks.{Kept, mark_of, IsUpdated, IsNamed, AreNamed, I
 use Rattle.zone_rows.specs.Repeats.{has_row}
 use Rattle.zone_rows.specs.Steps.{without_row, without_deleted, with_added, after_steps}
 use Rattle.zone_rows.specs.Zone.{Fails}
+use Rattle.zone_rows.proofs.Places.{drop_item}
 use Rattle.zone_rows.proofs.LiveRows.{has_none, has_some, HasAdded, has_added, count_le}
-
-pub drop_next : {X : Type 0} (xs : List X) (i : ℕ) (d : X) → i < length xs → drop i xs ≡ get_or xs i d ∷ drop (i + 1) xs
-drop_next xs i d h = let e : suc i ≡ i + 1 = omega arith in drop-cons xs i d h ∙ ap (λ (k : ℕ). get_or xs i d ∷ drop k xs) e
 
 -- one row
 pub deleted_ok : (step number n : ℕ) (rows : List PlainRow) (row : PlainRow) → n ≡ count_key (identity row) rows → 0 < n → one_deleted step number rows row ≡ Ok (without_row rows row)
@@ -182,15 +179,29 @@ kept_by : (f : Kept) (place : ℕ) (rows rest whole : List PlainRow) (row : Plai
     → rows ++ (if b then live_from f (place + 1) rest else row ∷ live_from f (place + 1) rest) ≡ whole
 kept_by f place rows rest whole row b t e = ap (λ (b : Bool). rows ++ (if b then live_from f (place + 1) rest else row ∷ live_from f (place + 1) rest)) (sym t) ∙ e
 
-pub keeps_row : (f : Kept) (place cut : ℕ) (rows rest whole : List PlainRow) (row : PlainRow) → KeepsOn f place rows (row ∷ rest) whole → cut ≡ cut_of f row → cut ≤ place → KeepsOn f (place + 1) (rows ++ row ∷ []) rest whole
+keeps_row : (f : Kept) (place cut : ℕ) (rows rest whole : List PlainRow) (row : PlainRow) → KeepsOn f place rows (row ∷ rest) whole → cut ≡ cut_of f row → cut ≤ place → KeepsOn f (place + 1) (rows ++ row ∷ []) rest whole
 keeps_row f place cut rows rest whole row k e h =
     let t : nat_lt place (cut_of f row) ≡ false = full_test place (cut_of f row) (omega (arith, e, h)) in
     record { rows_are = rw append_assoc (kept_by f place rows rest whole row false t k.rows_are) }
 
-pub leaves_row : (f : Kept) (place cut : ℕ) (rows rest whole : List PlainRow) (row : PlainRow) → KeepsOn f place rows (row ∷ rest) whole → cut ≡ cut_of f row → place < cut → KeepsOn f (place + 1) rows rest whole
+leaves_row : (f : Kept) (place cut : ℕ) (rows rest whole : List PlainRow) (row : PlainRow) → KeepsOn f place rows (row ∷ rest) whole → cut ≡ cut_of f row → place < cut → KeepsOn f (place + 1) rows rest whole
 leaves_row f place cut rows rest whole row k e h =
     let t : nat_lt place (cut_of f row) ≡ true = fits_test place (cut_of f row) (omega (arith, e, h)) in
     record { rows_are = kept_by f place rows rest whole row true t k.rows_are }
+
+pub keeps_at : (f : Kept) (before place cut : ℕ) (rows slots whole : List PlainRow) (row : PlainRow) → KeepsOn f (before + place) rows (drop place slots) whole → slice_get slots place ≡ Some row → cut ≡ cut_of f row → cut ≤ before + place
+    → KeepsOn f (before + (place + 1)) (rows ++ row ∷ []) (drop (place + 1) slots) whole
+keeps_at f before place cut rows slots whole row k e is h =
+    let more : (before + place) + 1 ≡ before + (place + 1) = omega arith in
+    subst (λ (n : ℕ). KeepsOn f n (rows ++ row ∷ []) (drop (place + 1) slots) whole) more
+    (keeps_row f (before + place) cut rows (drop (place + 1) slots) whole row (subst (λ (r : List PlainRow). KeepsOn f (before + place) rows r whole) (drop_item slots place row e) k) is h)
+
+pub leaves_at : (f : Kept) (before place cut : ℕ) (rows slots whole : List PlainRow) (row : PlainRow) → KeepsOn f (before + place) rows (drop place slots) whole → slice_get slots place ≡ Some row → cut ≡ cut_of f row → before + place < cut
+    → KeepsOn f (before + (place + 1)) rows (drop (place + 1) slots) whole
+leaves_at f before place cut rows slots whole row k e is h =
+    let more : (before + place) + 1 ≡ before + (place + 1) = omega arith in
+    subst (λ (n : ℕ). KeepsOn f n rows (drop (place + 1) slots) whole) more
+    (leaves_row f (before + place) cut rows (drop (place + 1) slots) whole row (subst (λ (r : List PlainRow). KeepsOn f (before + place) rows r whole) (drop_item slots place row e) k) is h)
 
 pub keeps_all : (f : Kept) (place : ℕ) (rows rest whole : List PlainRow) → KeepsOn f place rows rest whole → rest ≡ [] → rows ≡ whole
 keeps_all f place rows rest whole k e = sym (append-nil rows) ∙ ap (λ (r : List PlainRow). rows ++ live_from f place r) (sym e) ∙ k.rows_are
@@ -243,9 +254,3 @@ steps_end base now whole bound number soa rows rest g e r =
 
 pub first_step_named : (f : Kept) (step : Step) (rest : List Step) → All (IsStepNamed f) (step ∷ rest) → IsStepNamed f step
 first_step_named f step rest named = named 0 step (omega arith)
-
-pub drop_item : {X : Type 0} (xs : List X) (i : ℕ) (x : X) → i < length xs → x ≡ get_or xs i x → drop i xs ≡ x ∷ drop (i + 1) xs
-drop_item xs i x h is = drop_next xs i x h ∙ ap (λ y. y ∷ drop (i + 1) xs) (sym is)
-
-pub take_item : {X : Type 0} (xs : List X) (i : ℕ) (x : X) → i < length xs → x ≡ get_or xs i x → take (i + 1) xs ≡ take i xs ++ x ∷ []
-take_item xs i x h is = take_more xs i x h ∙ ap (λ y. take i xs ++ y ∷ []) (sym is)

@@ -1,3 +1,5 @@
+pub mod Places
+pub mod StoredRows
 pub mod Keys
 pub mod Repeats
 pub mod Firsts

@@ -1,5 +1,5 @@
 -- What a zone holds, and a zone that holds nothing yet.
-use Rattle.std.specs.Prelude.{ℕ, List, length, Option, Some, None}
+use Rattle.std.specs.Prelude.{ℕ, length, Option, Some, None}
 use Rattle.dns_name.specs.Labels.{Name}
 use Rattle.zone_rows.specs.declared.zone.Content.{Content}
 use Rattle.zone_rows.specs.declared.zone.PlainZone.{PlainZone}

@@ -13,7 +13,7 @@ use Rattle.zone_rows.specs.Zone.{Fails}
 
 -- the rows that the zone had, and those that were put in
 abbrev pub slots_of : List PlainRow → Draft → List PlainRow
-slots_of base draft = base ++ draft.added.items
+slots_of base draft = base ++ draft.added
 
 -- the rows without those that were taken out
 abbrev pub rows_of : List PlainRow → Draft → List PlainRow

@@ -1,3 +1,4 @@
+pub mod Stored
 pub mod KeySet
 pub mod Repeats
 pub mod Zone

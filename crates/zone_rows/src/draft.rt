@@ -10,10 +10,10 @@ ghost use Rattle.zone_rows.specs.Steps.{without_deleted, with_added};
 
 use crate::fault::{ApplyError, ApplyFault};
 use crate::marks::{Mark, Marks};
+use crate::row_ref::RowRef;
 use crate::rows::Rows;
 use crate::steps::Step;
 use dns_name::Octets;
-use dns_record::Row;
 use std::alloc::{AllocError, Global};
 
 /// The rows of a zone while steps are applied to it: those that it had, and behind them those that were put in. None is moved
@@ -23,14 +23,14 @@ use std::alloc::{AllocError, Global};
 pub(crate) struct Draft {
     // of the identities that the steps name
     marks: Marks,
-    added: Vec<Row>,
+    added: Rows,
     // how many rows are left
     live: usize,
 }
 
 impl Draft {
     /// The rows as the zone has them, with marks of the rows that the steps name.
-    pub(crate) fn new(alloc: Global, base: &[Row], steps: &[Step]) -> Result<Self, AllocError>
+    pub(crate) fn new(alloc: Global, base: &Rows, steps: &[Step]) -> Result<Self, AllocError>
         ensures draft { IfOk result (IsDraft base.now) }
         ensures rows { IfOk result (λ draft. rows_of base.now draft ≡ base.now) }
         ensures named { IfOk result (λ draft. All (IsStepNamed (mark_of draft.marks)) steps.now) }
@@ -39,7 +39,7 @@ impl Draft {
         count_rows(alloc, &mut marks, base)?;
         Ok(Draft {
             marks,
-            added: Vec::new(alloc),
+            added: Rows::new(alloc),
             live: base.len(),
         })
     }
@@ -48,10 +48,10 @@ impl Draft {
     fn delete(
         &mut self,
         alloc: Global,
-        base: &[Row],
+        base: &Rows,
         step: usize,
         place: usize,
-        row: &Row,
+        row: &RowRef<'_>,
     ) -> Result<(), ApplyError>
         requires draft { IsDraft base.now self.old }
         requires named { IsNamed (mark_of self.old.marks) (identity row.now) }
@@ -77,16 +77,16 @@ impl Draft {
     fn add(
         &mut self,
         alloc: Global,
-        base: &[Row],
+        base: &Rows,
         bound: u32,
         step: usize,
         place: usize,
-        row: Row,
+        row: &RowRef<'_>,
     ) -> Result<(), ApplyError>
         requires draft { IsDraft base.now self.old }
-        requires named { IsNamed (mark_of self.old.marks) (identity row) }
+        requires named { IsNamed (mark_of self.old.marks) (identity row.now) }
         ensures { Leaves result base.now self.old self.new
-            (one_added bound (step + 1) (place + 1) (rows_of base.now self.old) row) }
+            (one_added bound (step + 1) (place + 1) (rows_of base.now self.old) row.now) }
     {
         let key = row.identity(alloc)?;
         match self.marks.get(key.as_slice()) {
@@ -101,7 +101,7 @@ impl Draft {
                         cut: mark.cut,
                     },
                 )?;
-                self.added.push(row)?;
+                self.added.push_ref(row)?;
                 self.live += 1;
                 Ok(())
             }
@@ -116,17 +116,17 @@ impl Draft {
     fn delete_all(
         &mut self,
         alloc: Global,
-        base: &[Row],
+        base: &Rows,
         step: usize,
-        rows: &[Row],
+        rows: &Rows,
     ) -> Result<(), ApplyError>
         requires draft { IsDraft base.now self.old }
         requires named { AreNamed (mark_of self.old.marks) rows.now }
         ensures { Leaves result base.now self.old self.new
             (without_deleted (step + 1) 1 (rows_of base.now self.old) rows.now) }
     {
-        for (place, row) in rows.iter().enumerate() {
-            self.delete(alloc, base, step, place, row)?;
+        for place in 0..rows.len() {
+            self.delete(alloc, base, step, place, &rows.at(place))?;
         }
         Ok(())
     }
@@ -135,20 +135,18 @@ impl Draft {
     fn add_all(
         &mut self,
         alloc: Global,
-        base: &[Row],
+        base: &Rows,
         bound: u32,
         step: usize,
-        rows: Vec<Row>,
+        rows: &Rows,
     ) -> Result<(), ApplyError>
         requires draft { IsDraft base.now self.old }
-        requires named { AreNamed (mark_of self.old.marks) rows.items }
+        requires named { AreNamed (mark_of self.old.marks) rows.now }
         ensures { Leaves result base.now self.old self.new
-            (with_added bound (step + 1) 1 (rows_of base.now self.old) rows.items) }
+            (with_added bound (step + 1) 1 (rows_of base.now self.old) rows.now) }
     {
-        let mut place = 0;
-        for row in rows {
-            self.add(alloc, base, bound, step, place, row)?;
-            place += 1;
+        for place in 0..rows.len() {
+            self.add(alloc, base, bound, step, place, &rows.at(place))?;
         }
         Ok(())
     }
@@ -157,7 +155,7 @@ impl Draft {
     pub(crate) fn apply(
         &mut self,
         alloc: Global,
-        base: &[Row],
+        base: &Rows,
         bound: u32,
         step: usize,
         deleted: Rows,
@@ -169,12 +167,12 @@ impl Draft {
         ensures { Leaves result base.now self.old self.new
             (step_outcome bound (step + 1) (rows_of base.now self.old) deleted added) }
     {
-        self.delete_all(alloc, base, step, deleted.as_slice())?;
-        self.add_all(alloc, base, bound, step, added.into_vec())
+        self.delete_all(alloc, base, step, &deleted)?;
+        self.add_all(alloc, base, bound, step, &added)
     }
 
     /// The rows that were not taken out.
-    pub(crate) fn into_rows(self, alloc: Global, base: &[Row]) -> Result<Rows, AllocError>
+    pub(crate) fn into_rows(self, alloc: Global, base: &Rows) -> Result<Rows, AllocError>
         ensures { IfOk result (λ rows. rows ≡ rows_of base.now self) }
     {
         let Draft {
@@ -183,8 +181,8 @@ impl Draft {
             live: _,
         } = self;
         let mut rows = Rows::new(alloc);
-        keep_copies(alloc, &marks, base, &mut rows)?;
-        keep_added(alloc, &marks, base.len(), added, &mut rows)?;
+        keep(alloc, &marks, 0, base, &mut rows)?;
+        keep(alloc, &marks, base.len(), &added, &mut rows)?;
         Ok(rows)
     }
 }
@@ -202,7 +200,7 @@ fn number(before: usize) -> Result<u32, ApplyError>
 }
 
 // Gives the identity of the row a mark.
-fn name_row(alloc: Global, marks: &mut Marks, row: &Row) -> Result<(), AllocError>
+fn name_row(alloc: Global, marks: &mut Marks, row: &RowRef<'_>) -> Result<(), AllocError>
     ensures { OnOk result (IsUpdated (mark_of marks.old) (identity row.now)
         (Some (record { count = 0; cut = 0 })) (mark_of marks.new)) }
 {
@@ -211,11 +209,11 @@ fn name_row(alloc: Global, marks: &mut Marks, row: &Row) -> Result<(), AllocErro
 }
 
 // Gives the identities of the rows marks.
-fn name_rows(alloc: Global, marks: &mut Marks, rows: &[Row]) -> Result<(), AllocError>
+fn name_rows(alloc: Global, marks: &mut Marks, rows: &Rows) -> Result<(), AllocError>
     ensures { OnOk result (HasNamed (mark_of marks.old) (mark_of marks.new) rows.now) }
 {
-    for row in rows {
-        name_row(alloc, marks, row)?;
+    for place in 0..rows.len() {
+        name_row(alloc, marks, &rows.at(place))?;
     }
     Ok(())
 }
@@ -227,14 +225,14 @@ fn named(alloc: Global, steps: &[Step]) -> Result<Marks, AllocError>
 {
     let mut marks = Marks::new(alloc);
     for step in steps {
-        name_rows(alloc, &mut marks, step.deleted.as_slice())?;
-        name_rows(alloc, &mut marks, step.added.as_slice())?;
+        name_rows(alloc, &mut marks, &step.deleted)?;
+        name_rows(alloc, &mut marks, &step.added)?;
     }
     Ok(marks)
 }
 
 // Writes the identity of the row in place of what the key was. One buffer for many rows takes few allocations.
-fn write_key(row: &Row, key: &mut Octets) -> Result<(), AllocError>
+fn write_key(row: &RowRef<'_>, key: &mut Octets) -> Result<(), AllocError>
     ensures { OnOk result (key.new ≡ identity row.now) }
 {
     key.clear();
@@ -246,7 +244,7 @@ fn count_row(
     alloc: Global,
     marks: &mut Marks,
     key: &mut Octets,
-    row: &Row,
+    row: &RowRef<'_>,
 ) -> Result<(), AllocError>
     requires { IfSome (mark_of marks.old (identity row.now)) (λ mark. mark.count < 2 ^ 64 - 1) }
     ensures { OnOk result (IsUpdated (mark_of marks.old) (identity row.now)
@@ -266,21 +264,21 @@ fn count_row(
 }
 
 // Counts the rows whose identities have marks.
-fn count_rows(alloc: Global, marks: &mut Marks, base: &[Row]) -> Result<(), AllocError>
+fn count_rows(alloc: Global, marks: &mut Marks, base: &Rows) -> Result<(), AllocError>
     requires { AreFresh (mark_of marks.old) }
     ensures marks { OnOk result (AreMarks (mark_of marks.new) base.now (length base.now)) }
     ensures rows { OnOk result (live_from (mark_of marks.new) 0 base.now ≡ base.now) }
     ensures names { OnOk result (SameNames (mark_of marks.old) (mark_of marks.new)) }
 {
     let mut key = Octets::new(alloc);
-    for row in base {
-        count_row(alloc, marks, &mut key, row)?;
+    for place in 0..base.len() {
+        count_row(alloc, marks, &mut key, &base.at(place))?;
     }
     Ok(())
 }
 
 // Up to which place the rows of this one's identity were taken out.
-fn cut(marks: &Marks, key: &mut Octets, row: &Row) -> Result<usize, AllocError>
+fn cut(marks: &Marks, key: &mut Octets, row: &RowRef<'_>) -> Result<usize, AllocError>
     ensures { IfOk result (λ cut. cut ≡ cut_of (mark_of marks.now) row.now) }
 {
     write_key(row, key)?;
@@ -290,43 +288,24 @@ fn cut(marks: &Marks, key: &mut Octets, row: &Row) -> Result<usize, AllocError>
     }
 }
 
-// Copies the rows that the zone had, without those that were taken out.
-fn keep_copies(
-    alloc: Global,
-    marks: &Marks,
-    base: &[Row],
-    rows: &mut Rows,
-) -> Result<(), AllocError>
-    ensures { OnOk result (rows.new ≡ rows.old ++ live_from (mark_of marks.now) 0 base.now) }
-{
-    let mut key = Octets::new(alloc);
-    for (place, row) in base.iter().enumerate() {
-        if place >= cut(marks, &mut key, row)? {
-            rows.push(row.clone()?)?;
-        }
-    }
-    Ok(())
-}
-
-// Keeps the rows that were put in behind so many, without those that were taken out.
-fn keep_added(
+// Copies the rows, of which so many others stand before, without those that were taken out.
+fn keep(
     alloc: Global,
     marks: &Marks,
     before: usize,
-    added: Vec<Row>,
+    slots: &Rows,
     rows: &mut Rows,
 ) -> Result<(), AllocError>
-    requires { before < 2 ^ 63 }
+    requires { before < 2 ^ 32 }
     ensures { OnOk result
-        (rows.new ≡ rows.old ++ live_from (mark_of marks.now) before added.items) }
+        (rows.new ≡ rows.old ++ live_from (mark_of marks.now) before slots.now) }
 {
     let mut key = Octets::new(alloc);
-    let mut place = before;
-    for row in added {
-        if place >= cut(marks, &mut key, &row)? {
-            rows.push(row)?;
+    for place in 0..slots.len() {
+        let row = slots.at(place);
+        if before + place >= cut(marks, &mut key, &row)? {
+            rows.push_ref(&row)?;
         }
-        place += 1;
     }
     Ok(())
 }

@@ -6,6 +6,7 @@ mod fault;
 mod key_set;
 pub mod laws;
 mod marks;
+mod row_ref;
 mod rows;
 mod stepping;
 mod steps;
@@ -14,6 +15,7 @@ mod zone;
 
 pub use fault::{ApplyError, ApplyFault};
 pub use key_set::KeySet;
+pub use row_ref::RowRef;
 pub use rows::Rows;
 pub use steps::{Step, Steps};
 pub use transfer::Transfer;

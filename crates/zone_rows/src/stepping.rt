@@ -57,7 +57,7 @@ fn applied(
 ) -> Result<Content, ApplyError>
     ensures { Gives result (after_steps bound 1 content.now.soa content.now.rows steps.items) }
 {
-    let base = content.rows.as_slice();
+    let base = &content.rows;
     let mut draft = Draft::new(alloc, base, steps.as_slice())?;
     let mut soa = content.soa.clone()?;
     let mut before = 0;

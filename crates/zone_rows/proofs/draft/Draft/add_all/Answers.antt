@@ -1,28 +1,34 @@
-use Rattle.std.proofs.Common.{◌+◌, List, length, sym, ap, subst, arith}
+use Rattle.std.proofs.Common.{◌+◌, List, drop, subst}
+use Rattle.std.proofs.lemmas.Result.{err_from_is_err_and}
 use Rattle.dns_record.specs.Row.{PlainRow}
 use Rattle.zone_rows.specs.Drafts.{rows_of}
+use Rattle.zone_rows.specs.Marks.{mark_of, AreNamed}
 use Rattle.zone_rows.specs.Steps.{with_added}
-use Rattle.zone_rows.proofs.DraftSteps.{GoesOn, begins, adds_next}
+use Rattle.zone_rows.proofs.DraftSteps.{GoesOn, adds_next, adds_fails, first_named}
+use Rattle.zone_rows.proofs.Places.{drop_item}
 use Rattle.zone_rows.proofs.draft.Draft.add_all.Goals as goal
 
-pub loop-row-init : goal.loop-row-init
-loop-row-init c =
-    let e = c.into_iter-row-iterator.ensures.into_iter_gives.0 in
-    record {
-      goes = subst (λ (r : List PlainRow). GoesOn c.args.base.now c.args.self.now c.args.self.now (with_added c.args.bound (c.args.step + 1) 1 (rows_of c.args.base.now c.args.self.now) c.args.rows.items)
-          (with_added c.args.bound (c.args.step + 1) 1 (rows_of c.args.base.now c.args.self.now) r) r) (sym e)
-          (begins c.args.base.now c.args.self.now (with_added c.args.bound (c.args.step + 1) 1 (rows_of c.args.base.now c.args.self.now) c.args.rows.items) c.args.rows.items c.requires.draft c.requires.named);
-      count = omega (arith, ap length e);
-    }
+pub add-requires-clause-named : goal.add-requires-clause-named
+add-requires-clause-named c =
+    let e = drop_item c.args.rows.now c.loop-place.place c.at.result c.at.ensures.row in
+    first_named (mark_of c.loop-place.self.marks) c.at.result (drop (c.loop-place.place + 1) c.args.rows.now) (subst (λ (r : List PlainRow). AreNamed (mark_of c.loop-place.self.marks) r) e c.loop-place.invariant.named)
 
-pub loop-row-preserved : goal.loop-row-preserved
-loop-row-preserved c =
-    let e = c.in-Some.ensures.steps.0 in
-    record {
-      goes = adds_next c.args.base.now c.args.self.now c.loop-row.self c.add.new.self (with_added c.args.bound (c.args.step + 1) 1 (rows_of c.args.base.now c.args.self.now) c.args.rows.items)
-          c.args.bound (c.args.step + 1) (c.loop-row.place + 1) c.in-Some.row c.next.new.self.rest.items
-          (subst (λ (r : List PlainRow). GoesOn c.args.base.now c.args.self.now c.loop-row.self (with_added c.args.bound (c.args.step + 1) 1 (rows_of c.args.base.now c.args.self.now) c.args.rows.items)
-          (with_added c.args.bound (c.args.step + 1) (c.loop-row.place + 1) (rows_of c.args.base.now c.loop-row.self) r) r) e c.loop-row.invariant.goes)
-          c.in_ok-add.ensures;
-      count = omega (arith, ap length e, c.loop-row.invariant.count);
-    }
+pub loop-place-preserved : goal.loop-place-preserved
+loop-place-preserved c =
+    let e = drop_item c.args.rows.now c.loop-place.place c.at.result c.at.ensures.row in
+    adds_next c.args.base.now c.args.self.now c.loop-place.self c.add.new.self (with_added c.args.bound (c.args.step + 1) 1 (rows_of c.args.base.now c.args.self.now) c.args.rows.now)
+    c.args.bound (c.args.step + 1) (c.loop-place.place + 1) c.at.result (drop (c.loop-place.place + 1) c.args.rows.now)
+    (subst (λ (r : List PlainRow). GoesOn c.args.base.now c.args.self.now c.loop-place.self (with_added c.args.bound (c.args.step + 1) 1 (rows_of c.args.base.now c.args.self.now) c.args.rows.now)
+    (with_added c.args.bound (c.args.step + 1) (c.loop-place.place + 1) (rows_of c.args.base.now c.loop-place.self) r) r) e c.loop-place.invariant)
+    c.in_ok-add.ensures
+
+pub returns-in_err-add : goal.returns-in_err-add
+returns-in_err-add c =
+    let e = drop_item c.args.rows.now c.loop-place.place c.at.result c.at.ensures.row in
+    let p = err_from_is_err_and c.from_residual.result c.from_residual.ensures.1 in
+    rw (p.1, p.2)
+    (adds_fails c.args.base.now c.args.self.now c.loop-place.self (with_added c.args.bound (c.args.step + 1) 1 (rows_of c.args.base.now c.args.self.now) c.args.rows.now)
+    c.args.bound (c.args.step + 1) (c.loop-place.place + 1) c.at.result (drop (c.loop-place.place + 1) c.args.rows.now) c.in_err-add.field-0.0
+    (subst (λ (r : List PlainRow). GoesOn c.args.base.now c.args.self.now c.loop-place.self (with_added c.args.bound (c.args.step + 1) 1 (rows_of c.args.base.now c.args.self.now) c.args.rows.now)
+    (with_added c.args.bound (c.args.step + 1) (c.loop-place.place + 1) (rows_of c.args.base.now c.loop-place.self) r) r) e c.loop-place.invariant)
+    c.in_err-add.ensures)

@@ -1,4 +1,4 @@
-use Rattle.std.proofs.Common.{◌≡◌, ℕ, ◌+◌, ◌-◌, List, length, Some, Ok, Err, sym, ap, ◌∙◌, subst, arith, length-append}
+use Rattle.std.proofs.Common.{◌≡◌, ℕ, ◌+◌, ◌-◌, List, Some, Ok, Err, sym, ap, ◌∙◌, subst, arith, length-append}
 use Rattle.dns_record.specs.Row.{identity}
 use Rattle.zone_rows.specs.declared.fault.ApplyFault.TheVariants.{DeleteAbsent}
 use Rattle.zone_rows.specs.declared.marks.Mark.{Mark}
@@ -19,14 +19,14 @@ pub returns-in_ok-put-in-Some : goal.returns-in_ok-put-in-Some
 returns-in_ok-put-in-Some c =
     let here : mark_of c.args.self.now.marks (identity c.args.row.now) ≡ Some c.in-Some.mark = sym (c.in-Some.ensures ∙ ap (mark_of c.args.self.now.marks) (c.as_slice.ensures.value ∙ c.in_ok-key.ensures)) in
     let count : c.in-Some.mark.count ≡ count_key (identity c.args.row.now) (rows_of c.args.base.now c.args.self.now) = c.requires.draft.counts (identity c.args.row.now) c.in-Some.mark here in
-    let bound : ℕ = length c.args.base.now + c.len.result in
+    let bound : ℕ = c.len.result + c.len-in-Some.result in
     let new : Mark = record { count = 0; cut = bound } in
     let u : IsUpdated (mark_of c.args.self.now.marks) (identity c.args.row.now) (Some new) (mark_of c.put.new.self) =
     subst (λ (k : List ℕ). IsUpdated (mark_of c.args.self.now.marks) k (Some new) (mark_of c.put.new.self)) c.in_ok-key.ensures c.in_ok-put-in-Some.ensures.ok in
     let left : ℕ = c.args.self.now.live - c.in-Some.mark.count in
     let h : HasDeleted (mark_of c.args.self.now.marks) (mark_of c.put.new.self) (slots_of c.args.base.now c.args.self.now) left (identity c.args.row.now) =
     has_deleted (mark_of c.args.self.now.marks) (mark_of c.put.new.self) (slots_of c.args.base.now c.args.self.now) c.args.self.now.live (identity c.args.row.now) c.in-Some.mark bound left c.requires.draft here
-    (omega (arith, length-append c.args.base.now c.args.self.now.added.items, c.len.ensures, c.args.self.now.added.ok))
+    (omega (arith, length-append c.args.base.now c.args.self.now.added, c.len.ensures.len, c.len-in-Some.ensures.len))
     u
     (omega (arith, count, count_le (identity c.args.row.now) (rows_of c.args.base.now c.args.self.now), c.requires.draft.count)) in
     record {

@@ -1,15 +1,34 @@
-use Rattle.std.proofs.Common.{◌≡◌, ◌+◌, List, ◌∷◌, drop, subst}
+use Rattle.std.proofs.Common.{◌+◌, List, drop, subst}
+use Rattle.std.proofs.lemmas.Result.{err_from_is_err_and}
 use Rattle.dns_record.specs.Row.{PlainRow}
 use Rattle.zone_rows.specs.Drafts.{rows_of}
+use Rattle.zone_rows.specs.Marks.{mark_of, AreNamed}
 use Rattle.zone_rows.specs.Steps.{without_deleted}
-use Rattle.zone_rows.proofs.DraftSteps.{GoesOn, deletes_next, drop_item}
+use Rattle.zone_rows.proofs.DraftSteps.{GoesOn, deletes_next, deletes_fails, first_named}
+use Rattle.zone_rows.proofs.Places.{drop_item}
 use Rattle.zone_rows.proofs.draft.Draft.delete_all.Goals as goal
+
+pub delete-requires-clause-named : goal.delete-requires-clause-named
+delete-requires-clause-named c =
+    let e = drop_item c.args.rows.now c.loop-place.place c.at.result c.at.ensures.row in
+    first_named (mark_of c.loop-place.self.marks) c.at.result (drop (c.loop-place.place + 1) c.args.rows.now) (subst (λ (r : List PlainRow). AreNamed (mark_of c.loop-place.self.marks) r) e c.loop-place.invariant.named)
 
 pub loop-place-preserved : goal.loop-place-preserved
 loop-place-preserved c =
-    let e : drop c.loop-place.place c.args.rows.now ≡ c.index-rows-place.result ∷ drop (c.loop-place.place + 1) c.args.rows.now = drop_item c.args.rows.now c.loop-place.place c.index-rows-place.result c.loop-place-test.true c.index-rows-place.is in
+    let e = drop_item c.args.rows.now c.loop-place.place c.at.result c.at.ensures.row in
     deletes_next c.args.base.now c.args.self.now c.loop-place.self c.delete.new.self (without_deleted (c.args.step + 1) 1 (rows_of c.args.base.now c.args.self.now) c.args.rows.now)
-    (c.args.step + 1) (c.loop-place.place + 1) c.index-rows-place.result (drop (c.loop-place.place + 1) c.args.rows.now)
+    (c.args.step + 1) (c.loop-place.place + 1) c.at.result (drop (c.loop-place.place + 1) c.args.rows.now)
     (subst (λ (r : List PlainRow). GoesOn c.args.base.now c.args.self.now c.loop-place.self (without_deleted (c.args.step + 1) 1 (rows_of c.args.base.now c.args.self.now) c.args.rows.now)
     (without_deleted (c.args.step + 1) (c.loop-place.place + 1) (rows_of c.args.base.now c.loop-place.self) r) r) e c.loop-place.invariant)
     c.in_ok-delete.ensures
+
+pub returns-in_err-delete : goal.returns-in_err-delete
+returns-in_err-delete c =
+    let e = drop_item c.args.rows.now c.loop-place.place c.at.result c.at.ensures.row in
+    let p = err_from_is_err_and c.from_residual.result c.from_residual.ensures.1 in
+    rw (p.1, p.2)
+    (deletes_fails c.args.base.now c.args.self.now c.loop-place.self (without_deleted (c.args.step + 1) 1 (rows_of c.args.base.now c.args.self.now) c.args.rows.now)
+    (c.args.step + 1) (c.loop-place.place + 1) c.at.result (drop (c.loop-place.place + 1) c.args.rows.now) c.in_err-delete.field-0.0
+    (subst (λ (r : List PlainRow). GoesOn c.args.base.now c.args.self.now c.loop-place.self (without_deleted (c.args.step + 1) 1 (rows_of c.args.base.now c.args.self.now) c.args.rows.now)
+    (without_deleted (c.args.step + 1) (c.loop-place.place + 1) (rows_of c.args.base.now c.loop-place.self) r) r) e c.loop-place.invariant)
+    c.in_err-delete.ensures)
