@@ -178,22 +178,26 @@ fn second_soa(
     ensures { Goes result (record { soa = soa; rows = rows } ∷ []) next
         (option_map Err (later_soa_fault wanted (record { soa = soa; rows = rows }) [] next)) }
 {
-    let form = match wanted {
+    match wanted {
         Wanted::Newer { have } if rows.len() == 0 && next.serial != soa.serial => {
+            drop(rows);
             check_begin(have, next.serial)?;
             let step = Deleting::new(alloc, Steps::new(alloc), next);
-            Form::Deleting { soa, step }
+            Ok(NextSoa::On(Gathered {
+                form: Form::Deleting { soa, step },
+            }))
         }
         _ => {
             check_close(soa.serial, next.serial)?;
-            Form::ClosedWhole {
-                soa,
-                rows,
-                last: next,
-            }
+            Ok(NextSoa::On(Gathered {
+                form: Form::ClosedWhole {
+                    soa,
+                    rows,
+                    last: next,
+                },
+            }))
         }
-    };
-    Ok(NextSoa::On(Gathered { form }))
+    }
 }
 
 // The SOA of the version that a step makes.
