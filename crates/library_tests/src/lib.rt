@@ -32,6 +32,8 @@ mod records;
 #[cfg(test)]
 mod requests;
 #[cfg(test)]
+mod row_lists;
+#[cfg(test)]
 mod row_samples;
 #[cfg(test)]
 mod rules;

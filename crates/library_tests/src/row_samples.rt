@@ -32,3 +32,13 @@ pub fn rows<R: Abort>(rt: &R, alloc: Global, records: &[&[u8]]) -> Rows {
     }
     rows
 }
+
+/// The rows of a list, each on its own.
+pub fn own_rows<R: Abort>(rt: &R, alloc: Global, rows: &Rows) -> Vec<Row> {
+    let mut own = Vec::new(alloc);
+    for place in 0..rows.len() {
+        let row = rows.at(place).to_row(alloc).expect(rt, "no error");
+        own.push(row).expect(rt, "no error");
+    }
+    own
+}

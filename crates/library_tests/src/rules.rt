@@ -1,6 +1,6 @@
 //! The rules of a zone.
 
-use crate::row_samples::{SERVER, row, rows, zone_name};
+use crate::row_samples::{SERVER, own_rows, row, rows, zone_name};
 use action_codec::{Action, ActionRef, action_of};
 use dns_name::laws::case_does_not_matter;
 use dns_name::{Name, Pattern};
@@ -13,7 +13,7 @@ use zone_index::Rules;
 fn one<R: Abort>(rt: &R, alloc: Global) -> Rules {
     let origin = zone_name(rt, alloc);
     let rows = rows(rt, alloc, &[SERVER]);
-    Rules::of(alloc, &origin, rows.as_slice()).expect(rt, "no error")
+    Rules::of(alloc, &origin, &own_rows(rt, alloc, &rows)).expect(rt, "no error")
 }
 
 #[test]

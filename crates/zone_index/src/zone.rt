@@ -10,11 +10,11 @@ ghost use Rattle.zone_index.specs.Indexed.{HasRows, content_rule, index_of};
 use crate::rules::Rules;
 use action_codec::ActionRef;
 use dns_name::Name;
-use dns_record::{Record, Soa};
+use dns_record::{Record, Row, Soa};
 use std::alloc::{AllocError, Global};
 use std::marker::Model;
 use trigger_codec::Trigger;
-use zone_rows::{ApplyError, Content, PlainZone, Transfer};
+use zone_rows::{ApplyError, Content, PlainZone, Rows, Transfer};
 
 /// A policy zone: its origin, and what it holds once a transfer was taken. Contracts see these, and not the index.
 #[derive(Drop)]
@@ -156,8 +156,20 @@ fn index_for(
         None => Ok(None),
         Some(content) => {
             let soa_record = content.soa.record(alloc, origin.clone()?)?;
-            let rules = Rules::of(alloc, origin, content.rows.as_slice())?;
+            let rows = own_rows(alloc, &content.rows)?;
+            let rules = Rules::of(alloc, origin, &rows)?;
             Ok(Some(Index { soa_record, rules }))
         }
     }
+}
+
+// The rows, each on its own.
+fn own_rows(alloc: Global, rows: &Rows) -> Result<Vec<Row>, AllocError>
+    ensures { IfOk result (λ all. all.items ≡ rows.now) }
+{
+    let mut all = Vec::with_capacity(alloc, rows.len())?;
+    for place in 0..rows.len() {
+        all.push(rows.at(place).to_row(alloc)?)?;
+    }
+    Ok(all)
 }

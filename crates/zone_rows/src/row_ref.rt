@@ -112,7 +112,8 @@ impl<'a> RowRef<'a> {
         ensures octets { IfOk result (λ octets. octets ≡ record_octets (record_of self.now)) }
         ensures is_row { IsRow self.now }
     {
-        let mut out = Octets::new(alloc);
+        let room = self.owner().len() + 10 + self.rdata().len();
+        let mut out = Octets::with_capacity(alloc, room)?;
         let whole = RecordRef::new(
             self.row.owner,
             self.row.rtype,
