@@ -3,3 +3,4 @@ pub mod Entries
 pub mod Scan
 pub mod Beginning
 pub mod Sorting
+pub mod Filling
