@@ -1,28 +1,25 @@
 -- Copies of nodes stand for what the nodes stand for.
 use Rattle.std.proofs.Common.{◌≡◌, ℕ, zero, suc, ◌+◌, ◌<◌, ◌≤◌, Bool, List, [], ◌∷◌, ◌++◌, length, take, drop, get_or, refl, sym, ap, ◌∙◌, subst, arith, append-nil, append_assoc, length-append}
 use Rattle.std.proofs.lemmas.List.{map_push, take_more, take_all, take-map, take_at}
-use Rattle.std.specs.List.{AllByRecursion}
 use Rattle.octet_trie.specs.Copies.{IsCopied, stands_all, AreAll, AreCopied, IsKeyAt}
 use Rattle.octet_trie.specs.ListKeys.{octet_keys, symbols}
-use Rattle.octet_trie.specs.Nodes.{PlainNode, Sub, Stored, name_of, key_of, kids_of, list_of, stands, IsKid, AreKids, IsNode, IsAt, Extends}
+use Rattle.octet_trie.specs.Nodes.{PlainNode, Sub, Stored, name_of, key_of, kids_of, list_of, stands, AreKids, IsNode, IsAt, Extends}
 use Rattle.octet_trie.specs.Plain.{plain}
-use Rattle.octet_trie.specs.Written.{IsWritten}
 use Rattle.octet_trie.specs.declared.node.Node.{Node}
 use Rattle.octet_trie.proofs.Numbers.{node_after, stands_after, extends_itself, extends_subs, extends_along}
-use Rattle.octet_trie.proofs.Putting.{name_length, each_under}
+use Rattle.octet_trie.proofs.Putting.{name_length}
 use Rattle.octet_trie.proofs.Searching.{kid_is, kids_count}
 use Rattle.octet_trie.proofs.Spelling.{spelled, length_symbols, unmapped}
 use Rattle.octet_trie.proofs.Stretches.{stretch_new, stretch_front}
-use Rattle.shared_list.specs.Octets.{StandsWhole}
 use Rattle.trie_keys.specs.Entries.{all_append, all_map}
 use Rattle.trie_keys.specs.Keys.{Under}
 use Rattle.trie_keys.specs.declared.marked.Marked.{Marked}
 
 module _ {N M : Type 0} (present : M → Bool) where
-  all_after : (old new : Stored (Marked N M)) (nodes : List (Node N M)) → Extends old new → AreAll present old nodes → AreAll present new nodes
+  pub all_after : (old new : Stored (Marked N M)) (nodes : List (Node N M)) → Extends old new → AreAll present old nodes → AreAll present new nodes
   all_after old new nodes e all = all_map (λ n. IsNode old (plain present n)) (λ n. IsNode new (plain present n)) nodes (λ n node. node_after old new (plain present n) e node) all
 
-  stands_all_after : (old new : Stored (Marked N M)) (nodes : List (Node N M)) → Extends old new → AreAll present old nodes → stands_all present new nodes ≡ stands_all present old nodes
+  pub stands_all_after : (old new : Stored (Marked N M)) (nodes : List (Node N M)) → Extends old new → AreAll present old nodes → stands_all present new nodes ≡ stands_all present old nodes
   stands_all_after old new [] e all = refl
   stands_all_after old new (n ∷ ns) e all = λ i. stands_after old new (plain present n) e all.0 i ∷ stands_all_after old new ns e all.1 i
 
@@ -83,43 +80,38 @@ module _ {N M : Type 0} (present : M → Bool) where
 
   -- ---- where the octets of the key are
 
-  pub key_written : (source old new : Stored (Marked N M)) (n : PlainNode (Marked N M)) (octets : List ℕ) (place : ℕ) → IsNode source n → octets ≡ name_of source.octets n → IsWritten old new octets place → IsKeyAt old new (name_of source.octets n) n.len place
-  key_written source old new n octets place node e w =
-      let len : length octets ≡ n.len = ap length e ∙ name_length source n node in
-      record {
-        more = w.more;
-        same = w.same;
-        whole = subst (λ k. StandsWhole new.octets place k) len w.stands;
-        read = ap (λ k. take k (drop place new.octets)) (sym len) ∙ w.read ∙ e;
-      }
-
-  first_kid : (source into : Stored (Marked N M)) (n k : PlainNode (Marked N M)) (t : ℕ) → IsNode source n → IsNode into k → Under octet_keys (key_of source.octets n) t (key_of into.octets k) → IsKeyAt into into (name_of source.octets n) n.len k.key
-  first_kid source into n k t node kid u =
-      let name = name_of source.octets n in
+  first_kid : (into : Stored (Marked N M)) (name : List ℕ) (k : PlainNode (Marked N M)) (t : ℕ) → IsNode into k → Under octet_keys (symbols name) t (key_of into.octets k) → IsKeyAt into into name (length name) k.key
+  first_kid into name k t kid u =
       let below = name_of into.octets k in
-      let len = name_length source n node in
-      let longer : n.len < k.len = omega (arith, u.longer, length_symbols name, length_symbols below, len, name_length into k kid) in
+      let longer : length name < k.len = omega (arith, u.longer, length_symbols name, length_symbols below, name_length into k kid) in
       let more = drop (length (symbols name) + 1) (symbols below) in
-      let long : length (symbols name) ≡ n.len = length_symbols name ∙ len in
-      let front : symbols (take n.len below) ≡ symbols name =
-      sym (take-map (λ (x : ℕ). x + 2) n.len below)
-      ∙ ap (take n.len) (spelled (symbols name) (symbols below) t u)
-      ∙ take_at (symbols name) (t ∷ more) n.len long in
+      let front : symbols (take (length name) below) ≡ symbols name =
+      sym (take-map (λ (x : ℕ). x + 2) (length name) below)
+      ∙ ap (take (length name)) (spelled (symbols name) (symbols below) t u)
+      ∙ take_at (symbols name) (t ∷ more) (length name) (length_symbols name) in
       record {
         more = [];
         same = λ i. record { octets = sym (append-nil into.octets) i; subs = into.subs };
         whole = record { there = omega (arith, kid.whole.there); whole = omega (arith, kid.whole.whole) };
-        read = sym (stretch_front into.octets k.key k.len n.len (omega arith)) ∙ unmapped (take n.len below) name front;
+        read = sym (stretch_front into.octets k.key k.len (length name) (omega arith)) ∙ unmapped (take (length name) below) name front;
       }
 
-  pub key_of_kid : (source into : Stored (Marked N M)) (n : PlainNode (Marked N M)) (kids : List (Node N M)) (k : Node N M) → IsNode source n → AreAll present into kids → stands_all present into kids ≡ kids_of source.subs n → 0 < length kids → k ≡ get_or kids 0 k
-      → IsKeyAt into into (name_of source.octets n) n.len k.key
-  key_of_kid source into n [] k node all e h at = absurd (omega arith)
-  key_of_kid source into n (x ∷ xs) k node all e h at =
-      let top = key_of source.octets n in
-      let each : AllByRecursion (λ s. IsKid top s) (stands_all present into (x ∷ xs)) = subst (λ ks. AllByRecursion (λ s. IsKid top s) ks) (sym e) (each_under source n node) in
-      subst (λ y. IsKeyAt into into (name_of source.octets n) n.len y.key) (sym at)
-      (first_kid source into n (plain present x) (x.symbol + 2) node all.0 each.0.key)
+  pub key_of_kid : (into : Stored (Marked N M)) (name : List ℕ) (kids : List (Node N M)) (k : Node N M) → AreAll present into kids → AreKids (symbols name) 0 (stands_all present into kids) → 0 < length kids → k ≡ get_or kids 0 k
+      → IsKeyAt into into name (length name) k.key
+  key_of_kid into name [] k all under h at = absurd (omega arith)
+  key_of_kid into name (x ∷ xs) k all under h at =
+      subst (λ y. IsKeyAt into into name (length name) y.key) (sym at)
+      (first_kid into name (plain present x) (x.symbol + 2) all.0 under.1.0.key)
+
+  -- the name is that of the node
+  pub key_of_node : (source old new : Stored (Marked N M)) (n : PlainNode (Marked N M)) (name : List ℕ) (place : ℕ) → IsNode source n → name ≡ name_of source.octets n → IsKeyAt old new name (length name) place → IsKeyAt old new (name_of source.octets n) n.len place
+  key_of_node source old new n name place node e at =
+      let len : length name ≡ n.len = ap length e ∙ name_length source n node in
+      subst (λ k. IsKeyAt old new (name_of source.octets n) k place) len (subst (λ xs. IsKeyAt old new xs (length name) place) e at)
+
+  pub copied_under : (source old new : Stored (Marked N M)) (n : PlainNode (Marked N M)) (name : List ℕ) (copies : List (Node N M)) → IsNode source n → name ≡ name_of source.octets n → AreCopied present old new copies (kids_of source.subs n) → AreKids (symbols name) 0 (stands_all present new copies)
+  copied_under source old new n name copies node e c =
+      subst (λ ks. AreKids (symbols name) 0 ks) (sym c.same) (subst (λ xs. AreKids (symbols xs) 0 (kids_of source.subs n)) (sym e) node.kids)
 
   -- ---- the node itself
 

@@ -13,3 +13,5 @@ pub mod Walking
 pub mod Tries
 pub mod Copying
 pub mod Collecting
+pub mod Orders
+pub mod Building

@@ -9,7 +9,7 @@ use Rattle.octet_trie.proofs.ListLaws.{list_laws}
 use Rattle.octet_trie.proofs.Spelling.{valid_short, length_symbols}
 use Rattle.trie_keys.specs.Sorting.{AreEntries, none_are_entries, entries_inserted, entries_removed}
 
-valid_entry : (octets : List ℕ) (wild : Bool) → length octets ≤ 254 → octet_keys.valid (entry_key octets wild) ≡ true
+pub valid_entry : (octets : List ℕ) (wild : Bool) → length octets ≤ 254 → octet_keys.valid (entry_key octets wild) ≡ true
 valid_entry octets wild h =
     valid_short (entry_key octets wild) (omega (arith, length_symbols octets, length-append (symbols octets) (end_symbol wild ∷ [])))
 

@@ -6,3 +6,5 @@ pub mod Edits
 pub mod Fits
 pub mod Trie
 pub mod Copies
+pub mod Listed
+pub mod Made

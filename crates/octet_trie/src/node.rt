@@ -1,6 +1,7 @@
 //! A node of a trie.
 
-ghost use Rattle.std.specs.Prelude.{◌≡◌, true};
+ghost use Rattle.std.specs.Prelude.{◌≡◌, true, None, IfSome};
+ghost use Rattle.octet_trie.specs.Made.{with_own};
 ghost use Rattle.octet_trie.specs.Nodes.{branch_node, leaf_node, root_node, value_of, with_value, without_value};
 ghost use Rattle.octet_trie.specs.Plain.{plain};
 
@@ -67,6 +68,31 @@ impl<N: Copy + Drop, M: Mark> Node<N, M> {
         }
     }
 
+    // A node with no values, and with nothing under it.
+    pub(crate) fn bare(key: u32, len: u8, symbol: u8, spare: N) -> Self
+        ensures { plain M.present result ≡ record {
+          key = key;
+          len = len;
+          symbol = symbol;
+          kids = 0;
+          count = 0;
+          exact = None;
+          wild = None;
+        } }
+    {
+        Node {
+            key,
+            kids: 0,
+            exact: spare,
+            wild: spare,
+            count: 0,
+            len,
+            symbol,
+            exact_mark: M::absent(),
+            wild_mark: M::absent(),
+        }
+    }
+
     // The value of the exact or of the wild key.
     pub(crate) fn value(&self, wild: bool) -> Option<Marked<N, M>>
         ensures { result ≡ value_of (plain M.present self.now) wild }
@@ -98,6 +124,17 @@ impl<N: Copy + Drop, M: Mark> Node<N, M> {
             node.exact_mark = value.mark;
         }
         node
+    }
+
+    // The same node with a value, if there is one.
+    pub(crate) fn with_own(&self, wild: bool, value: Option<Marked<N, M>>) -> Self
+        requires { IfSome value (λ v. M.present v.mark ≡ true) }
+        ensures { plain M.present result ≡ with_own (plain M.present self.now) wild value }
+    {
+        match value {
+            Some(value) => self.with_value(wild, value),
+            None => *self,
+        }
     }
 
     // The same node without a value.

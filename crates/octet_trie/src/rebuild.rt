@@ -1,8 +1,9 @@
 //! Copies of the nodes that are in use.
 
-ghost use Rattle.std.specs.Prelude.{◌≡◌, ◌++◌, IfOk};
-ghost use Rattle.octet_trie.specs.Copies.{AreAll, AreCopied, IsCopied, IsKeyAt, stands_all};
-ghost use Rattle.octet_trie.specs.Nodes.{IsNode, kids_of, name_of};
+ghost use Rattle.std.specs.Prelude.{◌≡◌, ◌<◌, ◌++◌, length, IfOk};
+ghost use Rattle.octet_trie.specs.Copies.{AreAll, IsCopied, IsKeyAt, stands_all};
+ghost use Rattle.octet_trie.specs.ListKeys.{symbols};
+ghost use Rattle.octet_trie.specs.Nodes.{AreKids, IsNode};
 ghost use Rattle.octet_trie.specs.Plain.{plain};
 
 use crate::node::Node;
@@ -11,7 +12,7 @@ use std::alloc::{AllocError, Global};
 use trie_keys::Mark;
 
 // Puts some nodes behind all others, side by side.
-fn push_all<N: Copy + Drop, M: Mark>(
+pub(crate) fn push_all<N: Copy + Drop, M: Mark>(
     into: &mut Store<N, M>,
     nodes: &Vec<Node<N, M>>,
 ) -> Result<(), AllocError>
@@ -26,23 +27,20 @@ fn push_all<N: Copy + Drop, M: Mark>(
     Ok(())
 }
 
-// A place for the octets of the node's key: where those of a node under it are, or a new one.
-fn place_key<N: Copy + Drop, M: Mark>(
-    source: &Store<N, M>,
-    node: &Node<N, M>,
-    kids: &Vec<Node<N, M>>,
+// A place for the octets of a key: where those of a node under it are, or a new one.
+pub(crate) fn place_key<N: Copy + Drop, M: Mark>(
     into: &mut Store<N, M>,
+    name: &[u8],
+    kids: &Vec<Node<N, M>>,
 ) -> Result<u32, AllocError>
-    requires node { IsNode source.now (plain M.present node.now) }
+    requires short { length name.now < 255 }
     requires nodes { AreAll M.present into.old kids.now.items }
-    requires subs { stands_all M.present into.old kids.now.items ≡ kids_of source.now.subs
-        (plain M.present node.now) }
+    requires under { AreKids (symbols name.now) 0 (stands_all M.present into.old kids.now.items) }
     ensures { IfOk result
-        (λ place. IsKeyAt into.old into.new (name_of source.now.octets (plain M.present node.now))
-        node.now.len place) }
+        (λ place. IsKeyAt into.old into.new name.now (length name.now) place) }
 {
     if kids.is_empty() {
-        let place = into.write(source.name(node))?;
+        let place = into.write(name)?;
         Ok(place)
     } else {
         Ok(kids[0].key)
@@ -67,7 +65,7 @@ pub(crate) fn copy_node<N: Copy + Drop, M: Mark>(
         let kid = copy_node(alloc, source, &kid, into)?;
         kids.push(kid)?;
     }
-    let key = place_key(source, node, &kids, into)?;
+    let key = place_key(into, source.name(node), &kids)?;
     let first = into.len();
     push_all(into, &kids)?;
     Ok(node.moved(key, first))

@@ -1,6 +1,6 @@
 //! A trie.
 
-ghost use Rattle.std.specs.Prelude.{◌≡◌, ◌+◌, ◌≤◌, ◌&&◌, [], true, length, map, IfOk};
+ghost use Rattle.std.specs.Prelude.{◌≡◌, ◌+◌, ◌≤◌, ◌&&◌, [], true, length, map, IfOk, IfSome};
 ghost use Rattle.std.specs.BTreeMap.{insert_entry, is_at};
 ghost use Rattle.std.specs.Cmp.Lexicographic.{slice_cmp};
 ghost use Rattle.std.specs.Map.{lookup, remove_entry};
@@ -8,12 +8,16 @@ ghost use Rattle.std.specs.Option.{option_map};
 ghost use Rattle.std.specs.Ordering.{nat_cmp};
 ghost use Rattle.octet_trie.specs.Fits.{fits};
 ghost use Rattle.octet_trie.specs.ListKeys.{entry_key, octet_keys};
+ghost use Rattle.octet_trie.specs.Listed.{ArePresent, AreShort};
 ghost use Rattle.octet_trie.specs.Trie.{found_entry};
+ghost use Rattle.trie_keys.specs.Filling.{with_all};
 ghost use Rattle.trie_keys.specs.Scan.{last_where};
 ghost use Rattle.trie_keys.specs.Sorting.{AreEntries};
 
+use crate::build::build;
 use crate::collect::collect;
 use crate::node::Node;
+use crate::order::are_in_order;
 use crate::put::put;
 use crate::rebuild::copy_node;
 use crate::store::Store;
@@ -77,6 +81,54 @@ impl<N: Copy + Drop, M: Mark> OctetTrie<N, M> {
             fresh: 0,
             alloc,
         }
+    }
+
+    /// The entries, of which a later one of a key counts in place of an earlier one. Where they stand in the order of their keys,
+    /// each key once, it takes one pass over them, in which the octets of each key are looked at a few times and are stored once
+    /// where no longer key begins with them. An `Err` comes where allocation fails, or where there are more nodes or octets than
+    /// there may be.
+    pub fn of(alloc: Global, entries: &[OctetFound<'_, N, M>]) -> Result<Self, AllocError>
+    where
+        N: Default,
+        requires short { AreShort entries.now }
+        requires present { ArePresent M.present entries.now }
+        ensures { IfOk result
+            (λ trie. trie ≡ with_all (slice_cmp nat_cmp) [] (map found_entry entries.now)) }
+    {
+        if let Some(trie) = Self::of_listed(alloc, entries)? {
+            return Ok(trie);
+        }
+        let mut trie = OctetTrie::empty(alloc);
+        for entry in entries {
+            trie = trie.inserted(entry.key, entry.wild, entry.value)?;
+        }
+        Ok(trie)
+    }
+
+    // The entries, or `None` where there are none, or where they don't stand in the order of their keys, each key once.
+    fn of_listed(
+        alloc: Global,
+        entries: &[OctetFound<'_, N, M>],
+    ) -> Result<Option<Self>, AllocError>
+        requires short { AreShort entries.now }
+        requires present { ArePresent M.present entries.now }
+        ensures { let these = map found_entry entries.now in
+            IfOk result (λ made. IfSome made (λ trie. trie ≡ with_all (slice_cmp nat_cmp) [] these)) }
+    {
+        if entries.is_empty() || !are_in_order(entries) {
+            return Ok(None);
+        }
+        let mut store = Store::new(alloc);
+        let Some(root) = build(alloc, &mut store, &entries[0].key[..0], 0, entries)? else {
+            return Ok(None);
+        };
+        let fresh = store.len();
+        Ok(Some(OctetTrie {
+            store,
+            root,
+            fresh,
+            alloc,
+        }))
     }
 
     /// The same version once more. It takes the time of copying the last blocks, of up to 1,024 nodes and 4,096 octets.
