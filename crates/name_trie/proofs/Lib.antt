@@ -12,3 +12,4 @@ pub mod Edited
 pub mod ByOctets
 pub mod Listed
 pub mod Written
+pub mod Filled

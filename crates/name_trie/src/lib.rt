@@ -2,6 +2,7 @@
 #![tactic(auto)]
 
 mod key;
+pub mod laws;
 mod listing;
 mod map;
 mod pattern_ref;

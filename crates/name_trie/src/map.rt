@@ -1,13 +1,17 @@
 //! A map from patterns of names.
 
-ghost use Rattle.std.specs.Prelude.{◌≡◌, ◌+◌, ◌≤◌, [], true, IfOk};
+ghost use Rattle.std.specs.Prelude.{◌≡◌, ◌+◌, ◌≤◌, [], true, map, IfOk};
 ghost use Rattle.std.specs.BTreeMap.{insert_entry, is_at};
 ghost use Rattle.std.specs.Map.{lookup, remove_entry};
 ghost use Rattle.std.specs.Option.{option_map};
 ghost use Rattle.dns_name.specs.Labels.{lowered};
+ghost use Rattle.octet_trie.specs.Listed.{ArePresent};
+ghost use Rattle.octet_trie.specs.Trie.{found_entry};
 ghost use Rattle.qname_index.specs.Best.{pattern_order};
+ghost use Rattle.trie_keys.specs.Filling.{with_all};
 ghost use Rattle.name_trie.specs.Found.{found_pattern};
 ghost use Rattle.name_trie.specs.Listing.{AreListed};
+ghost use Rattle.name_trie.specs.Ranked.{ArePatternKeys, patterns};
 ghost use Rattle.name_trie.specs.Trie.{best_acting};
 
 use crate::key::Key;
@@ -15,7 +19,7 @@ use crate::listing::{listing_cmp, push_entries};
 use crate::pattern_ref::PatternRef;
 use dns_name::laws::names_that_are_alike;
 use dns_name::{Name, Pattern};
-use octet_trie::OctetTrie;
+use octet_trie::{OctetFound, OctetTrie};
 use std::alloc::{AllocError, Global};
 use std::marker::Model;
 use std::sync::ledger::Ledger;
@@ -62,6 +66,20 @@ impl<N: Copy + Drop, M: Mark> NameTrie<N, M> {
         NameTrie {
             trie: OctetTrie::empty(alloc),
         }
+    }
+
+    /// The entries by the octets of their patterns' keys ([`Key`]), of which a later one of a pattern counts in place of an earlier
+    /// one. Where they stand in the order of their keys, each key once, it takes one pass over them.
+    pub fn of(alloc: Global, entries: &[OctetFound<'_, N, M>]) -> Result<Self, AllocError>
+    where
+        N: Default,
+        requires keys { ArePatternKeys (map found_entry entries.now) }
+        requires present { ArePresent M.present entries.now }
+        ensures { let these = patterns (map found_entry entries.now) in
+            IfOk result (λ trie. trie ≡ with_all pattern_order [] these) }
+    {
+        let trie = OctetTrie::of(alloc, entries)?;
+        Ok(NameTrie { trie })
     }
 
     /// The same version once more: for an edit of many patterns, by [`inserted`](Self::inserted) and [`removed`](Self::removed),
