@@ -34,8 +34,8 @@ impl<'a> Model for RowRef<'a> {
 }
 
 impl<'a> RowRef<'a> {
-    // The row that a list keeps so.
-    pub(crate) fn new(row: StoredRow<'a>) -> Self
+    /// The row that a list keeps so.
+    pub fn new(row: StoredRow<'a>) -> Self
         requires { IsStored (seen row) }
         ensures { result ≡ plain_row (seen row.entry) }
     {
