@@ -124,7 +124,9 @@ fn build_kids<N: Copy + Drop, M: Mark>(
 }
 
 // Makes the node of all these entries, whose keys begin with some octets, and stores those under it. It is `None` where the
-// entries aren't as they are where they stand in order; then what is stored is to be given up.
+// entries aren't as they are where they stand in order; then what is stored is to be given up. What the first and the last key
+// have in common all keys have, so that of the others no octet is compared again. Each call for nodes under this one goes on
+// behind at least one octet more: there are at most 255 of them inside each other.
 #[cycle(build)]
 pub(crate) fn build<N: Copy + Drop, M: Mark>(
     alloc: Global,
