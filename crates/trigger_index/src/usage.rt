@@ -1,0 +1,42 @@
+//! How much of the groups is in use.
+
+/// How many numbers may stand in groups for nothing, whatever the number of entries.
+const FEW: usize = 8_192;
+
+/// How many entries there are, and how many numbers stand in groups that no entry names any more.
+#[derive(Clone, Copy, Drop)]
+pub(crate) struct Usage {
+    entries: usize,
+    idle: usize,
+}
+
+impl Usage {
+    /// No entries.
+    pub(crate) fn none() -> Self {
+        Usage {
+            entries: 0,
+            idle: 0,
+        }
+    }
+
+    /// With one entry more.
+    pub(crate) fn with_entry(self) -> Self {
+        Usage {
+            entries: self.entries.saturating_add(1),
+            idle: self.idle,
+        }
+    }
+
+    /// Without an entry that named a group of so many numbers, or none.
+    pub(crate) fn without_entry(self, numbers: usize) -> Self {
+        Usage {
+            entries: self.entries.saturating_sub(1),
+            idle: self.idle.saturating_add(numbers),
+        }
+    }
+
+    /// Whether more numbers stand for nothing than a few, and than entries are there.
+    pub(crate) fn is_thin(self) -> bool {
+        self.idle > FEW && self.idle > self.entries
+    }
+}
