@@ -1,6 +1,6 @@
 -- A snapshot after one more transfer stands for a list with one entry more.
 use Rattle.std.proofs.Common.{◌≡◌, ℕ, zero, suc, ◌+◌, ◌-◌, ◌==◌, Bool, true, false, Option, Some, None, Result, Ok, Err, List, [], ◌∷◌, ◌++◌, length, map, refl, sym, ap, subst, ◌∙◌, arith, length-append, get_or, true≢false}
-use Rattle.std.specs.Prelude.{IsSome, fold, slice_set, slice_get, if◌then◌else◌}
+use Rattle.std.specs.Prelude.{IfSome, IsSome, fold, slice_set, slice_get, if◌then◌else◌}
 use Rattle.std.proofs.lemmas.Bool.Decides.{nat_tests}
 use Rattle.std.proofs.lemmas.List.{length-map, length-set}
 use Rattle.std.proofs.lemmas.List.Sums.{fold_push}
@@ -20,7 +20,7 @@ use Rattle.zone_rows.specs.Zone.{newer_soa, fewer_rows, apply_outcome, apply_out
 use Rattle.zone_index.specs.Indexed.{HasRows}
 use Rattle.policy_snapshot.specs.declared.entry.Entry.{Entry}
 use Rattle.policy_snapshot.specs.Policy.{AreAccepted, AreTaken, TakesTransfer, PlainPolicy, zone_at, zone_by, zone_after, with_zone_after, policy_with, policy_after}
-use Rattle.policy_snapshot.specs.Stands.{HaveRows, PlainSnapshot, Stands, next_count, count_of, origins_of}
+use Rattle.policy_snapshot.specs.Stands.{HaveRows, PlainSnapshot, Stands, next_count, count_of, origins_of, with_zone}
 
 pub policy_after-push : (origins : List (List (List ℕ))) (entries : List Entry) (entry : Entry) → policy_after origins (entries ++ entry ∷ []) ≡ policy_with (policy_after origins entries) entry
 unfolding policy_after
@@ -141,16 +141,43 @@ module _ {Y : Type 0} (g : Y → PlainZone) where
   get_if (x ∷ ys) zero y is some = ap (λ (z : Y). Some (g z)) (sym is)
   get_if (x ∷ ys) (suc k) y is some = get_if ys k y is some
 
-  pub stands_after : (old : PlainSnapshot) (items made : List Y) (accepted count number : ℕ) (transfer : Transfer) (item : Y) (seen next : PlainZone) (entries : List Entry) → record { zones = map g items; accepted = accepted } ≡ old → IsSome (zone_at old.zones number)
-      → item ≡ get_or items (number - 1) item → seen ≡ g item → apply_outcome seen transfer ≡ Ok next → map g made ≡ slice_set (map g items) (number - 1) next → next_count accepted ≡ count → Stands old entries
-      → Stands (record { zones = map g made; accepted = count }) (entries ++ record { zone = number; transfer = transfer } ∷ [])
-  stands_after old items made accepted count number transfer item seen next entries view some is seen_is e set counted stands =
-      let zones : map g items ≡ old.zones = ap (λ (s : PlainSnapshot). s.zones) view in
-      let found = at_if (number == 0) (slice_get (map g items) (number - 1)) (g item) (subst (λ (z : List PlainZone). IsSome (zone_at z number)) (sym zones) some) (get_if items (number - 1) item is) in
-      let at : zone_at old.zones number ≡ Some seen = ap (λ (z : List PlainZone). zone_at z number) (sym zones) ∙ found ∙ ap Some (sym seen_is) in
-      let new_zones : slice_set old.zones (number - 1) next ≡ map g made = ap (λ (z : List PlainZone). slice_set z (number - 1) next) (sym zones) ∙ sym set in
-      let new_count : next_count old.accepted ≡ count = ap next_count (sym (ap (λ (s : PlainSnapshot). s.accepted) view)) ∙ counted in
-      let old_one : PlainSnapshot = record { zones = slice_set old.zones (number - 1) next; accepted = next_count old.accepted } in
-      let new_one : PlainSnapshot = record { zones = map g made; accepted = count } in
-      let same : old_one ≡ new_one = λ i. record { zones = new_zones i; accepted = new_count i } in
-      subst (λ (s : PlainSnapshot). Stands s (entries ++ record { zone = number; transfer = transfer } ∷ [])) same (stands_next old entries number transfer seen next stands at e)
+  -- the zones and the count are those of the snapshot with the next zone
+  pub record IsNext (old : PlainSnapshot) (items made : List Y) (accepted count number : ℕ) (transfer : Transfer) (item : Y) (seen next : PlainZone) : Type 0 where
+    pub view : record { zones = map g items; accepted = accepted } ≡ old
+    pub some : IsSome (zone_at old.zones number)
+    pub is_item : item ≡ get_or items (number - 1) item
+    pub is_seen : seen ≡ g item
+    pub applied : apply_outcome seen transfer ≡ Ok next
+    pub set : map g made ≡ slice_set (map g items) (number - 1) next
+    pub counted : next_count accepted ≡ count
+
+  module _ (old : PlainSnapshot) (items made : List Y) (accepted count number : ℕ) (transfer : Transfer) (item : Y) (seen next : PlainZone) (is : IsNext old items made accepted count number transfer item seen next) where
+    zones_are : map g items ≡ old.zones
+    zones_are = ap (λ (s : PlainSnapshot). s.zones) is.view
+
+    seen_at : zone_at old.zones number ≡ Some seen
+    seen_at =
+        let found = at_if (number == 0) (slice_get (map g items) (number - 1)) (g item) (subst (λ (z : List PlainZone). IsSome (zone_at z number)) (sym zones_are) is.some) (get_if items (number - 1) item is.is_item) in
+        ap (λ (z : List PlainZone). zone_at z number) (sym zones_are) ∙ found ∙ ap Some (sym is.is_seen)
+
+    abbrev set_next : PlainSnapshot
+    set_next = record { zones = slice_set old.zones (number - 1) next; accepted = next_count old.accepted }
+
+    abbrev made_next : PlainSnapshot
+    made_next = record { zones = map g made; accepted = count }
+
+    same_next : set_next ≡ made_next
+    same_next =
+        let new_zones : slice_set old.zones (number - 1) next ≡ map g made = ap (λ (z : List PlainZone). slice_set z (number - 1) next) (sym zones_are) ∙ sym is.set in
+        let new_count : next_count old.accepted ≡ count = ap next_count (sym (ap (λ (s : PlainSnapshot). s.accepted) is.view)) ∙ is.counted in
+        λ i. record { zones = new_zones i; accepted = new_count i }
+
+    pub stands_after : (entries : List Entry) → Stands old entries → Stands made_next (entries ++ record { zone = number; transfer = transfer } ∷ [])
+    stands_after entries stands =
+        subst (λ (s : PlainSnapshot). Stands s (entries ++ record { zone = number; transfer = transfer } ∷ [])) same_next
+        (stands_next old entries number transfer seen next stands seen_at is.applied)
+
+    pub exact_after : IfSome (zone_at old.zones number) (λ zone. with_zone old number (apply_outcome zone transfer) ≡ Ok made_next)
+    exact_after =
+        subst (λ (found : Option PlainZone). IfSome found (λ zone. with_zone old number (apply_outcome zone transfer) ≡ Ok made_next)) (sym seen_at)
+        (ap (with_zone old number) is.applied ∙ ap Ok same_next)
