@@ -8,6 +8,7 @@ use Rattle.zone_rows.specs.declared.zone.PlainZone.{PlainZone}
 use Rattle.zone_rows.specs.Content.{unloaded}
 use Rattle.zone_rows.specs.Zone.{Gives, apply_outcome}
 use Rattle.policy_snapshot.specs.declared.entry.Entry.{Entry}
+use Rattle.std.specs.Option.{is_some}
 use Rattle.policy_snapshot.specs.Policy.{AreAccepted, AreTaken, PlainPolicy, TakesTransfer, policy_after, policy_with, zone_at}
 use Rattle.policy_snapshot.specs.Stands.{PlainSnapshot, Stands, StandsFor, next_count, origins_of, with_zone}
 use Rattle.policy_snapshot.proofs.Standing.{origin_stays, place_of}
@@ -103,6 +104,14 @@ module _ (number : ℕ) (transfer : Transfer) (old : PlainSnapshot) where
   pub takes_ok : (new : PlainSnapshot) (told : Publication) → Applied old number transfer (zone_at old.zones number) (Ok new) → IfSome (zone_at new.zones number) (λ zone. HasSize told zone.content)
       → IfSome (zone_at old.zones number) (λ zone. Takes number zone transfer told old new)
   takes_ok new told h size = takes_if (zone_at old.zones number) new told refl h size
+
+  there_if : (found : Option PlainZone) (new : PlainSnapshot) → zone_at old.zones number ≡ found → IsSome found → Applied old number transfer found (Ok new) → IsSome (zone_at new.zones number)
+  there_if None new at some h = absurd (true≢false (sym some))
+  there_if (Some zone) new at some h = ap is_some (next_at number zone transfer old new (next_if old number zone transfer (apply_outcome zone transfer) new refl h) at)
+
+  -- the zone is there afterwards
+  pub still_there : (new : PlainSnapshot) → IsSome (zone_at old.zones number) → Applied old number transfer (zone_at old.zones number) (Ok new) → IsSome (zone_at new.zones number)
+  still_there new some h = there_if (zone_at old.zones number) new refl some h
 
   stands_if : (found : Option PlainZone) (origins : List (List (List ℕ))) (new : PlainSnapshot) (entries : List Entry) → zone_at old.zones number ≡ found → IsSome found → Applied old number transfer found (Ok new)
       → (Stands old entries → Stands new (entries ++ record { zone = number; transfer = transfer } ∷ [])) → StandsFor origins old entries
