@@ -1,13 +1,9 @@
 -- What an index lends, as plain values.
-use Rattle.action_codec.specs.Local.{PlainLocal}
 use Rattle.action_codec.specs.declared.action.Action.{Action}
 use Rattle.action_codec.specs.declared.action.Action.TheVariants as actions
 use Rattle.action_codec.specs.declared.action.ActionRef.{ActionRef}
 use Rattle.action_codec.specs.declared.action.ActionRef.TheVariants.{NxDomain, NoData, PassThru, Drop, TcpOnly, Local}
-use Rattle.action_codec.specs.declared.local_ref.LocalPart.{LocalPart}
-
-abbrev pub part_seen : LocalPart → PlainLocal
-part_seen part = record { rtype = part.rtype; ttl = part.ttl; rdata = part.rdata.now }
+pub use Rattle.action_codec.specs.Part.{part_seen}
 
 abbrev pub action_seen : ActionRef → Action
 action_seen NxDomain = actions.NxDomain

@@ -13,3 +13,4 @@ pub mod ByOctets
 pub mod Listed
 pub mod Written
 pub mod Filled
+pub mod Comparing

@@ -5,6 +5,7 @@ mod key;
 pub mod laws;
 mod listing;
 mod map;
+mod order;
 mod pattern_ref;
 
 pub use key::Key;

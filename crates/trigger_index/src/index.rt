@@ -4,7 +4,7 @@ ghost use Rattle.std.specs.Prelude.{◌≡◌, ◌≤◌, length, IfOk};
 ghost use Rattle.std.specs.Option.{option_map};
 ghost use Rattle.dns_name.specs.Labels.{lowered};
 ghost use Rattle.trigger_index.specs.Entry.{entry_seen};
-ghost use Rattle.trigger_index.specs.Places.{AreLower, AreRanked, best_rule, entry_at, has_rule, longest_rule, no_places, with_entry, without_entry};
+ghost use Rattle.trigger_index.specs.Places.{AreLower, AreRanked, best_rule, entry_at, has_rule, longest_rule, no_places, rule_at, with_entry, without_entry};
 
 use crate::does::Does;
 use crate::entry::EntryRef;
@@ -22,7 +22,7 @@ use name_trie::PatternRef;
 use shared_list::{Held, Share, SharedTable};
 use std::alloc::{AllocError, Global};
 use std::marker::Model;
-use trigger_codec::Kind;
+use trigger_codec::{Kind, Trigger};
 
 /// What stands at the places of a zone. Contracts see the entries of each kind of trigger in order of precedence, and those of the
 /// other rows. A copy shares what is the same in both.
@@ -81,6 +81,17 @@ impl TriggerIndex {
             None => None,
         }
     }
+
+    /// What stands at the trigger. It takes no memory.
+    pub fn rule(&self, trigger: &Trigger) -> Option<EntryRef<'_>>
+        ensures { option_map entry_seen result ≡ rule_at self.now.rules trigger.now }
+    {
+        match tries::get_rule(&self.places.rules, trigger) {
+            Some(value) => Some(lend(&self.groups, value)),
+            None => None,
+        }
+    }
+
     /// With these rows at the place, in place of this version. There is at least one.
     pub fn put(self, place: &Place, numbers: &[u32], does: Does) -> Result<Self, AllocError>
         requires { 1 ≤ length numbers.now }

@@ -1,7 +1,9 @@
 //! Numbers of rows, lent.
 
-ghost use Rattle.std.specs.Prelude.{◌≡◌, ◌<◌, [], ◌∷◌, Some, length, slice_get};
+ghost use Rattle.std.specs.Prelude.{◌≡◌, ◌<◌, [], ◌∷◌, Some, length, slice_get, IfOk};
+ghost use Rattle.trigger_index.specs.Lent.{first_of};
 
+use std::alloc::{AllocError, Global};
 use std::marker::Model;
 
 // One number, or those that stand in a group.
@@ -71,6 +73,26 @@ impl<'a> Numbers<'a> {
         match self.lent {
             Lent::One(number) => number,
             Lent::Several(numbers) => number_at(numbers, place),
+        }
+    }
+
+    /// The first of them.
+    pub fn first(&self) -> Option<u32>
+        ensures { result ≡ first_of self.now }
+    {
+        match self.lent {
+            Lent::One(number) => Some(number),
+            Lent::Several(numbers) => numbers.first().copied(),
+        }
+    }
+
+    /// The numbers, copied.
+    pub fn to_vec(&self, alloc: Global) -> Result<Vec<u32>, AllocError>
+        ensures { IfOk result (λ numbers. numbers.items ≡ self.now) }
+    {
+        match self.lent {
+            Lent::One(number) => Ok(Vec::from_slice(alloc, &[number])?),
+            Lent::Several(numbers) => Ok(Vec::from_slice(alloc, numbers)?),
         }
     }
 }

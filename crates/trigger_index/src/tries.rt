@@ -69,7 +69,10 @@ pub(crate) fn get(places: &Places<Prefixes, Patterns>, place: &Place) -> Option<
     }
 }
 
-fn get_rule(rules: &ByKind<Prefixes, Patterns>, trigger: &Trigger) -> Option<Marked<u32, Kept>>
+pub(crate) fn get_rule(
+    rules: &ByKind<Prefixes, Patterns>,
+    trigger: &Trigger,
+) -> Option<Marked<u32, Kept>>
     ensures { result ≡ rule_at rules.now trigger.now }
 {
     match trigger {
