@@ -1,25 +1,8 @@
 //! Requests for a zone, which no script reaches.
 
 use crate::asserts::assert_same;
-use crate::row_samples::zone_name;
-use dns_name::Name;
-use dns_record::Soa;
+use crate::row_samples::{first_soa, zone_name};
 use ixfr_apply::{request, request_newer};
-use std::alloc::{AllocError, Global};
-
-// The SOA of the serial 1, with the root for both names.
-fn ours(alloc: Global) -> Result<Soa, AllocError> {
-    Ok(Soa {
-        mname: Name::root(alloc)?,
-        rname: Name::root(alloc)?,
-        serial: 1,
-        refresh: 3600,
-        retry: 600,
-        expire: 86400,
-        minimum: 60,
-        ttl: 60,
-    })
-}
 
 // RFC 5936, section 2.1: the question (rpz.example, AXFR, IN) alone.
 #[test]
@@ -35,7 +18,7 @@ fn the_whole_zone_is_asked_for(rt: HostRuntime) {
 // RFC 1995, section 3: the question (rpz.example, IXFR, IN), and our SOA record as authority.
 #[test]
 fn what_is_newer_is_asked_for(rt: HostRuntime) {
-    let soa = ours(rt.alloc()).expect(&rt, "no error");
+    let soa = first_soa(rt.alloc()).expect(&rt, "no error");
     let sent = request_newer(rt.alloc(), 4660, &zone_name(&rt, rt.alloc()), &soa).expect(
         &rt, "no error",
     );

@@ -1,8 +1,8 @@
 //! A row and a zone that the tests of several crates use.
 
 use dns_name::Name;
-use dns_record::{Row, class, read_record};
-use std::alloc::Global;
+use dns_record::{Row, Soa, class, read_record};
+use std::alloc::{AllocError, Global};
 use std::process::Abort;
 use zone_rows::Rows;
 
@@ -13,6 +13,20 @@ pub const SERVER: &[u8] =
 /// The zone's name.
 pub fn zone_name<R: Abort>(rt: &R, alloc: Global) -> Name {
     Name::from_text(alloc, b"rpz.example").expect(rt, "no error")
+}
+
+/// The SOA of the serial 1, with the root for both names.
+pub fn first_soa(alloc: Global) -> Result<Soa, AllocError> {
+    Ok(Soa {
+        mname: Name::root(alloc)?,
+        rname: Name::root(alloc)?,
+        serial: 1,
+        refresh: 3600,
+        retry: 600,
+        expire: 86400,
+        minimum: 60,
+        ttl: 60,
+    })
 }
 
 /// The row that a record is.

@@ -34,7 +34,7 @@ pub(crate) fn zone_hit<'a>(number: u32, zone: &'a Zone, sight: &Sight<'_>) -> Op
 fn rules_hit<'a>(
     number: u32,
     soa: &'a Record,
-    rules: &'a Rules,
+    rules: &Rules<'a>,
     sight: &Sight<'_>,
 ) -> Option<Hit<'a>>
     requires name { sight.now.lower.now ≡ lowered sight.now.name.now }
@@ -86,7 +86,7 @@ fn rules_hit<'a>(
 fn servers_hit<'a>(
     number: u32,
     soa: &'a Record,
-    rules: &'a Rules,
+    rules: &Rules<'a>,
     position: u32,
     lists: &[&Names],
 ) -> Option<Hit<'a>>
@@ -110,7 +110,7 @@ fn servers_hit<'a>(
 fn names_hit<'a>(
     number: u32,
     soa: &'a Record,
-    rules: &'a Rules,
+    rules: &Rules<'a>,
     position: u32,
     servers: &[Name],
 ) -> Option<Hit<'a>>
@@ -141,7 +141,7 @@ fn names_hit<'a>(
 fn addresses_hit<'a>(
     number: u32,
     soa: &'a Record,
-    rules: &'a Rules,
+    rules: &Rules<'a>,
     position: u32,
     addresses: &[Addr],
 ) -> Option<Hit<'a>>

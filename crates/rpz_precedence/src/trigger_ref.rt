@@ -1,7 +1,7 @@
 //! The trigger of a rule.
 
 use ip_prefix::Prefix;
-use qname_index::PatternRef;
+use name_trie::PatternRef;
 
 /// The trigger of a rule, where a pattern is lent by the index that has it.
 #[derive(Drop)]

@@ -1,5 +1,5 @@
 -- The rule that comes first of those about several addresses.
-use Rattle.std.proofs.Common.{◌≡◌, ℕ, ◌+◌, ◌<◌, ◌≤◌, Bool, true, false, cond, ◌&&◌, ◌||◌, List, [], ◌∷◌, ◌++◌, length, Option, Some, None, option_map, refl, sym, ap, subst, ◌∙◌, append_assoc, arith}
+use Rattle.std.proofs.Common.{◌≡◌, ℕ, Bool, true, false, cond, ◌&&◌, ◌||◌, List, [], ◌∷◌, ◌++◌, length, Option, Some, None, option_map, refl, sym, ap, subst, ◌∙◌, append_assoc, arith}
 use Rattle.std.specs.List.{find, list_any, AllByRecursion}
 use Rattle.std.specs.List.Sorted.{IsStrictlySortedBy}
 use Rattle.std.specs.BTreeMap.{is_at}
@@ -19,7 +19,7 @@ use Rattle.ip_prefix.specs.declared.Addr.{Addr}
 use Rattle.ip_prefix.specs.Prefix.{PlainPrefix, contains, prefix_order}
 use Rattle.prefix_index.specs.Longest.{longest}
 use Rattle.prefix_index.specs.Order.{prefix_order_total}
-use Rattle.zone_index.specs.Addresses.{is_held, holds_within, first_about}
+use Rattle.zone_index.specs.Addresses.{is_held, has_some, holds_within, first_about}
 use Rattle.zone_index.specs.Earlier.{earlier_of, earlier_key}
 
 find_never : {X : Type 0} (xs : List X) → find (λ x. false) xs ≡ None
@@ -128,6 +128,10 @@ goes_on done left all r rest e h = append_assoc done (r ∷ []) rest ∙ ap (λ 
 pub none_in_empty : {V : Type 0} (owner : List (List ℕ)) (records : List PlainRecord) (entries : List (PlainPrefix × V)) → length entries ≡ 0 → None ≡ first_about owner records entries
 none_in_empty owner records [] empty = refl
 none_in_empty owner records (e ∷ es) empty = absurd (omega arith)
+
+pub none_without_rules : {V : Type 0} (owner : List (List ℕ)) (records : List PlainRecord) (entries : List (PlainPrefix × V)) → has_some entries ≡ false → None ≡ first_about owner records entries
+none_without_rules owner records [] none = refl
+none_without_rules owner records (e ∷ es) none = cc none
 
 -- all of them
 pub all_done : {V : Type 0} (owner : List (List ℕ)) (done left records : List PlainRecord) (entries : List (PlainPrefix × V)) (first : Option PlainPrefix) → done ++ left ≡ records → left ≡ []

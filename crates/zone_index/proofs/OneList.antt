@@ -27,7 +27,7 @@ module _ {K X : Type 0} (P : K → Type 0) where
   keys-remove test (e ∷ es) h = elim (test e.0) as (λ b. AllByRecursion P (keys_of (cond b es (e ∷ remove_entry test es)))) [ true ↦ h.1 | false ↦ (h.0, keys-remove test es h.1) ]
 
 module _ {K X : Type 0} {R : K → K → Ordering} (o : IsTotalOrder R) where
-  none_found : (q : K) (es : List (K × X)) → AllByRecursion (λ y. is_at (R q) y ≡ false) (keys_of es) → lookup (is_at (R q)) es ≡ None
+  pub none_found : (q : K) (es : List (K × X)) → AllByRecursion (λ y. is_at (R q) y ≡ false) (keys_of es) → lookup (is_at (R q)) es ≡ None
   none_found q [] h = refl
   none_found q (e ∷ es) h = ap (λ (b : Bool). cond b (Some e.1) (lookup (is_at (R q)) es)) h.0 ∙ none_found q es h.1
 

@@ -50,7 +50,7 @@ equal_trigger laws (NsDname p) (NsDname q) is_t is_u h = ap NsDname (equal_patte
 equal_trigger laws (NsIp p) (NsIp q) is_t is_u h = ap NsIp (equal_prefix p q h)
 equal_trigger laws t u is_t is_u h = absurd (true≢false (sym h))
 
-same_itself : (t : Trigger) → is_same t t ≡ true
+pub same_itself : (t : Trigger) → is_same t t ≡ true
 same_itself (ClientIp p) = at_itself prefix_order_total p
 same_itself (Qname p) = at_itself pattern_order_total p
 same_itself (ResponseIp p) = at_itself prefix_order_total p

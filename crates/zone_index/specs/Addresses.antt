@@ -1,5 +1,5 @@
 -- The rules about the addresses of an answer (draft-vixie-dnsop-dns-rpz, section 4.3).
-use Rattle.std.specs.Prelude.{ℕ, Bool, true, false, ◌&&◌, List, [], ◌∷◌, Option, Some, None}
+use Rattle.std.specs.Prelude.{Bool, true, false, ◌&&◌, List, [], ◌∷◌, Option, Some, None}
 use Rattle.std.specs.List.{find, list_any}
 use Rattle.dns_name.specs.Labels.{Name}
 use Rattle.dns_name.specs.Alike.{same_name}

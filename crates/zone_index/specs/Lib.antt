@@ -1,7 +1,16 @@
+pub mod Does
+pub mod Lent
+pub mod Kept
+pub mod Entry
+pub mod Places
+pub mod Groups
+pub mod Counted
 pub mod Kinds
 pub mod Addresses
 pub mod Earlier
 pub mod Laws
 pub mod Rules
 pub mod Listed
+pub mod Placed
+pub mod Gathering
 pub mod Indexed

@@ -1,5 +1,5 @@
 -- The rules of a zone as one list: what a reader must believe of them (draft-vixie-dnsop-dns-rpz, sections 3 to 5).
-use Rattle.std.specs.Prelude.{ℕ, Bool, false, List, [], ◌∷◌, ◌++◌, map, filter, flat_map, Option, Some, None}
+use Rattle.std.specs.Prelude.{Bool, false, List, [], ◌∷◌, ◌++◌, map, filter, flat_map, Option, Some, None}
 use Rattle.std.specs.BTreeMap.{is_at}
 use Rattle.dns_name.specs.Labels.{Name}
 use Rattle.ip_prefix.specs.Prefix.{prefix_order}

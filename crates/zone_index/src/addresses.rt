@@ -10,30 +10,30 @@ ghost use Rattle.ip_prefix.specs.Prefix.{prefix_order};
 ghost use Rattle.prefix_index.specs.Longest.{longest};
 ghost use Rattle.zone_index.specs.Addresses.{first_about as first_of, holds_within};
 ghost use Rattle.zone_index.specs.Earlier.{earlier_key};
+ghost use Rattle.zone_index.specs.Placed.{rules_in};
 
-use action_codec::{Action, ActionRef};
+use crate::indexed::IndexedRows;
+use action_codec::ActionRef;
 use dns_message::RecordRefs;
 use dns_name::Name;
 use dns_record::RecordRef;
 use ip_prefix::{Addr, Prefix};
-use prefix_index::PrefixMap;
 use std::cmp::Ordering;
+use trigger_codec::{Kind, Trigger};
 
 /// The prefix of the rule that comes first of those whose prefix contains some address that the records hold for the
 /// name.
 pub(crate) fn first_prefix(
-    rules: &PrefixMap<Action>,
+    rows: &IndexedRows,
     owner: &Name,
     records: &RecordRefs<'_>,
 ) -> Option<Prefix>
-    ensures prefix { result ≡ option_map (λ e. e.0) (first_of owner.now records.now rules.now) }
-    ensures sorted { IsStrictlySortedBy prefix_order (keys_of rules.now) }
+    ensures prefix { result ≡ option_map (λ e. e.0) (first_of owner.now records.now (rules_in rows.now).response_ip) }
+    ensures sorted { IsStrictlySortedBy prefix_order (keys_of (rules_in rows.now).response_ip) }
 {
-    // called for its clause: the rules stand in order
-    let _count = rules.len();
     let mut first = None;
     for rr in records.iter() {
-        first = earlier(first, about_record(rules, owner, rr));
+        first = earlier(first, about_record(rows, owner, rr));
     }
     first
 }
@@ -41,26 +41,26 @@ pub(crate) fn first_prefix(
 // The prefix of the rule that comes first of those whose prefix contains the address that the record holds for the
 // name.
 #[tactic(auto, using(crate::proofs::FirstRule::by_address))]
-fn about_record(rules: &PrefixMap<Action>, owner: &Name, rr: RecordRef<'_>) -> Option<Prefix>
+fn about_record(rows: &IndexedRows, owner: &Name, rr: RecordRef<'_>) -> Option<Prefix>
     ensures { result
-        ≡ option_map (λ e. e.0) (find (λ e. holds_within e.0 owner.now rr.entry) rules.now) }
+        ≡ option_map (λ e. e.0) (find (λ e. holds_within e.0 owner.now rr.entry) (rules_in rows.now).response_ip) }
 {
     if !rr.owner().is_same(owner) {
         return None;
     }
     match rr.address() {
         None => None,
-        Some(addr) => longest_prefix(rules, addr),
+        Some(addr) => longest_prefix(rows, addr),
     }
 }
 
 // The longest prefix that contains the address and has a rule.
-fn longest_prefix(rules: &PrefixMap<Action>, addr: Addr) -> Option<Prefix>
-    ensures { result ≡ option_map (λ e. e.0) (longest addr rules.now) }
+fn longest_prefix(rows: &IndexedRows, addr: Addr) -> Option<Prefix>
+    ensures { result ≡ option_map (λ e. e.0) (longest addr (rules_in rows.now).response_ip) }
 {
-    match rules.longest(addr) {
+    match rows.response_ip(addr) {
         None => None,
-        Some((prefix, _)) => Some(prefix),
+        Some(found) => Some(found.0),
     }
 }
 
@@ -83,19 +83,19 @@ fn earlier(first: Option<Prefix>, other: Option<Prefix>) -> Option<Prefix>
 
 /// The rule of this prefix, which comes first of those about an answer.
 pub(crate) fn first_about<'a>(
-    rules: &'a PrefixMap<Action>,
+    rows: &'a IndexedRows,
     owner: &Name,
     records: &RecordRefs<'_>,
 ) -> Option<(Prefix, ActionRef<'a>)>
     ensures { option_map (λ e. (e.0, action_seen e.1)) result
-        ≡ first_of owner.now records.now rules.now }
+        ≡ first_of owner.now records.now (rules_in rows.now).response_ip }
 {
-    if rules.len() == 0 {
+    if !rows.has(Kind::ResponseIp) {
         return None;
     }
-    let prefix = first_prefix(rules, owner, records)?;
-    match rules.get(prefix) {
+    let prefix = first_prefix(rows, owner, records)?;
+    match rows.rule(&Trigger::ResponseIp(prefix)) {
         None => None,
-        Some(action) => Some((prefix, action.lend())),
+        Some(action) => Some((prefix, action)),
     }
 }

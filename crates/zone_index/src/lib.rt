@@ -1,17 +1,38 @@
-//! Policy zones with their rules, and which rule comes first for a name or an address.
+//! A policy zone with its rules, found by trigger.
 #![tactic(auto)]
 
 mod addresses;
 mod by_kind;
+mod does;
+mod edit_error;
+mod editing;
+mod entry;
+mod finding;
+mod gathering;
 mod group;
-mod groups;
-mod kinds;
+mod indexed;
+mod kept;
+mod later;
 pub mod laws;
+mod lending;
+mod loaded;
+mod look_up;
+mod looking;
+mod numbers;
+mod patterns;
+mod place;
+mod places;
+mod prefixes;
+mod row_place;
 mod rules;
+mod settling;
+mod stepping;
+mod tally;
+mod tries;
+mod trigger_index;
+mod usage;
 mod zone;
 
-// Contracts of other crates can name the rules only if the types of their fields are exported, too.
-#[doc(hidden)]
 pub use by_kind::ByKind;
 pub use rules::Rules;
 pub use zone::{Index, Zone};

@@ -1,46 +1,63 @@
 //! A policy zone with its rules.
 
-ghost use Rattle.std.specs.Prelude.{◌≡◌, option_copied, option_map, IfOk};
+ghost use Rattle.std.specs.Prelude.{◌≡◌, option_copied, option_map};
 ghost use Rattle.action_codec.specs.Seen.{action_seen};
 ghost use Rattle.zone_rows.specs.Content.{content_count, content_serial, unloaded};
 ghost use Rattle.zone_rows.specs.Distinct.{HasDistinctRows};
 ghost use Rattle.zone_rows.specs.Zone.{Gives, apply_outcome};
-ghost use Rattle.zone_index.specs.Indexed.{HasRows, content_rule, index_of};
+ghost use Rattle.zone_index.specs.Indexed.{GivesLoaded, HasRows, content_after, content_rule, index_of};
 
+use crate::indexed::copied_name;
+use crate::loaded::{Loaded, stepped, whole};
 use crate::rules::Rules;
 use action_codec::ActionRef;
 use dns_name::Name;
-use dns_record::{Record, Row, Soa};
-use std::alloc::{AllocError, Global};
+use dns_record::{Record, Soa};
+use std::alloc::Global;
 use std::marker::Model;
 use trigger_codec::Trigger;
-use zone_rows::{ApplyError, Content, PlainZone, Rows, Transfer};
+use zone_rows::{ApplyError, Transfer};
 
 /// A policy zone: its origin, and what it holds once a transfer was taken. Contracts see these, and not the index.
 #[derive(Drop)]
 pub struct Zone {
-    zone: PlainZone,
+    origin: Name,
     // `None` where nothing is loaded.
-    index: Option<Index>,
+    loaded: Option<Loaded>,
 }
 
-/// The index of a loaded zone: its rules, and the SOA record that replies by them carry.
+/// The index of a loaded zone, lent: the SOA record that replies by its rules carry, and its rules.
 #[derive(Drop)]
-pub struct Index {
-    soa_record: Record,
-    rules: Rules,
+pub struct Index<'a> {
+    soa_record: &'a Record,
+    rules: Rules<'a>,
 }
 
-impl Index {
+impl<'a> Model for Index<'a> {
+    ghost use Rattle.zone_index.specs.Indexed.{PlainIndex};
+
+    ghost Value = { PlainIndex };
+
+    ghost view = { λ i. record { soa_record = i.soa_record.now; rules = i.rules } };
+}
+
+impl<'a> Index<'a> {
+    // The index of what is loaded.
+    pub(crate) fn new(soa_record: &'a Record, rules: Rules<'a>) -> Self
+        ensures { result ≡ record { soa_record = soa_record.now; rules = rules.entry } }
+    {
+        Index { soa_record, rules }
+    }
+
     /// The SOA record of the zone, its origin as owner.
-    pub fn soa_record(&self) -> &Record
+    pub fn soa_record(&self) -> &'a Record
         ensures { result.now ≡ self.now.soa_record }
     {
-        &self.soa_record
+        self.soa_record
     }
 
     /// The rules of the zone.
-    pub fn rules(&self) -> &Rules
+    pub fn rules(&self) -> &Rules<'a>
         ensures { result.now ≡ self.now.rules }
     {
         &self.rules
@@ -49,13 +66,13 @@ impl Index {
 
 impl Model for Zone {
     ghost use Rattle.zone_rows.specs.declared.zone.PlainZone.{PlainZone};
-    ghost use Rattle.zone_index.specs.Indexed.{IsIndexed};
+    ghost use Rattle.zone_index.specs.Indexed.{IsLoadedIf, content_of};
 
     ghost Value = { PlainZone };
 
-    ghost view = { λ z. z.zone };
+    ghost view = { λ z. record { origin = z.origin; content = content_of z.loaded } };
 
-    ghost invariant = { IsIndexed };
+    ghost invariant = { λ z. IsLoadedIf z.origin z.loaded };
 }
 
 impl Zone {
@@ -64,11 +81,8 @@ impl Zone {
         ensures { result ≡ unloaded origin }
     {
         Zone {
-            zone: PlainZone {
-                origin,
-                content: None,
-            },
-            index: None,
+            origin,
+            loaded: None,
         }
     }
 
@@ -76,16 +90,16 @@ impl Zone {
     pub fn origin(&self) -> &Name
         ensures { result.now ≡ self.now.origin }
     {
-        &self.zone.origin
+        &self.origin
     }
 
     /// The serial of what is loaded; `None` where nothing is.
     pub fn serial(&self) -> Option<u32>
         ensures { result ≡ content_serial self.now.content }
     {
-        match &self.zone.content {
+        match &self.loaded {
             None => None,
-            Some(content) => Some(content.soa.serial),
+            Some(loaded) => Some(loaded.soa.serial),
         }
     }
 
@@ -93,9 +107,9 @@ impl Zone {
     pub fn soa(&self) -> Option<&Soa>
         ensures { option_copied result ≡ option_map (λ content. content.soa) self.now.content }
     {
-        match &self.zone.content {
+        match &self.loaded {
             None => None,
-            Some(content) => Some(&content.soa),
+            Some(loaded) => Some(&loaded.soa),
         }
     }
 
@@ -103,73 +117,61 @@ impl Zone {
     pub fn row_count(&self) -> Option<usize>
         ensures { result ≡ content_count self.now.content }
     {
-        match &self.zone.content {
+        match &self.loaded {
             None => None,
-            Some(content) => Some(content.rows.len()),
+            Some(loaded) => Some(loaded.rows.len()),
         }
     }
 
-    /// The zone after a transfer, whole or in steps, with an index of its own, or why it can't take it. After steps, too, the
-    /// index is that of a rebuild from all rows: see [`Zone::index`]. This zone stays as it is.
+    /// The zone after a transfer, whole or in steps, or why it can't take it. This zone stays as it is, and shares with the new one
+    /// what is the same in both. The time of steps is that of the rows that they name, each with the rows of its trigger, and of one
+    /// word for each 512 rows of the zone; but where that is more than the time of a whole transfer of the zone's rows, they are
+    /// applied to its rows, and the index is made anew.
     pub fn apply(&self, alloc: Global, transfer: Transfer) -> Result<Zone, ApplyError>
         ensures { Gives result (apply_outcome self.now transfer) }
     {
-        let zone = self.zone.apply(alloc, transfer)?;
-        let index = index_for(alloc, &zone.origin, zone.content.as_ref())?;
-        Ok(Zone { zone, index })
+        match self.loaded_after(alloc, transfer) {
+            Err(error) => Err(error),
+            Ok(loaded) => Ok(Zone {
+                origin: copied_name(&self.origin)?,
+                loaded: Some(loaded),
+            }),
+        }
+    }
+
+    // What is loaded after a transfer.
+    fn loaded_after(&self, alloc: Global, transfer: Transfer) -> Result<Loaded, ApplyError>
+        ensures { GivesLoaded result self.now.origin (content_after self.now.content transfer) }
+    {
+        match transfer {
+            Transfer::Whole { soa, rows } => {
+                whole(alloc, &self.origin, self.loaded.as_ref(), soa, rows)
+            }
+            Transfer::Steps(steps) => stepped(alloc, &self.origin, self.loaded.as_ref(), steps),
+        }
     }
 
     /// The index of what is loaded; `None` where nothing is. Its clauses also say that the rows are rows, which
     /// the laws of rules want, and that no two of them have one identity.
-    pub fn index(&self) -> Option<&Index>
-        ensures index { option_copied result ≡ index_of self.now.origin self.now.content }
+    pub fn index(&self) -> Option<Index<'_>>
+        ensures index { result ≡ index_of self.now.origin self.now.content }
         ensures rows { HasRows self.now.content }
         ensures distinct { HasDistinctRows self.now }
     {
-        self.index.as_ref()
+        match &self.loaded {
+            None => None,
+            Some(loaded) => Some(loaded.index()),
+        }
     }
 
     /// What the rule of exactly this trigger does: what the live rows of the trigger do. `None` where there are
     /// none, or they do nothing. It takes no memory, and its time is logarithmic in the number of rules.
-    #[tactic(auto, using(crate::proofs::Zones::rule_of_index))]
     pub fn rule(&self, trigger: &Trigger) -> Option<ActionRef<'_>>
         ensures { option_map action_seen result ≡ content_rule self.now.origin self.now.content trigger.now }
     {
-        match &self.index {
+        match &self.loaded {
             None => None,
-            Some(index) => index.rules.get(trigger),
+            Some(loaded) => loaded.rows.rule(trigger),
         }
     }
-}
-
-// The index of what a zone holds.
-fn index_for(
-    alloc: Global,
-    origin: &Name,
-    content: Option<&Content>,
-) -> Result<Option<Index>, AllocError>
-    ensures index { IfOk result
-        (λ index. index ≡ index_of origin.now (option_copied content.entry)) }
-    ensures rows { IfOk result (λ _. HasRows (option_copied content.entry)) }
-{
-    match content {
-        None => Ok(None),
-        Some(content) => {
-            let soa_record = content.soa.record(alloc, origin.clone()?)?;
-            let rows = own_rows(alloc, &content.rows)?;
-            let rules = Rules::of(alloc, origin, &rows)?;
-            Ok(Some(Index { soa_record, rules }))
-        }
-    }
-}
-
-// The rows, each on its own.
-fn own_rows(alloc: Global, rows: &Rows) -> Result<Vec<Row>, AllocError>
-    ensures { IfOk result (λ all. all.items ≡ rows.now) }
-{
-    let mut all = Vec::with_capacity(alloc, rows.len())?;
-    for place in 0..rows.len() {
-        all.push(rows.at(place).to_row(alloc)?)?;
-    }
-    Ok(all)
 }

@@ -1,9 +1,0 @@
-use Rattle.std.proofs.Common.{ap, ◌∙◌}
-use Rattle.trigger_index.specs.Places.{PlainPlaces, best_rule}
-use Rattle.trigger_index.proofs.index.TriggerIndex.qname.Goals as goal
-
-pub best-requires : goal.best-requires
-best-requires c = record { well = c.self.invariant.qname; lower = c.requires }
-
-pub returns : goal.returns
-returns c = c.best.ensures ∙ ap (λ (p : PlainPlaces). best_rule c.args.name.now p.rules.qname) c.self.view_is

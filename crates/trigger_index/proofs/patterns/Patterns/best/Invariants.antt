@@ -1,4 +1,0 @@
-use Rattle.trigger_index.proofs.patterns.Patterns.best.Given as goal
-
-abbrev pub ghosts-best_from : goal.ghosts-best_from
-ghosts-best_from a = record { name = a.blank.name; parts = a.blank.parts }

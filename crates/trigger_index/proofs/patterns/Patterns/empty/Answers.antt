@@ -1,5 +1,0 @@
-use Rattle.trigger_index.proofs.Lower.{patterns_none}
-use Rattle.trigger_index.proofs.patterns.Patterns.empty.Goals as goal
-
-pub invariant_of-result : goal.invariant_of-result
-invariant_of-result c = patterns_none c.empty.result c.empty.ensures

@@ -1,4 +1,0 @@
-use Rattle.trigger_index.proofs.prefixes.Prefixes.longest.Given as goal
-
-abbrev pub ghosts-longest_from : goal.ghosts-longest_from
-ghosts-longest_from a = record { name = a.blank.name; parts = a.blank.parts }

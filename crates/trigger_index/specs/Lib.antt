@@ -1,7 +1,0 @@
-pub mod Does
-pub mod Lent
-pub mod Kept
-pub mod Entry
-pub mod Places
-pub mod Groups
-pub mod Counted

@@ -1,0 +1,16 @@
+use Rattle.std.proofs.Common.{◌+◌, ◌∙◌}
+use Rattle.std.proofs.lemmas.Result.{err_from_is_err_and}
+use Rattle.zone_rows.specs.Steps.{without_deleted}
+use Rattle.zone_index.proofs.Stepped.{deleted_fails, deleted_next}
+use Rattle.zone_index.proofs.stepping.delete_all.Goals as goal
+
+pub loop-place-preserved : goal.loop-place-preserved
+loop-place-preserved c = (
+  deleted_next (c.args.step + 1) c.args.deleted.now c.loop-place.place c.at.result c.at.ensures.row c.loop-place.rows.rows c.in_ok-rows.rows.rows (without_deleted (c.args.step + 1) 1 c.args.rows.rows c.args.deleted.now) c.loop-place.invariant.0 c.in_ok-rows.ensures.0,
+  c.in_ok-rows.ensures.1 ∙ c.loop-place.invariant.1,
+)
+
+pub returns-in_err-rows : goal.returns-in_err-rows
+returns-in_err-rows c =
+    let p = err_from_is_err_and c.from_residual.result c.from_residual.ensures.1 in
+    rw (p.1, p.2) (deleted_fails (c.args.step + 1) c.args.deleted.now c.loop-place.place c.at.result c.at.ensures.row c.in_err-rows.field-0.0 c.loop-place.rows.rows (without_deleted (c.args.step + 1) 1 c.args.rows.rows c.args.deleted.now) c.loop-place.invariant.0 c.in_err-rows.ensures)

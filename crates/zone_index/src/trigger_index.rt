@@ -1,0 +1,209 @@
+//! What stands at each trigger.
+
+ghost use Rattle.std.specs.Prelude.{◌≡◌, ◌≤◌, length, IfOk};
+ghost use Rattle.std.specs.Option.{option_map};
+ghost use Rattle.dns_name.specs.Labels.{lowered};
+ghost use Rattle.zone_index.specs.Entry.{entry_seen};
+ghost use Rattle.zone_index.specs.Places.{AreLower, AreRanked, best_rule, entry_at, has_rule, longest_rule, no_places, rule_at, with_entry, without_entry};
+
+use crate::does::Does;
+use crate::entry::EntryRef;
+use crate::group::{Group, keep, lend};
+use crate::look_up::{best, longest};
+use crate::patterns::Patterns;
+use crate::place::Place;
+use crate::places::Places;
+use crate::prefixes::Prefixes;
+use crate::tries;
+use crate::usage::Usage;
+use dns_name::Name;
+use ip_prefix::{Addr, Prefix};
+use name_trie::PatternRef;
+use shared_list::{Held, Share, SharedTable};
+use std::alloc::{AllocError, Global};
+use std::marker::Model;
+use trigger_codec::{Kind, Trigger};
+
+/// What stands at the places of a zone. Contracts see the entries of each kind of trigger in order of precedence, and those of the
+/// other rows. A copy shares what is the same in both.
+#[derive(Drop)]
+pub struct TriggerIndex {
+    places: Places<Prefixes, Patterns>,
+    groups: SharedTable<Held<Group>>,
+    usage: Usage,
+    alloc: Global,
+}
+
+impl Model for TriggerIndex {
+    ghost use Rattle.zone_index.specs.Groups.{AreAllWell, places_in};
+    ghost use Rattle.zone_index.specs.Places.{PlainPlaces};
+
+    ghost Value = { PlainPlaces };
+
+    ghost view = { λ t. places_in t.groups t.places };
+
+    ghost invariant = { λ t. AreAllWell t.groups t.places };
+}
+
+impl TriggerIndex {
+    /// Nothing. It takes no memory.
+    pub fn empty(alloc: Global) -> Self
+        ensures { result ≡ no_places }
+    {
+        TriggerIndex {
+            places: tries::empty(alloc),
+            groups: SharedTable::new(alloc),
+            usage: Usage::none(),
+            alloc,
+        }
+    }
+
+    /// The same version once more: for edits that leave this one as it is.
+    pub fn share(&self) -> Result<Self, AllocError>
+        ensures { IfOk result (λ index. index ≡ self.now) }
+    {
+        let groups = self.groups.share()?;
+        let places = tries::share(&self.places)?;
+        Ok(TriggerIndex {
+            places,
+            groups,
+            usage: self.usage,
+            alloc: self.alloc,
+        })
+    }
+
+    /// What stands at the place. It takes no memory.
+    pub fn get(&self, place: &Place) -> Option<EntryRef<'_>>
+        ensures { option_map entry_seen result ≡ entry_at self.now place.now }
+    {
+        match tries::get(&self.places, place) {
+            Some(value) => Some(lend(&self.groups, value)),
+            None => None,
+        }
+    }
+
+    /// What stands at the trigger. It takes no memory.
+    pub fn rule(&self, trigger: &Trigger) -> Option<EntryRef<'_>>
+        ensures { option_map entry_seen result ≡ rule_at self.now.rules trigger.now }
+    {
+        match tries::get_rule(&self.places.rules, trigger) {
+            Some(value) => Some(lend(&self.groups, value)),
+            None => None,
+        }
+    }
+
+    /// With these rows at the place, in place of this version. There is at least one.
+    pub fn put(self, place: &Place, numbers: &[u32], does: Does) -> Result<Self, AllocError>
+        requires { 1 ≤ length numbers.now }
+        ensures { IfOk result (λ index. index
+            ≡ with_entry self place.now (record { numbers = numbers.now; does = does })) }
+    {
+        let usage = self.usage_without(place).with_entry();
+        let TriggerIndex {
+            places,
+            groups,
+            usage: _,
+            alloc,
+        } = self;
+        let mut groups = groups;
+        let value = keep(alloc, &mut groups, numbers, does)?;
+        let places = tries::put(places, place, value)?;
+        Ok(TriggerIndex {
+            places,
+            groups,
+            usage,
+            alloc,
+        })
+    }
+
+    /// Without what stands at the place, in place of this version.
+    pub fn take(self, place: &Place) -> Result<Self, AllocError>
+        ensures { IfOk result (λ index. index ≡ without_entry self place.now) }
+    {
+        let usage = self.usage_without(place);
+        let TriggerIndex {
+            places,
+            groups,
+            usage: _,
+            alloc,
+        } = self;
+        let places = tries::take(places, place)?;
+        Ok(TriggerIndex {
+            places,
+            groups,
+            usage,
+            alloc,
+        })
+    }
+
+    // The usage without what stands at the place.
+    fn usage_without(&self, place: &Place) -> Usage {
+        match self.get(place) {
+            Some(entry) => self.usage.without_entry(entry.numbers.in_group()),
+            None => self.usage,
+        }
+    }
+
+    /// Whether so many numbers stand in groups for nothing that the index is better built anew: more than 8,192, and more than
+    /// there are entries.
+    pub fn is_thin(&self) -> bool {
+        self.usage.is_thin()
+    }
+
+    /// Whether there is a rule of this kind. It takes constant time.
+    pub fn has(&self, kind: Kind) -> bool
+        ensures { result ≡ has_rule self.now.rules kind }
+    {
+        tries::has(&self.places.rules, kind)
+    }
+
+    /// Called for its clauses: triggers and owners stand in order of precedence, each once, and their names are in lower case.
+    pub fn in_order(&self)
+        ensures ranked { AreRanked self.now }
+        ensures lower { AreLower self.now }
+    {
+        tries::in_order(&self.places);
+    }
+
+    /// The rule that comes first of those about a client of this address.
+    pub fn client_ip(&self, addr: Addr) -> Option<(Prefix, EntryRef<'_>)>
+        ensures { option_map (λ e. (e.0, entry_seen e.1)) result
+            ≡ longest_rule addr self.now.rules.client_ip }
+    {
+        longest(&self.groups, &self.places.rules.client_ip, addr)
+    }
+
+    /// The rule that comes first of those about a query for the name, which is in lower case.
+    pub fn qname(&self, name: &Name) -> Option<(PatternRef<'_>, EntryRef<'_>)>
+        requires { lowered name.now ≡ name.now }
+        ensures { option_map (λ e. (e.0, entry_seen e.1)) result
+            ≡ best_rule name.now self.now.rules.qname }
+    {
+        best(&self.groups, &self.places.rules.qname, name)
+    }
+
+    /// The rule that comes first of those about this address in an answer.
+    pub fn response_ip(&self, addr: Addr) -> Option<(Prefix, EntryRef<'_>)>
+        ensures { option_map (λ e. (e.0, entry_seen e.1)) result
+            ≡ longest_rule addr self.now.rules.response_ip }
+    {
+        longest(&self.groups, &self.places.rules.response_ip, addr)
+    }
+
+    /// The rule that comes first of those about a name server of this name, which is in lower case.
+    pub fn nsdname(&self, name: &Name) -> Option<(PatternRef<'_>, EntryRef<'_>)>
+        requires { lowered name.now ≡ name.now }
+        ensures { option_map (λ e. (e.0, entry_seen e.1)) result
+            ≡ best_rule name.now self.now.rules.nsdname }
+    {
+        best(&self.groups, &self.places.rules.nsdname, name)
+    }
+
+    /// The rule that comes first of those about a name server of this address.
+    pub fn nsip(&self, addr: Addr) -> Option<(Prefix, EntryRef<'_>)>
+        ensures { option_map (λ e. (e.0, entry_seen e.1)) result
+            ≡ longest_rule addr self.now.rules.nsip }
+    {
+        longest(&self.groups, &self.places.rules.nsip, addr)
+    }
+}
