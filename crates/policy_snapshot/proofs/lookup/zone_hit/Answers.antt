@@ -9,4 +9,4 @@ returns-in-Some c =
     let sight = sight_seen c.args.sight.now in
     c.rules_hit.ensures
     ∙ (λ i. index_hit c.args.number (c.soa_record.ensures i) sight (c.rules.ensures i))
-    ∙ hit_in_zone c.args.number sight c.args.zone.now.origin c.args.zone.now.content c.in-Some.index.now c.in-Some.ensures.index
+    ∙ hit_in_zone c.args.number sight c.args.zone.now.origin c.args.zone.now.content c.in-Some.index c.in-Some.ensures.index
