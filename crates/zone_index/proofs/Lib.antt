@@ -4,6 +4,12 @@ pub mod Lower
 pub mod Growing
 pub mod TrieEdits
 pub mod Versions
+pub mod Filled
+pub mod Settled
+pub mod Owners
+pub mod OctetsApart
+pub mod InTwoParts
+pub mod Listing
 pub mod Found
 pub mod ByKey
 pub mod Edited

@@ -1,5 +1,5 @@
 -- What an index stands for, after each of its functions, in their words: `whole` is the value that contracts see.
-use Rattle.std.proofs.Common.{◌≡◌, ℕ, List, Some, None, sym, ap, ◌∙◌, subst, IfSome}
+use Rattle.std.proofs.Common.{◌≡◌, ℕ, List, Option, Some, None, refl, sym, ap, ◌∙◌, subst, IfSome}
 use Rattle.std.specs.Option.{option_map}
 use Rattle.trie_keys.specs.declared.marked.Marked.{Marked}
 use Rattle.zone_index.proofs.TrieEdits.{at_place, places_with, places_without, well_at, well_with, well_without}
@@ -23,6 +23,10 @@ none_well groups places e =
 pub same_well : (groups other : List Group) (places made : Kepts) → other ≡ groups → made ≡ places → AreAllWell groups places → AreAllWell other made
 same_well groups other places made g e well = subst (λ p. AreAllWell other p) (sym e) (subst (λ gs. AreAllWell gs places) (sym g) well)
 
+nothing_of : {X Y : Type 0} (f : X → Y) (o : Option X) → option_map f o ≡ None → o ≡ None
+nothing_of f None e = refl
+nothing_of f (Some x) e = cc e
+
 module _ (groups : List Group) (places : Kepts) (whole : PlainPlaces) (well : AreAllWell groups places) (view : places_in groups places ≡ whole) (place : Place) where
   pub there_at : (v : Marked ℕ Kept) → Some v ≡ entry_at places place → IsThere groups v
   there_at v e = let h : IfSome (Some v) (IsWell groups) = subst (λ o. IfSome o (IsWell groups)) (sym e) (well_at groups places well place) in h.there
@@ -35,6 +39,9 @@ module _ (groups : List Group) (places : Kepts) (whole : PlainPlaces) (well : Ar
 
   pub none_at : None ≡ entry_at places place → None ≡ entry_at whole place
   none_at e = ap (option_map (entry_in groups)) e ∙ at_whole
+
+  pub none_inside : entry_at whole place ≡ None → entry_at places place ≡ None
+  none_inside e = nothing_of (entry_in groups) (entry_at places place) (at_whole ∙ e)
 
   pub taken_well : (made : Kepts) → made ≡ without_entry places place → AreAllWell groups made
   taken_well made e = subst (λ p. AreAllWell groups p) (sym e) (well_without groups places place well)

@@ -1,68 +1,47 @@
--- How the rows of many places are put in order at once: the first row of each place stands alone at first, and the numbers of the
--- others are kept by its number.
-use Rattle.std.specs.Prelude.{◌≡◌, ℕ, eqb, if◌then◌else◌, List, [], ◌∷◌, ◌++◌, map, Option, Some, None}
-use Rattle.std.specs.BTreeMap.{BTreeMap, get}
-use Rattle.std.specs.Global.{Vec}
-use Rattle.std.specs.List.{list_any}
-use Rattle.std.specs.Ordering.{nat_cmp}
+-- How the rows of many places are put in order at once: they are sorted by the octets of their places, and those of one place are
+-- taken together.
+use Rattle.std.specs.Prelude.{◌≡◌, ℕ, ◌<◌, List, [], ◌∷◌, length, map}
+use Rattle.std.specs.List.{AllByRecursion}
 use Rattle.dns_name.specs.Labels.{Name}
-use Rattle.row_list.specs.Stored.{PlainStored, row_of_number}
+use Rattle.key_list.specs.Keyed.{AreInOrder, PlainKeyed, numbers_with}
+use Rattle.row_list.specs.Stored.{PlainStored}
+use Rattle.zone_index.specs.PlaceOctets.{IsSized, place_octets}
+use Rattle.zone_index.specs.Placed.{IsPlace, entry_for, row_place, rows_by, stored_at}
 use Rattle.zone_index.specs.Places.{PlainPlaces, entry_at}
 use Rattle.zone_index.specs.declared.place.Place.{Place}
 use Rattle.zone_rows.specs.Stored.{plain_row}
-use Rattle.zone_index.specs.Placed.{IsPlace, entry_for, put_at, row_place, stored_at}
 
--- ---- the others
+-- the numbers of rows, by the octets of their places
+abbrev pub keyed_rows : Name → List PlainStored → List PlainKeyed
+keyed_rows origin rows = map (λ s. record { key = place_octets (row_place origin (plain_row s)); number = s.number }) rows
 
--- numbers that may stand under one
-abbrev pub numbers_if : Option (Vec ℕ) → List ℕ
-numbers_if None = []
-numbers_if (Some numbers) = numbers.items
+abbrev pub AreSized : Name → List PlainStored → Type 0
+AreSized origin rows = AllByRecursion (λ s. IsSized (row_place origin (plain_row s))) rows
 
--- the numbers under a number
-abbrev pub numbers_under : BTreeMap ℕ (Vec ℕ) → ℕ → List ℕ
-numbers_under others number = numbers_if (get nat_cmp others number)
+-- the list has the numbers of these rows
+pub record IsListed (origin : Name) (rows : List PlainStored) (list : List PlainKeyed) : Type 0 where
+  pub listed : list ≡ keyed_rows origin rows
+  pub sized : AreSized origin rows
 
--- the same with one more under the first of these two numbers
-abbrev pub with_other : ℕ → ℕ → (ℕ → List ℕ) → ℕ → List ℕ
-with_other first other others number = others number ++ (if eqb first number then other ∷ [] else [])
+-- keys in order, which have the numbers of these rows
+pub record AreKeysOf (origin : Name) (rows : List PlainStored) (keys : List PlainKeyed) : Type 0 where
+  pub in_order : AreInOrder keys
+  pub numbers : (key : List ℕ) → numbers_with key keys ≡ numbers_with key (keyed_rows origin rows)
+  pub sized : AreSized origin rows
 
--- the numbers of the rows behind the first, if that has this number
-abbrev pub behind : ℕ → List PlainStored → List ℕ
-behind number [] = []
-behind number (s ∷ ss) = if eqb s.number number then map (λ r. r.number) ss else []
+-- some keys of one place, each with the number of a row
+pub record IsRunOf (place : Place) (rows : List PlainStored) (run : List PlainKeyed) : Type 0 where
+  pub some : 0 < length run
+  pub octets : AllByRecursion (λ k. k.key ≡ place_octets place) run
+  pub found : map (λ k. k.number) run ≡ map (λ s. s.number) (rows_by (map (λ k. k.number) run) rows)
 
-abbrev pub others_by : Name → List PlainStored → Option PlainStored → List ℕ
-others_by origin rows None = []
-others_by origin rows (Some s) = behind s.number (stored_at origin rows (row_place origin (plain_row s)))
+-- the rows of a place, if none of their numbers is left
+abbrev pub if_taken : List ℕ → List PlainStored → List PlainStored
+if_taken [] rows = rows
+if_taken (n ∷ ns) rows = []
 
--- the numbers of the other rows at the place of the row of this number, if that is the first there
-abbrev pub others_of : Name → List PlainStored → ℕ → List ℕ
-others_of origin rows number = others_by origin rows (row_of_number number rows)
-
--- ---- what stands at the places meanwhile
-
--- the first of the rows alone
-abbrev pub only_first : List PlainStored → List PlainStored
-only_first [] = []
-only_first (s ∷ ss) = s ∷ []
-
--- at each place stands its first row alone, and the numbers of the others are kept
-pub record IsGathered (origin : Name) (rows : List PlainStored) (places : PlainPlaces) (others : ℕ → List ℕ) : Type 0 where
-  pub firsts : (place : Place) → IsPlace place → entry_at places place ≡ entry_for place (only_first (stored_at origin rows place))
-  pub kept : (number : ℕ) → others number ≡ others_of origin rows number
-
--- all rows of a place where the first has one of these numbers, and else the first alone
-abbrev pub all_or_first : List ℕ → List PlainStored → List PlainStored
-all_or_first numbers [] = []
-all_or_first numbers (s ∷ ss) = if list_any (eqb s.number) numbers then s ∷ ss else s ∷ []
-
--- at the places whose first row has one of these numbers all rows stand, and at the others the first alone
-abbrev pub AreSettled : Name → List PlainStored → List ℕ → PlainPlaces → Type 0
-AreSettled origin rows numbers places =
-    (place : Place) → IsPlace place → entry_at places place ≡ entry_for place (all_or_first numbers (stored_at origin rows place))
-
--- with these rows at the place of this one, if there is one
-abbrev pub put_for : Name → PlainPlaces → List PlainStored → Option PlainStored → PlainPlaces
-put_for origin places rows None = places
-put_for origin places rows (Some s) = put_at places (row_place origin (plain_row s)) (entry_for (row_place origin (plain_row s)) rows)
+-- all rows stand at the places of which no key is left, and where one is left, all are
+pub record AreGathered (origin : Name) (rows : List PlainStored) (places : PlainPlaces) (left : List PlainKeyed) : Type 0 where
+  pub in_order : AreInOrder left
+  pub whole : (key : List ℕ) → (numbers_with key left ≡ [] → ⊥) → numbers_with key left ≡ numbers_with key (keyed_rows origin rows)
+  pub at : (place : Place) → IsPlace place → entry_at places place ≡ entry_for place (if_taken (numbers_with (place_octets place) left) (stored_at origin rows place))

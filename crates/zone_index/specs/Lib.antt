@@ -12,5 +12,7 @@ pub mod Laws
 pub mod Rules
 pub mod Listed
 pub mod Placed
+pub mod PlaceOctets
+pub mod Made
 pub mod Gathering
 pub mod Indexed

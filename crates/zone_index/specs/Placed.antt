@@ -1,5 +1,5 @@
 -- Where the rows of a zone stand in its index, and what stands there.
-use Rattle.std.specs.Prelude.{◌≡◌, ℕ, Bool, false, not, eqb, List, [], ◌∷◌, map, filter, All, Option, Some, None}
+use Rattle.std.specs.Prelude.{◌≡◌, ℕ, ◌&&◌, Bool, false, not, eqb, if◌then◌else◌, List, [], ◌∷◌, map, filter, All, Option, Some, None}
 use Rattle.std.specs.BTreeMap.{is_at}
 use Rattle.std.specs.List.{find}
 use Rattle.std.specs.Option.{option_map}
@@ -9,8 +9,9 @@ use Rattle.dns_record.specs.Row.{PlainRow, identity}
 use Rattle.qname_index.specs.Best.{pattern_order}
 use Rattle.row_list.specs.Stored.{PlainStored, row_of_number}
 use Rattle.trigger_codec.specs.Bases.{IsPattern, IsTrigger}
+use Rattle.trigger_codec.specs.Decode.{trigger}
 use Rattle.trigger_codec.specs.declared.trigger.Trigger.{Trigger}
-use Rattle.action_codec.specs.Action.{action_by}
+use Rattle.action_codec.specs.Action.{action_by, is_cname, is_live_type, points_to}
 use Rattle.action_codec.specs.Local.{local_row}
 use Rattle.action_codec.specs.declared.action.Action.{Action}
 use Rattle.action_codec.specs.declared.action.Action.TheVariants as actions
@@ -24,7 +25,7 @@ use Rattle.zone_rows.specs.Distinct.{AreDistinct}
 use Rattle.zone_rows.specs.Stored.{IsStored, plain_row}
 use Rattle.zone_index.specs.Kinds.{PlainRules}
 use Rattle.zone_index.specs.Listed.{is_same}
-use Rattle.zone_index.specs.Rules.{live_trigger, rules_of}
+use Rattle.zone_index.specs.Rules.{live_trigger, rules_of, some_trigger}
 
 abbrev pub place_by : Name → Option Trigger → Place
 place_by owner None = Other (record { base = owner; wild = false })
@@ -39,6 +40,14 @@ abbrev pub is_same_place : Place → Place → Bool
 is_same_place (Rule t) (Rule u) = is_same t u
 is_same_place (Other p) (Other q) = is_at (pattern_order p) q
 is_same_place p q = false
+
+-- where a row of this owner and type stands
+abbrev pub owner_place : Name → Name → ℕ → Place
+owner_place origin owner rtype = place_by owner (if is_live_type rtype then some_trigger (trigger owner origin) else None)
+
+-- the row is a CNAME to the root
+abbrev pub is_root_row : PlainStored → Bool
+is_root_row s = is_cname (plain_row s) && points_to s.rdata []
 
 -- the rows of a place, with their numbers
 abbrev pub stored_at : Name → List PlainStored → Place → List PlainStored

@@ -1,183 +1,171 @@
-//! The index of many rows at once.
+//! The index of many rows at once: they are sorted by the octets of their places, and those of one place are taken together.
 
-ghost use Rattle.std.specs.Prelude.{◌≡◌, ℕ, ◌+◌, ◌<◌, List, ◌++◌, [], ◌∷◌, All, length, map, take, IfOk};
-ghost use Rattle.row_list.specs.Seen.{seen};
+ghost use Rattle.std.specs.Prelude.{◌≡◌, ◌+◌, ◌<◌, ◌≤◌, All, None, Some, true, drop as drop_list, length, map, take, IfOk, OnOk};
+ghost use Rattle.std.specs.Option.{is_some, option_map};
+ghost use Rattle.key_list.specs.Seen.{keyed_seen};
 ghost use Rattle.row_list.specs.Stored.{row_of_number};
-ghost use Rattle.zone_index.specs.Lent.{first_of};
+ghost use Rattle.zone_index.specs.Gathering.{AreGathered, AreKeysOf, AreSized, IsListed, IsRunOf};
+ghost use Rattle.zone_index.specs.Placed.{IsIndexOf, entry_for, put_at, row_place, rows_by};
 ghost use Rattle.zone_index.specs.Places.{entry_at};
-ghost use Rattle.zone_index.specs.Gathering.{AreSettled, IsGathered, numbers_under, others_of, put_for};
-ghost use Rattle.zone_index.specs.Placed.{IsIndexOf, numbers_of, row_place, rows_by};
 ghost use Rattle.zone_rows.specs.Stored.{IsStored, plain_row};
 
-use crate::later::Later;
+use crate::index_entries::IndexEntries;
 use crate::place::Place;
-use crate::row_place::place_of;
-use crate::settling::settle;
+use crate::place_octets::{octets_tell_places_apart, write_place};
+use crate::row_place::stored_place;
+use crate::settling::does_at;
 use crate::trigger_index::TriggerIndex;
 use dns_name::Name;
 use dns_name::laws::{case_does_not_matter, names_of_equal_octets_are_equal};
-use row_list::{RowList, StoredRow};
+use key_list::{KeyList, Keyed, first_run, numbers_of};
+use row_list::RowList;
 use std::alloc::{AllocError, Global};
-use zone_rows::RowRef;
 
-// What stands at the places, each with its first row alone, and the numbers of the other rows.
-#[derive(Drop)]
-struct Gathered {
-    index: TriggerIndex,
-    later: Later,
-}
-
-// The number of the first row at the place.
-fn first_at(index: &TriggerIndex, place: &Place) -> Option<u32>
-    ensures { result ≡ first_of (numbers_of (entry_at index.now place.now)) }
-{
-    match index.get(place) {
-        Some(entry) => entry.numbers.first(),
-        None => None,
-    }
-}
-
-// Where a row that a list lends stands.
-fn stored_place(alloc: Global, origin: &Name, row: StoredRow<'_>) -> Result<Place, AllocError>
-    requires { IsStored (seen row) }
-    ensures { IfOk result (λ place. place ≡ row_place origin.now (plain_row (seen row.entry))) }
-{
-    let row = RowRef::new(row).to_row(alloc)?;
-    place_of(alloc, origin, &row)
-}
-
-// With the row at `at`, where those before it were gathered.
-fn gather_row(
+// Puts the row at `at` behind those before it.
+fn list_row(
     alloc: Global,
     origin: &Name,
     rows: &RowList,
-    gathered: Gathered,
     at: usize,
-) -> Result<Gathered, AllocError>
+    octets: &mut Vec<u8>,
+    list: &mut KeyList,
+) -> Result<(), AllocError>
     requires stored { All IsStored rows.now.rows }
     requires within { at < length rows.now.rows }
-    requires gathered { IsGathered origin.now (take at rows.now.rows) gathered.index
-        (numbers_under gathered.later.others) }
-    ensures { IfOk result (λ new. IsGathered origin.now (take (at + 1) rows.now.rows) new.index
-        (numbers_under new.later.others)) }
+    requires listed { IsListed origin.now (take at rows.now.rows) list.old }
+    ensures { OnOk result (IsListed origin.now (take (at + 1) rows.now.rows) list.new) }
 {
-    names_of_equal_octets_are_equal();
-    case_does_not_matter();
-    // called for its clauses
-    let _count = rows.len();
+    octets.clear();
     let row = rows.nth(at);
+    let number = row.number;
     let place = stored_place(alloc, origin, row)?;
-    let Gathered { index, mut later } = gathered;
-    match first_at(&index, &place) {
-        Some(first) => {
-            later.put(alloc, first, row.number)?;
-            Ok(Gathered { index, later })
-        }
-        None => {
-            let index = settle(alloc, rows, index, &place, &[row.number])?;
-            Ok(Gathered { index, later })
-        }
-    }
+    write_place(octets, &place)?;
+    list.push(octets, number)
 }
 
-// Each place with its first row alone, and the numbers of the other rows.
-fn gather(alloc: Global, origin: &Name, rows: &RowList) -> Result<Gathered, AllocError>
+// The numbers of the rows, by the octets of their places.
+fn list_rows(alloc: Global, origin: &Name, rows: &RowList) -> Result<KeyList, AllocError>
     requires { All IsStored rows.now.rows }
-    ensures { IfOk result (λ gathered. IsGathered origin.now rows.now.rows gathered.index
-        (numbers_under gathered.later.others)) }
+    ensures { IfOk result (IsListed origin.now rows.now.rows) }
 {
-    let mut gathered = Gathered {
-        index: TriggerIndex::empty(alloc),
-        later: Later::empty(alloc),
-    };
+    let mut list = KeyList::new(alloc);
+    let mut octets = Vec::new(alloc);
     for at in 0..rows.len() {
-        gathered = gather_row(alloc, origin, rows, gathered, at)?;
+        list_row(alloc, origin, rows, at, &mut octets, &mut list)?;
     }
-    Ok(gathered)
+    Ok(list)
 }
 
-// A number and others behind it.
-fn joined(alloc: Global, first: u32, others: &[u32]) -> Result<Vec<u32>, AllocError>
-    ensures { IfOk result (λ numbers. numbers.items ≡ first ∷ others.now) }
-{
-    let mut numbers = Vec::from_slice(alloc, &[first])?;
-    numbers.extend_from_slice(others)?;
-    Ok(numbers)
-}
-
-// With the rows of these numbers at the place of the row of the first.
-fn settle_group(
+// Where the row of the number stands.
+fn place_of_number(
     alloc: Global,
     origin: &Name,
     rows: &RowList,
-    index: TriggerIndex,
-    first: u32,
-    numbers: &[u32],
-) -> Result<TriggerIndex, AllocError>
+    number: u32,
+) -> Result<Place, AllocError>
     requires stored { All IsStored rows.now.rows }
-    requires numbers { numbers.now ≡ map (λ s. s.number) (rows_by numbers.now rows.now.rows) }
-    ensures { IfOk result (λ new. new ≡ put_for origin.now index (rows_by numbers.now rows.now.rows)
-        (row_of_number first rows.now.rows)) }
+    requires found { is_some (row_of_number number rows.now.rows) ≡ true }
+    ensures { IfOk result (λ place. Some place
+        ≡ option_map (λ s. row_place origin.now (plain_row s)) (row_of_number number rows.now.rows)) }
 {
-    match rows.get(first) {
-        None => Ok(index),
-        Some(row) => {
-            let place = stored_place(alloc, origin, row)?;
-            settle(alloc, rows, index, &place, numbers)
-        }
+    match rows.get(number) {
+        Some(row) => stored_place(alloc, origin, row),
+        None => unreachable!(),
     }
 }
 
-// With all rows at the place of the row of the first number, if others of its place are kept.
-fn settle_others(
+// With the rows of these numbers, which are all at the place.
+fn gather_run<'a>(
+    alloc: Global,
+    rows: &RowList,
+    entries: IndexEntries<'a>,
+    place: &Place,
+    run: &[Keyed<'a>],
+) -> Result<IndexEntries<'a>, AllocError>
+    requires stored { All IsStored rows.now.rows }
+    requires run { IsRunOf place.now rows.now.rows (map keyed_seen run.now) }
+    requires none { entry_at entries place.now ≡ None }
+    ensures { IfOk result (λ new. new ≡ put_at entries.entry place.now
+        (entry_for place.now (rows_by (map (λ k. k.number) (map keyed_seen run.now)) rows.now.rows))) }
+{
+    let octets = run[0].key;
+    let numbers = numbers_of(alloc, run)?;
+    let does = does_at(alloc, rows, place, &numbers)?;
+    entries.put(place, octets, &numbers, does)
+}
+
+// With the rows of the first key that is left, and how many keys that were.
+fn gather_next<'a>(
     alloc: Global,
     origin: &Name,
     rows: &RowList,
-    index: TriggerIndex,
-    first: u32,
-    others: &[u32],
-) -> Result<TriggerIndex, AllocError>
+    entries: IndexEntries<'a>,
+    left: &[Keyed<'a>],
+) -> Result<(IndexEntries<'a>, usize), AllocError>
     requires stored { All IsStored rows.now.rows }
-    requires others { others.now ≡ others_of origin.now rows.now.rows first }
-    ensures { (settled : List ℕ) → AreSettled origin.now rows.now.rows settled index →
-        IfOk result (λ new. AreSettled origin.now rows.now.rows (settled ++ first ∷ []) new) }
+    requires sized { AreSized origin.now rows.now.rows }
+    requires some { 0 < length left.now }
+    requires gathered { AreGathered origin.now rows.now.rows entries (map keyed_seen left.now) }
+    ensures gathered { IfOk result
+        (λ r. AreGathered origin.now rows.now.rows r.0 (map keyed_seen (drop_list r.1 left.now))) }
+    ensures some { IfOk result (λ r. 0 < r.1) }
+    ensures within { IfOk result (λ r. r.1 ≤ length left.now) }
 {
     names_of_equal_octets_are_equal();
     case_does_not_matter();
+    octets_tell_places_apart();
     // called for its clauses
     let _count = rows.len();
-    if others.is_empty() {
-        return Ok(index);
-    }
-    let numbers = joined(alloc, first, others)?;
-    settle_group(alloc, origin, rows, index, first, &numbers)
+    let (run, _others) = first_run(left);
+    let place = place_of_number(alloc, origin, rows, run[0].number)?;
+    let entries = gather_run(alloc, rows, entries, &place, run)?;
+    Ok((entries, run.len()))
 }
 
-// Each place with all its rows.
-fn settle_all(
+// What stands at the places of the rows, whose keys these are.
+fn gather<'a>(
     alloc: Global,
     origin: &Name,
     rows: &RowList,
-    gathered: Gathered,
+    keys: &[Keyed<'a>],
+) -> Result<IndexEntries<'a>, AllocError>
+    requires stored { All IsStored rows.now.rows }
+    requires keys { AreKeysOf origin.now rows.now.rows (map keyed_seen keys.now) }
+    ensures { IfOk result (λ entries. IsIndexOf origin.now rows.now.rows entries) }
+{
+    names_of_equal_octets_are_equal();
+    case_does_not_matter();
+    octets_tell_places_apart();
+    // called for its clauses
+    let _count = rows.len();
+    let mut entries = IndexEntries::empty(alloc);
+    let mut done = 0;
+    while done < keys.len() {
+        let (with_next, count) = gather_next(alloc, origin, rows, entries, &keys[done..])?;
+        entries = with_next;
+        done += count;
+    }
+    Ok(entries)
+}
+
+// The same, where the keys are given up before the tries are made.
+fn gather_listed(
+    alloc: Global,
+    origin: &Name,
+    rows: &RowList,
+    list: &KeyList,
 ) -> Result<TriggerIndex, AllocError>
     requires stored { All IsStored rows.now.rows }
-    requires gathered { IsGathered origin.now rows.now.rows gathered.index
-        (numbers_under gathered.later.others) }
+    requires listed { IsListed origin.now rows.now.rows list.now }
     ensures { IfOk result (λ index. IsIndexOf origin.now rows.now.rows index) }
 {
-    names_of_equal_octets_are_equal();
-    case_does_not_matter();
-    // called for its clauses
-    let _count = rows.len();
-    let Gathered { mut index, later } = gathered;
-    for (first, others) in &later.others {
-        index = settle_others(alloc, origin, rows, index, *first, others)?;
-    }
-    Ok(index)
+    let keys = list.sorted(alloc)?;
+    let entries = gather(alloc, origin, rows, &keys)?;
+    drop(keys);
+    entries.built()
 }
 
-/// The index of the rows for a zone of this origin. Its time is that of some look-ups for each row, and n log n in the rows of each
-/// place.
+/// The index of the rows for a zone of this origin. Its time is that of sorting the octets of their places.
 pub(crate) fn index_of(
     alloc: Global,
     origin: &Name,
@@ -186,6 +174,6 @@ pub(crate) fn index_of(
     requires { All IsStored rows.now.rows }
     ensures { IfOk result (λ index. IsIndexOf origin.now rows.now.rows index) }
 {
-    let gathered = gather(alloc, origin, rows)?;
-    settle_all(alloc, origin, rows, gathered)
+    let list = list_rows(alloc, origin, rows)?;
+    gather_listed(alloc, origin, rows, &list)
 }

@@ -13,11 +13,13 @@ ghost use Rattle.name_trie.specs.Trie.{best_acting};
 ghost use Rattle.trigger_codec.specs.Bases.{IsPattern};
 ghost use Rattle.zone_index.specs.Counted.{some_kept};
 ghost use Rattle.zone_index.specs.Kept.{is_kept, kept_acts};
+ghost use Rattle.zone_index.specs.Made.{AreFoundPatterns, patterns_of};
 
 use crate::kept::Kept;
 use crate::tally::{tally, tally_without};
 use dns_name::{Name, Pattern};
 use name_trie::{Found, NameTrie};
+use octet_trie::OctetFound;
 use std::alloc::{AllocError, Global};
 use std::marker::{Brand, Model};
 use std::sync::ledger::{Blank, Ledger};
@@ -60,6 +62,19 @@ impl Patterns {
             trie: NameTrie::empty(alloc),
             acting: 0,
         }
+    }
+
+    // These entries, of which so many act.
+    pub(crate) fn of(
+        alloc: Global,
+        found: &[OctetFound<'_, u32, Kept>],
+        acting: usize,
+    ) -> Result<Self, AllocError>
+        requires { AreFoundPatterns found.now acting }
+        ensures { IfOk result (λ patterns. patterns ≡ patterns_of found.now) }
+    {
+        let trie = NameTrie::of(alloc, found)?;
+        Ok(Patterns { trie, acting })
     }
 
     // The same version once more.

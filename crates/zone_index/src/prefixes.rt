@@ -8,6 +8,7 @@ ghost use Rattle.ip_prefix.specs.Prefix.{prefix_order};
 ghost use Rattle.prefix_trie.specs.Longest.{longest_acting};
 ghost use Rattle.zone_index.specs.Counted.{some_kept};
 ghost use Rattle.zone_index.specs.Kept.{is_kept, kept_acts};
+ghost use Rattle.zone_index.specs.Made.{AreFoundPrefixes, prefixes_of};
 
 use crate::kept::Kept;
 use crate::tally::{tally, tally_without};
@@ -55,6 +56,19 @@ impl Prefixes {
             trie: PrefixTrie::empty(alloc),
             acting: 0,
         }
+    }
+
+    // These entries, of which so many act.
+    pub(crate) fn of(
+        alloc: Global,
+        found: &[(Prefix, Marked<u32, Kept>)],
+        acting: usize,
+    ) -> Result<Self, AllocError>
+        requires { AreFoundPrefixes found.now acting }
+        ensures { IfOk result (λ prefixes. prefixes ≡ prefixes_of found.now) }
+    {
+        let trie = PrefixTrie::of(alloc, found)?;
+        Ok(Prefixes { trie, acting })
     }
 
     // The same version once more.

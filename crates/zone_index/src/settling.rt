@@ -1,16 +1,17 @@
 //! What stands at a place once its rows are others.
 
-ghost use Rattle.std.specs.Prelude.{◌≡◌, ◌++◌, [], All, map, IfOk, if◌then◌else◌};
+ghost use Rattle.std.specs.Prelude.{◌≡◌, ◌++◌, [], All, map, IfOk, IfSome, if◌then◌else◌};
+ghost use Rattle.row_list.specs.Seen.{seen};
 ghost use Rattle.row_list.specs.Stored.{row_of_number};
-ghost use Rattle.zone_index.specs.Placed.{entry_for, one_does, place_action, put_at, rows_by, several_do, with_found};
+ghost use Rattle.zone_index.specs.Placed.{does_for, entry_for, is_root_row, one_does, place_action, put_at, rows_by, several_do, with_found};
 ghost use Rattle.zone_rows.specs.Stored.{IsStored, plain_row};
 
 use crate::does::Does;
 use crate::place::Place;
 use crate::trigger_index::TriggerIndex;
 use action_codec::{Action, action_of};
-use dns_record::Row;
-use row_list::RowList;
+use dns_record::{Row, rtype};
+use row_list::{RowList, StoredRow};
 use std::alloc::{AllocError, Global};
 use zone_rows::RowRef;
 
@@ -83,6 +84,49 @@ fn kept_of(action: Option<Action>, is_one: bool) -> Does
     }
 }
 
+// Whether the row is a CNAME to the root: alone, it says that the name does not exist.
+fn is_root_cname(row: &StoredRow<'_>) -> bool
+    ensures { result ≡ is_root_row (seen row.now) }
+{
+    row.rtype == rtype::CNAME && row.rdata == [0].as_slice()
+}
+
+// What the row of the one number does at the place, if it is a CNAME to the root. Most rules have such a row, so that for these
+// nothing is allocated.
+fn done_by_one(rows: &RowList, place: &Place, numbers: &[u32]) -> Option<Does>
+    ensures { IfSome result
+        (λ does. does ≡ does_for place.now (rows_by numbers.now rows.now.rows)) }
+{
+    let [number] = numbers else {
+        return None;
+    };
+    match rows.get(*number) {
+        Some(row) if is_root_cname(&row) => match place {
+            Place::Rule(_) => Some(Does::NxDomain),
+            Place::Other(_) => Some(Does::Nothing),
+        },
+        _ => None,
+    }
+}
+
+/// What the rows of these numbers do at the place.
+pub(crate) fn does_at(
+    alloc: Global,
+    rows: &RowList,
+    place: &Place,
+    numbers: &[u32],
+) -> Result<Does, AllocError>
+    requires { All IsStored rows.now.rows }
+    ensures { IfOk result (λ does. does ≡ does_for place.now (rows_by numbers.now rows.now.rows)) }
+{
+    if let Some(does) = done_by_one(rows, place, numbers) {
+        return Ok(does);
+    }
+    let own = own_rows(alloc, rows, numbers)?;
+    let action = action_at(alloc, place, &own)?;
+    Ok(kept_of(action, own.len() == 1))
+}
+
 /// The index, where the rows at the place are those of these numbers.
 pub(crate) fn settle(
     alloc: Global,
@@ -96,11 +140,9 @@ pub(crate) fn settle(
     ensures { IfOk result (λ new. new
         ≡ put_at index place.now (entry_for place.now (rows_by numbers.now rows.now.rows))) }
 {
-    let own = own_rows(alloc, rows, numbers)?;
-    if own.is_empty() {
+    if numbers.is_empty() {
         return index.take(place);
     }
-    let action = action_at(alloc, place, &own)?;
-    let does = kept_of(action, own.len() == 1);
+    let does = does_at(alloc, rows, place, numbers)?;
     index.put(place, numbers, does)
 }

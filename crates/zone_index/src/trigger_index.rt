@@ -4,6 +4,7 @@ ghost use Rattle.std.specs.Prelude.{◌≡◌, ◌≤◌, length, IfOk};
 ghost use Rattle.std.specs.Option.{option_map};
 ghost use Rattle.dns_name.specs.Labels.{lowered};
 ghost use Rattle.zone_index.specs.Entry.{entry_seen};
+ghost use Rattle.zone_index.specs.Groups.{AreAllWell, places_in};
 ghost use Rattle.zone_index.specs.Places.{AreLower, AreRanked, best_rule, entry_at, has_rule, longest_rule, no_places, rule_at, with_entry, without_entry};
 
 use crate::does::Does;
@@ -54,6 +55,24 @@ impl TriggerIndex {
             places: tries::empty(alloc),
             groups: SharedTable::new(alloc),
             usage: Usage::none(),
+            alloc,
+        }
+    }
+
+    // What these tries and groups say.
+    pub(crate) fn of(
+        alloc: Global,
+        places: Places<Prefixes, Patterns>,
+        groups: SharedTable<Held<Group>>,
+        usage: Usage,
+    ) -> Self
+        requires { AreAllWell groups places }
+        ensures { result ≡ places_in groups places }
+    {
+        TriggerIndex {
+            places,
+            groups,
+            usage,
             alloc,
         }
     }

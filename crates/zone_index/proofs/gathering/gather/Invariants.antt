@@ -1,6 +1,10 @@
-use Rattle.std.proofs.Common.{take}
-use Rattle.zone_index.specs.Gathering.{IsGathered, numbers_under}
+use Rattle.std.proofs.Common.{◌≤◌, ◌-◌, length, map, drop}
+use Rattle.key_list.specs.Seen.{keyed_seen}
+use Rattle.zone_index.specs.Gathering.{AreGathered}
 use Rattle.zone_index.proofs.gathering.gather.Given as goal
 
-abbrev pub invariant-loop-at : goal.invariant-loop-at
-invariant-loop-at l = IsGathered l.origin (take l.at l.rows.rows) l.gathered.index (numbers_under l.gathered.later.others)
+abbrev pub invariant-loop-done : goal.invariant-loop-done
+invariant-loop-done l = AreGathered l.origin l.rows.rows l.entries (map keyed_seen (drop l.done l.keys)) × (l.done ≤ length l.keys)
+
+abbrev pub decreases-loop-done : goal.decreases-loop-done
+decreases-loop-done l = length l.keys - l.done

@@ -1,0 +1,8 @@
+use Rattle.std.proofs.Common.{sym, ap, ◌∙◌}
+use Rattle.std.specs.Option.{option_map}
+use Rattle.row_list.specs.Seen.{seen}
+use Rattle.zone_index.proofs.Numbered.{found_stored}
+use Rattle.zone_index.proofs.gathering.place_of_number.Goals as goal
+
+pub stored_place-requires : goal.stored_place-requires
+stored_place-requires c = found_stored c.args.number c.args.rows.now.rows (seen c.in-Some.row) c.requires.stored (sym c.get.ensures ∙ ap (option_map seen) c.in-Some.is)
