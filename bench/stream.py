@@ -8,14 +8,15 @@ TTL = 60
 ZONE = 12  # where the question's name begins
 ORIGIN = b"\x03rpz\x07example\x00"
 AXFR, IXFR = 252, 251
+SERIALS = 2 ** 32  # which begin again behind the last (RFC 1982)
 
 
 def pointer(place):
     return struct.pack(">H", 0xC000 | place)
 
 
-def record(owner, rtype, data):
-    return owner + struct.pack(">HHIH", rtype, 1, TTL, len(data)) + data
+def record(owner, rtype, data, ttl=TTL):
+    return owner + struct.pack(">HHIH", rtype, 1, ttl, len(data)) + data
 
 
 def soa_data(serial):
@@ -48,13 +49,23 @@ class Writer:
         self.body += data
         self.answers += 1
 
-    def soa(self, serial):
-        data = record(pointer(ZONE), 6, soa_data(serial))
+    def written(self, data):
+        """A record that is written out, without a pointer or with that to the question alone."""
         if len(self.body) + len(data) > SIZE:
             self.end()
         self.put(data)
 
-    def row(self, labels):
+    def soa(self, serial):
+        self.written(record(pointer(ZONE), 6, soa_data(serial)))
+
+    def row(self, row):
+        """The row: as it is written, or the labels of its owner in front of the zone's, if it is a CNAME to the root."""
+        if isinstance(row, bytes):
+            self.written(row)
+        else:
+            self.rule(row)
+
+    def rule(self, labels):
         """A CNAME to the root, whose owner is these labels in front of the zone's."""
         data, places = self.cname(labels)
         if len(self.body) + len(data) > SIZE:
@@ -78,27 +89,27 @@ class Writer:
         return record(owner + pointer(ZONE), 5, b"\x00"), new
 
 
-def write_zone(out, rows):
-    """The transfer of these rows, each the labels of its owner, with serial 1."""
-    writer = Writer(out, AXFR)
-    writer.soa(1)
-    for labels in rows:
-        writer.row(labels)
-    writer.soa(1)
+def write_zone(out, rows, serial=1, qtype=AXFR):
+    """The transfer of these rows (`Writer.row`) with this serial, in answer to a question of this type."""
+    writer = Writer(out, qtype)
+    writer.soa(serial)
+    for row in rows:
+        writer.row(row)
+    writer.soa(serial)
     writer.end()
 
 
-def write_steps(out, steps):
-    """The transfer of these steps from serial 1 on, each to the next serial: the rows that it deletes, and those that it adds."""
+def write_steps(out, steps, first=1):
+    """The transfer of these steps from a serial on, each to the next serial: the rows that it deletes, and those that it adds."""
     writer = Writer(out, IXFR)
-    newest = 1 + len(steps)
+    newest = (first + len(steps)) % SERIALS
     writer.soa(newest)
-    for serial, (deleted, added) in enumerate(steps, 1):
-        writer.soa(serial)
-        for labels in deleted:
-            writer.row(labels)
-        writer.soa(serial + 1)
-        for labels in added:
-            writer.row(labels)
+    for number, (deleted, added) in enumerate(steps):
+        writer.soa((first + number) % SERIALS)
+        for row in deleted:
+            writer.row(row)
+        writer.soa((first + number + 1) % SERIALS)
+        for row in added:
+            writer.row(row)
     writer.soa(newest)
     writer.end()

@@ -1,5 +1,6 @@
 //! Why a bench ended early.
 
+use crate::difference::Difference;
 use axfr_apply::TransferError;
 use dns_message::MessageError;
 use dns_name::TextError;
@@ -24,6 +25,11 @@ pub enum BenchError {
     /// A transfer has nothing newer than the zone.
     Current,
     Apply(ApplyError),
+    /// A zone differs from the plain list after the transfer of this number, from 1.
+    Differs {
+        transfer: u64,
+        difference: Difference,
+    },
     /// There is no transfer.
     Empty,
     /// There are more than 32 zones, or a transfer was not taken.

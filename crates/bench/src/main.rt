@@ -1,11 +1,17 @@
-//! `bench`: what the benches run. Its first word names one of them, `transfers`, `queries` or `workers`, and the modules of these
-//! names say what its other words are, and what it reads and writes. It promises nothing.
+//! `bench`: what the benches run. Its first word names one of them, `transfers`, `edits`, `queries` or `workers`, and the modules of
+//! these names say what its other words are, and what it reads and writes. It promises nothing.
 #![tactic(auto)]
 
+mod alike;
 mod bench_error;
 mod caching;
+mod comparing;
+mod difference;
+mod edits;
+mod plain_rules;
 mod queries;
 mod serving;
+mod sides;
 mod stream;
 mod transfers;
 mod words;
@@ -23,6 +29,7 @@ fn main(rt: HostRuntime) -> io::Result<ExitCode> {
     let mut source = ReaderSource::new(BufReader::new(alloc, rt.reader())?);
     let done = match read_words(alloc, &words) {
         Ok(Bench::Transfers) => transfers::run(&rt, alloc, &mut source),
+        Ok(Bench::Edits) => edits::run(&rt, alloc, &mut source),
         Ok(Bench::Queries(origins)) => queries::run(&rt, alloc, &origins, &mut source),
         Ok(Bench::Workers(plan)) => workers::run(rt, alloc, plan, &mut source),
         Err(refusal) => Err(refusal),

@@ -8,15 +8,14 @@ use dns_name::Name;
 use edge_io::Source;
 use ixfr_apply::read_transfer;
 use std::alloc::Global;
-use zone_rows::{PlainZone, Transfer};
+use zone_index::Zone;
+use zone_rows::Transfer;
 
-// What is asked for of a zone.
-fn wanted(zone: &PlainZone) -> Wanted {
-    match &zone.content {
+/// What is asked for of a zone, which has this serial where something is loaded.
+pub fn wanted(serial: Option<u32>) -> Wanted {
+    match serial {
         None => Wanted::Whole { have: None },
-        Some(content) => Wanted::Newer {
-            have: content.soa.serial,
-        },
+        Some(have) => Wanted::Newer { have },
     }
 }
 
@@ -25,9 +24,9 @@ fn wanted(zone: &PlainZone) -> Wanted {
 fn next_transfer<S: Source>(
     alloc: Global,
     source: &mut S,
-    zone: &PlainZone,
+    zone: &Zone,
 ) -> Result<Option<Transfer>, BenchError> {
-    match read_transfer(alloc, source, 0, &zone.origin, wanted(zone)) {
+    match read_transfer(alloc, source, 0, zone.origin(), wanted(zone.serial())) {
         Ok(Taken::New(transfer)) => Ok(Some(transfer)),
         Ok(Taken::Current { .. }) => Err(BenchError::Current),
         Err(TransferError::Fault(TransferFault::EndedEarly)) => Ok(None),
@@ -36,11 +35,8 @@ fn next_transfer<S: Source>(
 }
 
 // The zone after the transfers that the source gives.
-fn load<S: Source>(alloc: Global, source: &mut S) -> Result<PlainZone, BenchError> {
-    let mut zone = PlainZone {
-        origin: Name::from_text(alloc, b"rpz.example")?,
-        content: None,
-    };
+fn load<S: Source>(alloc: Global, source: &mut S) -> Result<Zone, BenchError> {
+    let mut zone = Zone::new(Name::from_text(alloc, b"rpz.example")?);
     for _turn in 0..u64::MAX {
         let Some(transfer) = next_transfer(alloc, source, &zone)? else {
             break;
@@ -52,8 +48,10 @@ fn load<S: Source>(alloc: Global, source: &mut S) -> Result<PlainZone, BenchErro
 
 // The serial of the zone and the number of its rows.
 fn load_counts<S: Source>(alloc: Global, source: &mut S) -> Result<(u32, usize), BenchError> {
-    let content = load(alloc, source)?.content.ok_or(BenchError::Empty)?;
-    Ok((content.soa.serial, content.rows.len()))
+    let zone = load(alloc, source)?;
+    let serial = zone.serial().ok_or(BenchError::Empty)?;
+    let rows = zone.row_count().ok_or(BenchError::Empty)?;
+    Ok((serial, rows))
 }
 
 /// Applies the transfers of the input.

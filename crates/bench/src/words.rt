@@ -12,10 +12,11 @@ pub struct Plan {
     pub pause: u64,
 }
 
-/// What is measured: transfers, queries over zones of these origins, or workers by a plan.
+/// What is measured: transfers, queries over zones of these origins, or workers by a plan; or what is compared: edits.
 #[derive(Drop)]
 pub enum Bench {
     Transfers,
+    Edits,
     Queries(Vec<Name>),
     Workers(Plan),
 }
@@ -58,6 +59,7 @@ pub fn read_words(alloc: Global, words: &[String]) -> Result<Bench, BenchError> 
     };
     match name.as_str() {
         "transfers" => Ok(Bench::Transfers),
+        "edits" => Ok(Bench::Edits),
         "queries" => Ok(Bench::Queries(read_origins(alloc, others)?)),
         "workers" => Ok(Bench::Workers(read_plan(others)?)),
         _ => Err(BenchError::Words),
