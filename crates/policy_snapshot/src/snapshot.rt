@@ -116,7 +116,7 @@ impl Snapshot {
     }
 
     /// The policy after one more transfer of the zone of this number, whole or in steps, or why the zone can't take it. The
-    /// other zones are shared, and this snapshot stays as it is. Its time is that of building one zone.
+    /// other zones are shared, and this snapshot stays as it is. Its time is that of `Zone::apply`.
     pub fn apply(
         &self,
         alloc: Global,

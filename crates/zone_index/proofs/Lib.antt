@@ -10,6 +10,8 @@ pub mod Owners
 pub mod OctetsApart
 pub mod InTwoParts
 pub mod Listing
+pub mod RowsApart
+pub mod WholeRows
 pub mod Found
 pub mod ByKey
 pub mod Edited

@@ -17,8 +17,9 @@ use Rattle.zone_index.specs.declared.place.Place.{Place}
 use Rattle.zone_index.specs.declared.place.Place.TheVariants.{Rule, Other}
 use Rattle.trigger_codec.specs.declared.trigger.Trigger.TheVariants.{ClientIp, Qname, ResponseIp, NsDname, NsIp}
 use Rattle.prefix_index.specs.Order.{prefix_order_total}
+use Rattle.zone_rows.specs.Distinct.{AreDistinct}
 use Rattle.zone_rows.specs.Stored.{IsStored, plain_row}
-use Rattle.zone_index.specs.Gathering.{AreGathered, AreKeysOf, AreSized, IsRunOf, if_taken, keyed_rows}
+use Rattle.zone_index.specs.Gathering.{AreApart, AreGathered, AreKeysOf, AreSized, AreWhole, IsRunOf, if_taken, keyed_rows}
 use Rattle.zone_index.specs.Placed.{IsIndexOf, IsPlace, entry_for, is_same_place, put_at, row_place, rows_by, stored_at}
 use Rattle.zone_index.proofs.Entries.{lookup-insert_entry}
 use Rattle.zone_index.proofs.Numbered.{AreFound, all_recursion, found_at, found_is, numbers, stored_by}
@@ -68,6 +69,9 @@ taken_some (n ∷ left) rows some = refl
 map_some : {X Y : Type 0} (f : X → Y) (xs : List X) → 0 < length xs → map f xs ≢ []
 map_some f [] some = λ _. absurd (omega (arith, some))
 map_some f (x ∷ xs) some = λ k. cc k
+
+nothing_repeats : AreDistinct []
+nothing_repeats i j d lt within = absurd (omega (arith, within))
 
 nothing_there : (q : Place) → entry_at no_places q ≡ None
 nothing_there (Rule (ClientIp p)) = refl
@@ -173,7 +177,18 @@ module _ (origin : List (List ℕ)) (rows : List PlainStored) (r : AreRows origi
       at = λ q is_q. ap (λ (ps : PlainPlaces). entry_at ps q) e ∙ nothing_there q ∙ sym (ap (entry_for q) (none_at q is_q (stored_at origin rows q) refl));
     }
 
+    pub none_apart : AreApart origin rows keys
+    none_apart = record {
+      in_order = of.in_order;
+      whole = λ key some. of.numbers key;
+      at = λ q is_q. subst (λ (l : List PlainStored). AreDistinct (map plain_row l)) (sym (none_at q is_q (stored_at origin rows q) refl)) nothing_repeats;
+    }
+
   -- ---- at last everything is
+
+  pub each_apart : (left : List PlainKeyed) → left ≡ [] → AreApart origin rows left → (q : Place) → IsPlace q → AreDistinct (map plain_row (stored_at origin rows q))
+  each_apart left e is q is_q =
+      subst (λ (ks : List PlainKeyed). AreDistinct (map plain_row (if_taken (numbers_with (place_octets q) ks) (stored_at origin rows q)))) e (is.at q is_q)
 
   pub all_gathered : (places : PlainPlaces) (left : List PlainKeyed) → left ≡ [] → AreGathered origin rows places left → IsIndexOf origin rows places
   all_gathered places left e is q is_q =
@@ -181,15 +196,15 @@ module _ (origin : List (List ℕ)) (rows : List PlainStored) (r : AreRows origi
 
   -- ---- the rows of one more place
 
-  module _ (places : PlainPlaces) (left run others : List PlainKeyed) (is : AreGathered origin rows places left) (f : IsFirstRun left run others) where
+  module _ (left run others : List PlainKeyed) (whole : AreWhole origin rows left) (f : IsFirstRun left run others) where
     some_left : numbers_with f.key left ≢ []
     some_left none = map_some (λ k. k.number) run f.some (f.numbers ∙ none)
 
     run_numbers : map (λ k. k.number) run ≡ numbers_with f.key (keyed_rows origin rows)
-    run_numbers = f.numbers ∙ is.whole f.key some_left
+    run_numbers = f.numbers ∙ whole f.key some_left
 
     it : HasKey origin f.key
-    it = has_key origin f.key rows r.stored r.sized (λ none. some_left (is.whole f.key some_left ∙ none))
+    it = has_key origin f.key rows r.stored r.sized (λ none. some_left (whole f.key some_left ∙ none))
 
     -- the place of the run
     abbrev p : Place
@@ -221,6 +236,45 @@ module _ (origin : List (List ℕ)) (rows : List PlainStored) (r : AreRows origi
             let same : k.number ∷ map (λ k. k.number) ks ≡ s.number ∷ numbers ss = ap (map (λ k. k.number)) (sym e) ∙ here ∙ ap numbers h in
             record { s = s; ss = ss; stored = h; first = first_is p is_p s ss h; number = cc same }
 
+    still_whole : AreWhole origin rows others
+    still_whole key some = by (bytes_eq key f.key) refl
+      where
+        by : (b : Bool) → bytes_eq key f.key ≡ b → numbers_with key others ≡ numbers_with key (keyed_rows origin rows)
+        by true h = absurd (some (ap (λ (c : List ℕ). numbers_with c others) ((bytes_eq-Decides key f.key).0 h) ∙ f.gone))
+        by false h =
+            let same : numbers_with key others ≡ numbers_with key left = f.others key (λ e. true≢false (sym ((bytes_eq-Decides key f.key).1 e) ∙ h)) in
+            same ∙ whole key (λ none. some (same ∙ none))
+
+    -- elsewhere nothing changes
+    elsewhere : (q : Place) → IsPlace q → is_same_place q p ≡ false → (l : List PlainStored) → stored_at origin rows q ≡ l
+        → if_taken (numbers_with (place_octets q) others) l ≡ if_taken (numbers_with (place_octets q) left) l
+    elsewhere q is_q differ [] h = taken_none (numbers_with (place_octets q) others) ∙ sym (taken_none (numbers_with (place_octets q) left))
+    elsewhere q is_q differ (u ∷ us) h =
+        let first = first_is q is_q u us h in
+        ap (λ (l : List ℕ). if_taken l (u ∷ us)) (f.others (place_octets q) (λ same.
+        let one : q ≡ p = r.apart q p first.sized it.sized (same ∙ it.octets) in
+        true≢false (sym (ap (is_same_place q) (sym one) ∙ place_itself q) ∙ differ)))
+
+    rows_of_run : rows_by (map (λ k. k.number) run) rows ≡ stored_at origin rows p
+    rows_of_run = ap (λ (l : List ℕ). rows_by l rows) here ∙ stored_by origin r.next rows p r.rise
+
+    -- ---- where no two of its rows have one identity
+
+    taken_here : if_taken (numbers_with (place_octets p) others) (stored_at origin rows p) ≡ stored_at origin rows p
+    taken_here = ap (λ (l : List ℕ). if_taken l (stored_at origin rows p)) (ap (λ (key : List ℕ). numbers_with key others) (sym it.octets) ∙ f.gone)
+
+    apart_by : AreApart origin rows left → AreDistinct (map plain_row (rows_by (map (λ k. k.number) run) rows)) → (q : Place) (b : Bool) → is_same_place q p ≡ b → IsPlace q
+        → AreDistinct (map plain_row (if_taken (numbers_with (place_octets q) others) (stored_at origin rows q)))
+    apart_by is distinct q true h is_q =
+        let same : q ≡ p = equal_place r.names q p is_q is_p h in
+        subst (λ (l : List PlainStored). AreDistinct (map plain_row l))
+        (rows_of_run ∙ sym taken_here ∙ sym (ap (λ (x : Place). if_taken (numbers_with (place_octets x) others) (stored_at origin rows x)) same)) distinct
+    apart_by is distinct q false h is_q =
+        subst (λ (l : List PlainStored). AreDistinct (map plain_row l)) (sym (elsewhere q is_q h (stored_at origin rows q) refl)) (is.at q is_q)
+
+    pub one_apart : AreApart origin rows left → AreDistinct (map plain_row (rows_by (map (λ k. k.number) run) rows)) → AreApart origin rows others
+    one_apart is distinct = record { in_order = f.in_order; whole = still_whole; at = λ q is_q. apart_by is distinct q (is_same_place q p) refl is_q }
+
     module _ (k : PlainKeyed) (ks : List PlainKeyed) (e : run ≡ k ∷ ks) where
       first_row : row_of_number k.number rows ≡ Some (has_first k ks e).s
       first_row = ap (λ (n : ℕ). row_of_number n rows) (sym (has_first k ks e).number) ∙ (has_first k ks e).first.found
@@ -239,10 +293,7 @@ module _ (origin : List (List ℕ)) (rows : List PlainStored) (r : AreRows origi
         its_octets = it.octets ∙ ap place_octets (sym is_place)
 
         rows_here : rows_by (map (λ k. k.number) run) rows ≡ stored_at origin rows place
-        rows_here =
-            ap (λ (l : List ℕ). rows_by l rows) here
-            ∙ stored_by origin r.next rows p r.rise
-            ∙ ap (stored_at origin rows) (sym is_place)
+        rows_here = rows_of_run ∙ ap (stored_at origin rows) (sym is_place)
 
         pub its_run : IsRunOf place rows run
         its_run = record {
@@ -251,27 +302,17 @@ module _ (origin : List (List ℕ)) (rows : List PlainStored) (r : AreRows origi
           found = here ∙ ap (λ (q : Place). numbers (stored_at origin rows q)) (sym is_place) ∙ ap numbers (sym rows_here);
         }
 
-        pub none_yet : entry_at places place ≡ None
-        none_yet =
+        pub none_yet : (places : PlainPlaces) → AreGathered origin rows places left → entry_at places place ≡ None
+        none_yet places is =
             is.at place (subst IsPlace (sym is_place) is_p)
             ∙ ap (entry_for place) (taken_some (numbers_with (place_octets place) left) (stored_at origin rows place)
             (λ none. some_left (ap (λ (key : List ℕ). numbers_with key left) its_octets ∙ none)))
 
-        -- elsewhere nothing changes
         abbrev old : Place → List PlainStored
         old q = if_taken (numbers_with (place_octets q) left) (stored_at origin rows q)
 
         abbrev new : Place → List PlainStored
         new q = if_taken (numbers_with (place_octets q) others) (stored_at origin rows q)
-
-        elsewhere_by : (q : Place) → IsPlace q → is_same_place q place ≡ false → (l : List PlainStored) → stored_at origin rows q ≡ l
-            → if_taken (numbers_with (place_octets q) others) l ≡ if_taken (numbers_with (place_octets q) left) l
-        elsewhere_by q is_q differ [] h = taken_none (numbers_with (place_octets q) others) ∙ sym (taken_none (numbers_with (place_octets q) left))
-        elsewhere_by q is_q differ (u ∷ us) h =
-            let first = first_is q is_q u us h in
-            ap (λ (l : List ℕ). if_taken l (u ∷ us)) (f.others (place_octets q) (λ same.
-            let one : q ≡ p = r.apart q p first.sized it.sized (same ∙ it.octets) in
-            true≢false (sym (ap (is_same_place q) (is_place ∙ sym one) ∙ place_itself q) ∙ differ)))
 
         here_all : new place ≡ (has_first k ks e).s ∷ (has_first k ks e).ss
         here_all =
@@ -279,17 +320,8 @@ module _ (origin : List (List ℕ)) (rows : List PlainStored) (r : AreRows origi
             ∙ ap (stored_at origin rows) is_place
             ∙ (has_first k ks e).stored
 
-        still_whole : (key : List ℕ) → numbers_with key others ≢ [] → numbers_with key others ≡ numbers_with key (keyed_rows origin rows)
-        still_whole key some = by (bytes_eq key f.key) refl
-          where
-            by : (b : Bool) → bytes_eq key f.key ≡ b → numbers_with key others ≡ numbers_with key (keyed_rows origin rows)
-            by true h = absurd (some (ap (λ (c : List ℕ). numbers_with c others) ((bytes_eq-Decides key f.key).0 h) ∙ f.gone))
-            by false h =
-                let same : numbers_with key others ≡ numbers_with key left = f.others key (λ e. true≢false (sym ((bytes_eq-Decides key f.key).1 e) ∙ h)) in
-                same ∙ is.whole key (λ none. some (same ∙ none))
-
-        pub one_gathered : (made : PlainPlaces) → made ≡ put_at places place (entry_for place (rows_by (map (λ k. k.number) run) rows)) → AreGathered origin rows made others
-        one_gathered made m =
+        pub one_gathered : (places made : PlainPlaces) → AreGathered origin rows places left → made ≡ put_at places place (entry_for place (rows_by (map (λ k. k.number) run) rows)) → AreGathered origin rows made others
+        one_gathered places made is m =
             let put : made ≡ put_at places place (entry_for place ((has_first k ks e).s ∷ (has_first k ks e).ss)) =
             m ∙ ap (λ (l : List PlainStored). put_at places place (entry_for place l)) (rows_here ∙ ap (stored_at origin rows) is_place ∙ (has_first k ks e).stored) in
             record {
@@ -297,7 +329,7 @@ module _ (origin : List (List ℕ)) (rows : List PlainStored) (r : AreRows origi
               whole = still_whole;
               at = λ q is_q. ap (λ (ps : PlainPlaces). entry_at ps q) put
                   ∙ put_rows r.names places place (subst IsPlace (sym is_place) is_p) (has_first k ks e).s (has_first k ks e).ss old new here_all
-                  (λ q is_q differ. elsewhere_by q is_q differ (stored_at origin rows q) refl) is.at q is_q;
+                  (λ q is_q differ. elsewhere q is_q (ap (is_same_place q) (sym is_place) ∙ differ) (stored_at origin rows q) refl) is.at q is_q;
             }
 
 -- ---- in the words of the functions, over keys that are lent

@@ -9,6 +9,7 @@ use Rattle.zone_index.specs.PlaceOctets.{IsSized, place_octets}
 use Rattle.zone_index.specs.Placed.{IsPlace, entry_for, row_place, rows_by, stored_at}
 use Rattle.zone_index.specs.Places.{PlainPlaces, entry_at}
 use Rattle.zone_index.specs.declared.place.Place.{Place}
+use Rattle.zone_rows.specs.Distinct.{AreDistinct}
 use Rattle.zone_rows.specs.Stored.{plain_row}
 
 -- the numbers of rows, by the octets of their places
@@ -40,8 +41,18 @@ abbrev pub if_taken : List ℕ → List PlainStored → List PlainStored
 if_taken [] rows = rows
 if_taken (n ∷ ns) rows = []
 
--- all rows stand at the places of which no key is left, and where one is left, all are
+-- where a number of a key is left, all of that key are
+abbrev pub AreWhole : Name → List PlainStored → List PlainKeyed → Type 0
+AreWhole origin rows left = (key : List ℕ) → (numbers_with key left ≡ [] → ⊥) → numbers_with key left ≡ numbers_with key (keyed_rows origin rows)
+
+-- no two rows have one identity at the places of which no key is left
+pub record AreApart (origin : Name) (rows : List PlainStored) (left : List PlainKeyed) : Type 0 where
+  pub in_order : AreInOrder left
+  pub whole : AreWhole origin rows left
+  pub at : (place : Place) → IsPlace place → AreDistinct (map plain_row (if_taken (numbers_with (place_octets place) left) (stored_at origin rows place)))
+
+-- all rows stand at the places of which no key is left
 pub record AreGathered (origin : Name) (rows : List PlainStored) (places : PlainPlaces) (left : List PlainKeyed) : Type 0 where
   pub in_order : AreInOrder left
-  pub whole : (key : List ℕ) → (numbers_with key left ≡ [] → ⊥) → numbers_with key left ≡ numbers_with key (keyed_rows origin rows)
+  pub whole : AreWhole origin rows left
   pub at : (place : Place) → IsPlace place → entry_at places place ≡ entry_for place (if_taken (numbers_with (place_octets place) left) (stored_at origin rows place))

@@ -1,9 +1,11 @@
 -- What a zone with its index stands for.
-use Rattle.std.specs.Prelude.{◌≡◌, All, List, Option, Some, None, Result, Ok, Err}
+use Rattle.std.specs.Prelude.{◌≡◌, All, map, List, Option, Some, None, Result, Ok, Err}
 use Rattle.dns_name.specs.Labels.{Name}
+use Rattle.dns_name.specs.Reading.{◌>>=◌}
 use Rattle.dns_record.specs.Record.{PlainRecord}
 use Rattle.dns_record.specs.Row.{IsRow, PlainRow}
 use Rattle.dns_record.specs.Soa.{soa_record}
+use Rattle.dns_record.specs.declared.soa.Soa.{Soa}
 use Rattle.trigger_codec.specs.declared.trigger.Trigger.{Trigger}
 use Rattle.zone_rows.specs.declared.fault.ApplyError.{ApplyError}
 use Rattle.zone_rows.specs.declared.fault.ApplyFault.{ApplyFault}
@@ -11,9 +13,13 @@ use Rattle.zone_rows.specs.declared.zone.Content.{Content}
 use Rattle.zone_rows.specs.declared.transfer.Transfer.{Transfer}
 use Rattle.zone_rows.specs.declared.transfer.Transfer.TheVariants.{Whole, Steps}
 use Rattle.zone_rows.specs.declared.zone.TheConstants.{ROW_LIMIT}
+use Rattle.row_list.specs.Blocks.{PlainRowList}
+use Rattle.zone_rows.specs.Distinct.{AreDistinct}
+use Rattle.zone_rows.specs.Repeats.{without_repeats}
 use Rattle.zone_rows.specs.Stepping.{whole_outcome}
+use Rattle.zone_rows.specs.Stored.{IsStored, plain_row}
 use Rattle.zone_rows.specs.Steps.{steps_outcome}
-use Rattle.zone_rows.specs.Zone.{Fails}
+use Rattle.zone_rows.specs.Zone.{Fails, fewer_rows}
 use Rattle.action_codec.specs.Action.{action_by}
 use Rattle.action_codec.specs.declared.action.Action.{Action}
 use Rattle.zone_index.specs.Kinds.{PlainRules}
@@ -54,6 +60,17 @@ content_of (Some loaded) = Some (record { soa = loaded.soa; rows = loaded.rows.r
 abbrev pub content_after : Option Content → Transfer → Result Content ApplyFault
 content_after content (Whole soa rows) = whole_outcome ROW_LIMIT content soa rows
 content_after content (Steps steps) = steps_outcome ROW_LIMIT content steps
+
+-- what a zone holds that has these rows without repeats, or that they are too many
+abbrev pub rows_outcome : Soa → List PlainRow → Result Content ApplyFault
+rows_outcome soa rows = do
+  kept ← fewer_rows ROW_LIMIT (without_repeats rows)
+  Ok (record { soa = soa; rows = kept })
+
+-- what was made of rows: their index where no two have one identity, or the rows again
+abbrev pub IsIndexing : Name → List PlainRow → Result PlainIndexed PlainRowList → Type 0
+IsIndexing origin rows (Ok indexed) = (indexed ≡ record { origin = origin; rows = rows }) × AreDistinct rows
+IsIndexing origin rows (Err list) = (map plain_row list.rows ≡ rows) × All IsStored list.rows
 
 -- what is loaded is of a zone of this origin
 pub record IsLoaded (origin : Name) (loaded : Loaded) : Type 0 where

@@ -7,11 +7,13 @@ ghost use Rattle.row_list.specs.Stored.{row_of_number};
 ghost use Rattle.zone_index.specs.Gathering.{AreGathered, AreKeysOf, AreSized, IsListed, IsRunOf};
 ghost use Rattle.zone_index.specs.Placed.{IsIndexOf, entry_for, put_at, row_place, rows_by};
 ghost use Rattle.zone_index.specs.Places.{entry_at};
+ghost use Rattle.zone_rows.specs.Distinct.{AreDistinct};
 ghost use Rattle.zone_rows.specs.Stored.{IsStored, plain_row};
 
 use crate::index_entries::IndexEntries;
 use crate::place::Place;
 use crate::place_octets::{octets_tell_places_apart, write_place};
+use crate::repeats::are_distinct;
 use crate::row_place::stored_place;
 use crate::settling::does_at;
 use crate::trigger_index::TriggerIndex;
@@ -148,31 +150,40 @@ fn gather<'a>(
     Ok(entries)
 }
 
-// The same, where the keys are given up before the tries are made.
+/// The index of rows, and whether it was seen that no two of them have one identity.
+#[derive(Drop)]
+pub(crate) struct Gathered {
+    pub(crate) index: TriggerIndex,
+    pub(crate) distinct: bool,
+}
+
+// The index, where the keys are given up before the tries are made.
 fn gather_listed(
     alloc: Global,
     origin: &Name,
     rows: &RowList,
     list: &KeyList,
-) -> Result<TriggerIndex, AllocError>
+) -> Result<Gathered, AllocError>
     requires stored { All IsStored rows.now.rows }
     requires listed { IsListed origin.now rows.now.rows list.now }
-    ensures { IfOk result (λ index. IsIndexOf origin.now rows.now.rows index) }
+    ensures index { IfOk result (λ made. IsIndexOf origin.now rows.now.rows made.index) }
+    ensures distinct { IfOk result
+        (λ made. made.distinct ≡ true → AreDistinct (map plain_row rows.now.rows)) }
 {
     let keys = list.sorted(alloc)?;
+    let distinct = are_distinct(alloc, origin, rows, &keys)?;
     let entries = gather(alloc, origin, rows, &keys)?;
     drop(keys);
-    entries.built()
+    let index = entries.built()?;
+    Ok(Gathered { index, distinct })
 }
 
 /// The index of the rows for a zone of this origin. Its time is that of sorting the octets of their places.
-pub(crate) fn index_of(
-    alloc: Global,
-    origin: &Name,
-    rows: &RowList,
-) -> Result<TriggerIndex, AllocError>
+pub(crate) fn index_of(alloc: Global, origin: &Name, rows: &RowList) -> Result<Gathered, AllocError>
     requires { All IsStored rows.now.rows }
-    ensures { IfOk result (λ index. IsIndexOf origin.now rows.now.rows index) }
+    ensures index { IfOk result (λ made. IsIndexOf origin.now rows.now.rows made.index) }
+    ensures distinct { IfOk result
+        (λ made. made.distinct ≡ true → AreDistinct (map plain_row rows.now.rows)) }
 {
     let list = list_rows(alloc, origin, rows)?;
     gather_listed(alloc, origin, rows, &list)

@@ -2,6 +2,7 @@
 
 ghost use Rattle.std.specs.Prelude.{◌≡◌, ◌++◌, [], ◌∷◌, All, length, map, true, false, IfOk, if◌then◌else◌};
 ghost use Rattle.dns_record.specs.Row.{IsRow};
+ghost use Rattle.zone_index.specs.Indexed.{IsIndexing};
 ghost use Rattle.zone_index.specs.Placed.{PlainIndexed, row_place};
 ghost use Rattle.zone_rows.specs.Distinct.{AreDistinct};
 ghost use Rattle.zone_rows.specs.Repeats.{has_row};
@@ -10,7 +11,7 @@ ghost use Rattle.zone_rows.specs.Stored.{IsStored, plain_row};
 
 use crate::editing::{Parts, added, removed};
 use crate::finding::number_in;
-use crate::gathering::index_of;
+use crate::gathering::{Gathered, index_of};
 use crate::place::Place;
 use crate::row_place::place_of;
 use crate::trigger_index::TriggerIndex;
@@ -68,13 +69,34 @@ impl IndexedRows {
         ensures { IfOk result
             (λ indexed. indexed ≡ record { origin = origin; rows = map plain_row rows.rows }) }
     {
-        let index = index_of(alloc, &origin, &rows)?;
+        let Gathered { index, distinct: _ } = index_of(alloc, &origin, &rows)?;
         Ok(IndexedRows {
             origin,
             rows,
             index,
             spent: 0,
         })
+    }
+
+    /// These rows for a zone of this origin; or, where two of them have one identity, the rows again.
+    pub(crate) fn of_distinct(
+        alloc: Global,
+        origin: Name,
+        rows: RowList,
+    ) -> Result<Result<Self, RowList>, AllocError>
+        requires { All IsStored rows.rows }
+        ensures { IfOk result (IsIndexing origin (map plain_row rows.rows)) }
+    {
+        let Gathered { index, distinct } = index_of(alloc, &origin, &rows)?;
+        if !distinct {
+            return Ok(Err(rows));
+        }
+        Ok(Ok(IndexedRows {
+            origin,
+            rows,
+            index,
+            spent: 0,
+        }))
     }
 
     /// The rows, copied. It takes the time of a whole transfer of these rows.
@@ -231,8 +253,8 @@ pub(crate) fn copied_name(name: &Name) -> Result<Name, AllocError>
     name.clone()
 }
 
-// The rows of the list, copied.
-fn copied(alloc: Global, list: &RowList) -> Result<Rows, AllocError>
+/// The rows of the list, copied.
+pub(crate) fn copied(alloc: Global, list: &RowList) -> Result<Rows, AllocError>
     requires { All IsStored list.now.rows }
     ensures { IfOk result (λ rows. rows ≡ map plain_row list.now.rows) }
 {

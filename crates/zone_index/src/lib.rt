@@ -27,6 +27,7 @@ mod place_octets;
 mod places;
 mod prefix_entries;
 mod prefixes;
+mod repeats;
 mod row_place;
 mod rules;
 mod settling;

@@ -1,22 +1,24 @@
 //! What a loaded zone holds, and what a transfer makes of it.
 
-ghost use Rattle.std.specs.Prelude.{◌≡◌, All, IfOk, Some, option_copied};
+ghost use Rattle.std.specs.Prelude.{◌≡◌, All, map, IfOk, Some, option_copied};
 ghost use Rattle.dns_record.specs.Row.{IsRow};
 ghost use Rattle.zone_rows.specs.Distinct.{AreDistinct};
 ghost use Rattle.zone_rows.specs.Stepping.{whole_outcome};
 ghost use Rattle.zone_rows.specs.Steps.{after_steps, first_serial, steps_outcome};
+ghost use Rattle.zone_rows.specs.Stored.{IsStored, plain_row};
 ghost use Rattle.zone_rows.specs.Zone.{Gives, fewer_rows, newer_soa};
 ghost use Rattle.zone_rows.specs.declared.zone.TheConstants.{ROW_LIMIT};
-ghost use Rattle.zone_index.specs.Indexed.{GivesEdited, GivesLoaded, IsLoaded, IsLoadedIf, content_of};
+ghost use Rattle.zone_index.specs.Indexed.{GivesEdited, GivesLoaded, IsLoaded, IsLoadedIf, content_of, rows_outcome};
 ghost use Rattle.zone_index.specs.Placed.{rules_in};
 
 use crate::edit_error::EditError;
-use crate::indexed::IndexedRows;
+use crate::indexed::{IndexedRows, copied};
 use crate::rules::Rules;
 use crate::stepping::after_step;
 use crate::zone::Index;
 use dns_name::Name;
 use dns_record::{Record, Soa, serial_newer};
+use row_list::RowList;
 use std::alloc::{AllocError, Global};
 use zone_rows::laws::without_repeats_stand_the_first_rows;
 use zone_rows::{
@@ -121,9 +123,49 @@ pub(crate) fn whole(
     ensures { GivesLoaded result origin.now
         (whole_outcome ROW_LIMIT (content_of (option_copied loaded.entry)) soa rows) }
 {
-    without_repeats_stand_the_first_rows();
     let soa = newer(loaded, soa)?;
-    let rows = fewer(rows.without_repeats(alloc)?)?;
+    whole_rows(alloc, origin, soa, rows)
+}
+
+// The same, with this SOA.
+fn whole_rows(alloc: Global, origin: &Name, soa: Soa, rows: Rows) -> Result<Loaded, ApplyError>
+    ensures { GivesLoaded result origin.now (rows_outcome soa rows) }
+{
+    match IndexedRows::of_distinct(alloc, origin.clone()?, rows.into_list())? {
+        Ok(rows) => whole_distinct(alloc, origin, soa, rows),
+        Err(list) => whole_repeated(alloc, origin, soa, &list),
+    }
+}
+
+// The same, where no two rows have one identity.
+fn whole_distinct(
+    alloc: Global,
+    origin: &Name,
+    soa: Soa,
+    rows: IndexedRows,
+) -> Result<Loaded, ApplyError>
+    requires { rows.origin ≡ origin.now }
+    ensures { GivesLoaded result origin.now (rows_outcome soa rows.rows) }
+{
+    if rows.len() < ROW_LIMIT as usize {
+        Ok(Loaded::new(alloc, origin, soa, rows)?)
+    } else {
+        Err(ApplyError::Fault(ApplyFault::TooManyRows { at: ROW_LIMIT }))
+    }
+}
+
+// The same, where some rows repeat.
+fn whole_repeated(
+    alloc: Global,
+    origin: &Name,
+    soa: Soa,
+    list: &RowList,
+) -> Result<Loaded, ApplyError>
+    requires { All IsStored list.now.rows }
+    ensures { GivesLoaded result origin.now (rows_outcome soa (map plain_row list.now.rows)) }
+{
+    without_repeats_stand_the_first_rows();
+    let rows = fewer(copied(alloc, list)?.without_repeats(alloc)?)?;
     Ok(Loaded::of(alloc, origin, soa, rows)?)
 }
 

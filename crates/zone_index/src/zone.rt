@@ -165,7 +165,7 @@ impl Zone {
     }
 
     /// What the rule of exactly this trigger does: what the live rows of the trigger do. `None` where there are
-    /// none, or they do nothing. It takes no memory, and its time is logarithmic in the number of rules.
+    /// none, or they do nothing. It takes no memory, and looks at no more nodes of a trie than the name has octets or the prefix bits.
     pub fn rule(&self, trigger: &Trigger) -> Option<ActionRef<'_>>
         ensures { option_map action_seen result ≡ content_rule self.now.origin self.now.content trigger.now }
     {

@@ -16,7 +16,7 @@ place_of_number-requires-clause-found c =
       stored = all_recursion IsStored c.args.rows.now.rows c.requires.stored;
       sized = c.requires.sized;
     } in
-    first_found c.args.origin.now c.args.rows.now.rows r c.args.entries (map keyed_seen c.args.left.now) (map keyed_seen c.first_run.result.0.now) (map keyed_seen c.first_run.result.1.now) c.requires.gathered c.first_run.ensures
+    first_found c.args.origin.now c.args.rows.now.rows r (map keyed_seen c.args.left.now) (map keyed_seen c.first_run.result.0.now) (map keyed_seen c.first_run.result.1.now) c.requires.gathered.whole c.first_run.ensures
     _ _ (seen_first c.first_run.result.0.now _ c.first_run.ensures.some)
 
 pub gather_run-requires-clause-run : goal.gather_run-requires-clause-run
@@ -29,7 +29,7 @@ gather_run-requires-clause-run c =
       stored = all_recursion IsStored c.args.rows.now.rows c.requires.stored;
       sized = c.requires.sized;
     } in
-    its_run c.args.origin.now c.args.rows.now.rows r c.args.entries (map keyed_seen c.args.left.now) (map keyed_seen c.first_run.result.0.now) (map keyed_seen c.first_run.result.1.now) c.requires.gathered c.first_run.ensures
+    its_run c.args.origin.now c.args.rows.now.rows r (map keyed_seen c.args.left.now) (map keyed_seen c.first_run.result.0.now) (map keyed_seen c.first_run.result.1.now) c.requires.gathered.whole c.first_run.ensures
     _ _ (seen_first c.first_run.result.0.now _ c.first_run.ensures.some) c.in_ok-place.place c.in_ok-place.ensures
 
 pub gather_run-requires-clause-none : goal.gather_run-requires-clause-none
@@ -42,8 +42,8 @@ gather_run-requires-clause-none c =
       stored = all_recursion IsStored c.args.rows.now.rows c.requires.stored;
       sized = c.requires.sized;
     } in
-    none_yet c.args.origin.now c.args.rows.now.rows r c.args.entries (map keyed_seen c.args.left.now) (map keyed_seen c.first_run.result.0.now) (map keyed_seen c.first_run.result.1.now) c.requires.gathered c.first_run.ensures
-    _ _ (seen_first c.first_run.result.0.now _ c.first_run.ensures.some) c.in_ok-place.place c.in_ok-place.ensures
+    none_yet c.args.origin.now c.args.rows.now.rows r (map keyed_seen c.args.left.now) (map keyed_seen c.first_run.result.0.now) (map keyed_seen c.first_run.result.1.now) c.requires.gathered.whole c.first_run.ensures
+    _ _ (seen_first c.first_run.result.0.now _ c.first_run.ensures.some) c.in_ok-place.place c.in_ok-place.ensures c.args.entries c.requires.gathered
 
 pub returns-clause-gathered : goal.returns-clause-gathered
 returns-clause-gathered c =
@@ -57,8 +57,8 @@ returns-clause-gathered c =
     } in
     subst (AreGathered c.args.origin.now c.args.rows.now.rows c.in_ok-entries.entries)
     (sym (rest_seen c.args.left.now c.first_run.result.0.now c.first_run.result.1.now c.first_run.ensures.whole))
-    (one_gathered c.args.origin.now c.args.rows.now.rows r c.args.entries (map keyed_seen c.args.left.now) (map keyed_seen c.first_run.result.0.now) (map keyed_seen c.first_run.result.1.now) c.requires.gathered c.first_run.ensures
-    _ _ (seen_first c.first_run.result.0.now _ c.first_run.ensures.some) c.in_ok-place.place c.in_ok-place.ensures c.in_ok-entries.entries c.in_ok-entries.ensures)
+    (one_gathered c.args.origin.now c.args.rows.now.rows r (map keyed_seen c.args.left.now) (map keyed_seen c.first_run.result.0.now) (map keyed_seen c.first_run.result.1.now) c.requires.gathered.whole c.first_run.ensures
+    _ _ (seen_first c.first_run.result.0.now _ c.first_run.ensures.some) c.in_ok-place.place c.in_ok-place.ensures c.args.entries c.in_ok-entries.entries c.requires.gathered c.in_ok-entries.ensures)
 
 pub returns-clause-within : goal.returns-clause-within
 returns-clause-within c = run_within c.args.left.now c.first_run.result.0.now c.first_run.result.1.now c.first_run.ensures.whole

@@ -1,0 +1,10 @@
+use Rattle.std.proofs.Common.{◌≤◌, ◌-◌, length, map, drop}
+use Rattle.key_list.specs.Seen.{keyed_seen}
+use Rattle.zone_index.specs.Gathering.{AreApart}
+use Rattle.zone_index.proofs.repeats.are_distinct.Given as goal
+
+abbrev pub invariant-loop-done : goal.invariant-loop-done
+invariant-loop-done l = AreApart l.origin l.rows.rows (map keyed_seen (drop l.done l.keys)) × (l.done ≤ length l.keys)
+
+abbrev pub decreases-loop-done : goal.decreases-loop-done
+decreases-loop-done l = length l.keys - l.done
