@@ -1,0 +1,7 @@
+//! Tests of the tries.
+#![tactic(auto)]
+
+mod asserts;
+mod names;
+mod prefixes;
+mod sign;
