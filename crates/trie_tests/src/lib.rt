@@ -1,7 +1,11 @@
-//! Tests of the tries.
+//! Tests of the tries, and what they want.
 #![tactic(auto)]
 
+#[cfg(test)]
 mod asserts;
+pub mod looking;
+#[cfg(test)]
 mod names;
+#[cfg(test)]
 mod prefixes;
-mod sign;
+pub mod sign;

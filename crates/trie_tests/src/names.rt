@@ -1,42 +1,17 @@
 //! Tests of tries of names.
 
-ghost use Rattle.std.specs.Prelude.{◌≡◌, ◌<◌};
-ghost use Rattle.dns_name.specs.Labels.{lowered};
-
 use crate::asserts::assert_same;
+use crate::looking::of_name;
 use crate::sign::{Sign, there};
 use dns_name::laws::case_does_not_matter;
 use dns_name::{Name, Pattern};
 use name_trie::{Key, NameTrie};
 use std::alloc::{AllocError, Global};
-use std::marker::Brand;
 use std::process::Abort;
-use std::sync::ledger::{Blank, Ledger};
-use trie_keys::Steps;
 
 fn pattern<R: Abort>(rt: &R, alloc: Global, base: &[u8], wild: bool) -> Pattern {
     let base = Name::from_text(alloc, base).expect(rt, "no error");
     Pattern::new(alloc, &base, wild).expect(rt, "no error")
-}
-
-// The value of the pattern that is found for the name.
-fn found_from<L: Ledger>(blank: Blank, trie: &NameTrie<u32, Sign>, name: &Name) -> Option<u32>
-    requires name { blank.name ≡ L.name }
-    requires parts { blank.parts ≡ L.parts }
-    requires some { 0 < blank.parts }
-    requires lower { lowered name.now ≡ name.now }
-{
-    let mut steps = Steps::<L>::start(blank);
-    match trie.best(name, &mut steps) {
-        Some(found) => Some(found.value.value),
-        None => None,
-    }
-}
-
-fn found_number(trie: &NameTrie<u32, Sign>, name: &Name) -> Option<u32>
-    requires { lowered name.now ≡ name.now }
-{
-    found_from::<Brand>(Blank::new(1), trie, name)
 }
 
 fn found<R: Abort>(rt: &R, alloc: Global, trie: &NameTrie<u32, Sign>, text: &[u8]) -> Option<u32> {
@@ -45,7 +20,7 @@ fn found<R: Abort>(rt: &R, alloc: Global, trie: &NameTrie<u32, Sign>, text: &[u8
         .expect(rt, "no error")
         .lower(alloc)
         .expect(rt, "no error");
-    found_number(trie, &name)
+    of_name(trie, &name)
 }
 
 // Of a.example, the exact pattern is 1 and the wild one 2.
