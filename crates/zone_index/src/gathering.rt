@@ -1,6 +1,6 @@
 //! The index of many rows at once: they are sorted by the octets of their places, and those of one place are taken together.
 
-ghost use Rattle.std.specs.Prelude.{◌≡◌, ◌+◌, ◌<◌, ◌≤◌, All, None, Some, true, drop as drop_list, length, map, take, IfOk, OnOk};
+ghost use Rattle.std.specs.Prelude.{◌≡◌, ◌+◌, ◌<◌, ◌≤◌, All, None, Some, true, drop as drop_list, length, map, take, IfOk, IfSome, IsSome, OnOk};
 ghost use Rattle.std.specs.Option.{is_some, option_map};
 ghost use Rattle.key_list.specs.Seen.{keyed_seen};
 ghost use Rattle.row_list.specs.Stored.{row_of_number};
@@ -150,41 +150,69 @@ fn gather<'a>(
     Ok(entries)
 }
 
-/// The index of rows, and whether it was seen that no two of them have one identity.
-#[derive(Drop)]
-pub(crate) struct Gathered {
-    pub(crate) index: TriggerIndex,
-    pub(crate) distinct: bool,
-}
-
-// The index, where the keys are given up before the tries are made.
-fn gather_listed(
+// The index of the rows whose keys these are, which are given up before the tries are made.
+fn index_by<'a>(
     alloc: Global,
     origin: &Name,
     rows: &RowList,
-    list: &KeyList,
-) -> Result<Gathered, AllocError>
+    keys: Vec<Keyed<'a>>,
+) -> Result<TriggerIndex, AllocError>
     requires stored { All IsStored rows.now.rows }
-    requires listed { IsListed origin.now rows.now.rows list.now }
-    ensures index { IfOk result (λ made. IsIndexOf origin.now rows.now.rows made.index) }
-    ensures distinct { IfOk result
-        (λ made. made.distinct ≡ true → AreDistinct (map plain_row rows.now.rows)) }
+    requires keys { AreKeysOf origin.now rows.now.rows (map keyed_seen keys.items) }
+    ensures { IfOk result (λ index. IsIndexOf origin.now rows.now.rows index) }
 {
-    let keys = list.sorted(alloc)?;
-    let distinct = are_distinct(alloc, origin, rows, &keys)?;
     let entries = gather(alloc, origin, rows, &keys)?;
     drop(keys);
     let index = entries.built()?;
-    Ok(Gathered { index, distinct })
+    Ok(index)
+}
+
+// The keys in order, of the rows that are listed.
+fn sorted_keys<'a>(
+    alloc: Global,
+    origin: &Name,
+    rows: &RowList,
+    list: &'a KeyList,
+) -> Result<Vec<Keyed<'a>>, AllocError>
+    requires { IsListed origin.now rows.now.rows list.now }
+    ensures { IfOk result
+        (λ keys. AreKeysOf origin.now rows.now.rows (map keyed_seen keys.items)) }
+{
+    let _count = rows.len();
+    list.sorted(alloc)
 }
 
 /// The index of the rows for a zone of this origin. Its time is that of sorting the octets of their places.
-pub(crate) fn index_of(alloc: Global, origin: &Name, rows: &RowList) -> Result<Gathered, AllocError>
+pub(crate) fn index_of(
+    alloc: Global,
+    origin: &Name,
+    rows: &RowList,
+) -> Result<TriggerIndex, AllocError>
     requires { All IsStored rows.now.rows }
-    ensures index { IfOk result (λ made. IsIndexOf origin.now rows.now.rows made.index) }
-    ensures distinct { IfOk result
-        (λ made. made.distinct ≡ true → AreDistinct (map plain_row rows.now.rows)) }
+    ensures { IfOk result (λ index. IsIndexOf origin.now rows.now.rows index) }
 {
     let list = list_rows(alloc, origin, rows)?;
-    gather_listed(alloc, origin, rows, &list)
+    let keys = sorted_keys(alloc, origin, rows, &list)?;
+    index_by(alloc, origin, rows, keys)
+}
+
+/// The same, or `None` where two rows have one identity: that is seen before the index is made.
+pub(crate) fn index_of_distinct(
+    alloc: Global,
+    origin: &Name,
+    rows: &RowList,
+) -> Result<Option<TriggerIndex>, AllocError>
+    requires { All IsStored rows.now.rows }
+    ensures index { IfOk result
+        (λ made. IfSome made (λ index. IsIndexOf origin.now rows.now.rows index)) }
+    ensures distinct { IfOk result
+        (λ made. IsSome made → AreDistinct (map plain_row rows.now.rows)) }
+{
+    let list = list_rows(alloc, origin, rows)?;
+    let keys = sorted_keys(alloc, origin, rows, &list)?;
+    if !are_distinct(alloc, origin, rows, &keys)? {
+        return Ok(None);
+    }
+    let index = index_by(alloc, origin, rows, keys)?;
+    Ok(Some(index))
 }

@@ -11,7 +11,7 @@ ghost use Rattle.zone_rows.specs.Stored.{IsStored, plain_row};
 
 use crate::editing::{Parts, added, removed};
 use crate::finding::number_in;
-use crate::gathering::{Gathered, index_of};
+use crate::gathering::{index_of, index_of_distinct};
 use crate::place::Place;
 use crate::row_place::place_of;
 use crate::trigger_index::TriggerIndex;
@@ -24,8 +24,11 @@ use std::alloc::{AllocError, Global};
 use std::marker::Model;
 use zone_rows::{RowRef, Rows};
 
-// The work of an edit at a place of no other rows, where reading one row is the unit.
-const EDIT: usize = 64;
+// The work of an edit at a place of no other rows. The unit is such that a whole transfer is about 8 for each row.
+const EDIT: usize = 256;
+
+// The work that each other row of the place adds to it: it is read, copied and sorted.
+const BESIDE: usize = 8;
 
 /// The rows of a zone, of which no two have one identity, with an index of what stands at each trigger. Contracts see the rows, and
 /// the origin of the zone. An edit gives a new version, and the two share what is the same in both.
@@ -69,7 +72,7 @@ impl IndexedRows {
         ensures { IfOk result
             (λ indexed. indexed ≡ record { origin = origin; rows = map plain_row rows.rows }) }
     {
-        let Gathered { index, distinct: _ } = index_of(alloc, &origin, &rows)?;
+        let index = index_of(alloc, &origin, &rows)?;
         Ok(IndexedRows {
             origin,
             rows,
@@ -87,10 +90,9 @@ impl IndexedRows {
         requires { All IsStored rows.rows }
         ensures { IfOk result (IsIndexing origin (map plain_row rows.rows)) }
     {
-        let Gathered { index, distinct } = index_of(alloc, &origin, &rows)?;
-        if !distinct {
+        let Some(index) = index_of_distinct(alloc, &origin, &rows)? else {
             return Ok(Err(rows));
-        }
+        };
         Ok(Ok(IndexedRows {
             origin,
             rows,
@@ -121,7 +123,7 @@ impl IndexedRows {
     }
 
     /// How much work the edits since the version was shared have been: for each a number for itself, and one for each row that stood
-    /// at its place.
+    /// at its place, in units of which a whole transfer takes about 8 a row.
     pub(crate) fn spent(&self) -> usize {
         self.spent
     }
@@ -132,7 +134,9 @@ impl IndexedRows {
             None => 0,
             Some(entry) => entry.numbers.len(),
         };
-        self.spent.saturating_add(EDIT).saturating_add(beside)
+        self.spent
+            .saturating_add(EDIT)
+            .saturating_add(beside.saturating_mul(BESIDE))
     }
 
     /// The same once more.

@@ -158,13 +158,13 @@ impl TriggerIndex {
     // The usage without what stands at the place.
     fn usage_without(&self, place: &Place) -> Usage {
         match self.get(place) {
-            Some(entry) => self.usage.without_entry(entry.numbers.in_group()),
+            Some(entry) => self.usage.without_entry(entry.weight()),
             None => self.usage,
         }
     }
 
-    /// Whether so many numbers stand in groups for nothing that the index is better built anew: more than 8,192, and more than
-    /// there are entries.
+    /// Whether so much stands in groups for nothing that the index is better built anew: more than 8,192 numbers, and more than
+    /// there are entries. A row that a group keeps as an answer weighs as much as 16 numbers.
     pub fn is_thin(&self) -> bool {
         self.usage.is_thin()
     }

@@ -1,9 +1,9 @@
 //! How much of the groups is in use.
 
-/// How many numbers may stand in groups for nothing, whatever the number of entries.
+/// How much may stand in groups for nothing, in numbers, whatever the number of entries.
 const FEW: usize = 8_192;
 
-/// How many entries there are, and how many numbers stand in groups that no entry names any more.
+/// How many entries there are, and how much stands in groups that no entry names any more, in numbers.
 #[derive(Clone, Copy, Drop)]
 pub(crate) struct Usage {
     entries: usize,
@@ -27,15 +27,15 @@ impl Usage {
         }
     }
 
-    /// Without an entry that named a group of so many numbers, or none.
-    pub(crate) fn without_entry(self, numbers: usize) -> Self {
+    /// Without an entry whose group takes so much, or that has none.
+    pub(crate) fn without_entry(self, weight: usize) -> Self {
         Usage {
             entries: self.entries.saturating_sub(1),
-            idle: self.idle.saturating_add(numbers),
+            idle: self.idle.saturating_add(weight),
         }
     }
 
-    /// Whether more numbers stand for nothing than a few, and than entries are there.
+    /// Whether more stands for nothing than a few numbers, and than entries are there.
     pub(crate) fn is_thin(self) -> bool {
         self.idle > FEW && self.idle > self.entries
     }
