@@ -1,42 +1,88 @@
 #!/usr/bin/env python3
 """Attacks a running server over the loopback, and says whether it holds.
 
-    python3 tools/attack PROGRAM [CASE..] [--workers 1,4,16]
+    python3 tools/attack PROGRAM [CASE..] [--workers 1,4,16] [--beside unbound]
+    python3 tools/attack --list
 
 Each case starts PROGRAM (`rpz`) with its own upstream and primaries, does what an attacker, a slow peer or a full pipe does, and meanwhile
-asks 1,000 queries over UDP and 100 over TCP that a rule or the cache answers: all have to be answered, the slowest within 50 ms. Where
-others' misses are a part of it they have to be answered within a second, and behind it everybody within 2 seconds. A line is printed for
-each case and number of workers. The status is 0 where all held, and else 1. Nothing else should run meanwhile.
+asks 1,000 queries over UDP and 100 over TCP that a rule or the cache answers: all have to be answered, the slowest within 50 ms. Where the
+upstream is well, misses of another client are asked, too, and have to be answered within a second. Behind it all have to be served within
+2 seconds, and the memory of the server must be within the bound of the case. A line is printed for each case and number of workers. The
+status is 0 where all held, and else 1. Nothing else should run meanwhile.
+
+With `--beside unbound` the cases of clients and of the upstream are then tried on Unbound with the same policy zone, and a line says what
+came of it. That doesn't count for the status. A program with AddressSanitizer keeps freed memory back: ATTACK_MEMORY_TIMES in the
+environment multiplies the bounds of memory.
 """
 
 import argparse
+import importlib
+import importlib.util
 import sys
 import traceback
 
-import cases
+import harness
+import unbound
+
+MODULES = ["clients", "upstreams", "datagrams", "primaries", "process"]
+PORTS = 20  # of each run; the second half of them is for Unbound
+
+
+def all_cases():
+    """The cases of all modules that are there."""
+    there = [name for name in MODULES if importlib.util.find_spec(name)]
+    return [case for name in there for case in importlib.import_module(name).CASES]
+
+
+def tried(case, *arguments, **given):
+    """The word in front of the line of a case, and what is said of it."""
+    try:
+        return "holds", case(*arguments, **given)
+    except harness.NotTried as why:
+        return "not tried", str(why)
+    except harness.Failed as why:
+        return "FAILS", str(why)
+    except Exception:
+        return "FAILS", traceback.format_exc(limit=3).strip().replace("\n", " | ")
+
+
+def run_all(cases, options):
+    """Whether all held."""
+    port, held = options.port, True
+    for case in cases:
+        for workers in map(int, options.workers.split(",")):
+            word, said = tried(case, options.program, port, workers)
+            held = held and word != "FAILS"
+            print(f"{word}  {case.__name__}, {workers} workers: {said}", flush=True)
+            if options.beside and case.is_beside:
+                word, said = tried(case, options.program, port + PORTS // 2, workers, make=unbound.Unbound)
+                print(f"  Unbound {word.lower()}  {case.__name__}, {workers} threads: {said}", flush=True)
+            port += PORTS
+    return held
 
 
 def main():
     parser = argparse.ArgumentParser()
-    parser.add_argument("program")
+    parser.add_argument("program", nargs="?")
     parser.add_argument("cases", nargs="*")
     parser.add_argument("--workers", default="1,4,16")
     parser.add_argument("--port", type=int, default=21000)
+    parser.add_argument("--beside", choices=["unbound"])
+    parser.add_argument("--list", action="store_true")
     options = parser.parse_args()
-    wanted = [case for case in cases.CASES if not options.cases or case.__name__ in options.cases]
-    port, held = options.port, True
-    for case in wanted:
-        for workers in map(int, options.workers.split(",")):
-            port += 20
-            try:
-                said, fine = case(options.program, port, workers), True
-            except cases.Failed as why:
-                said, fine = str(why), False
-            except Exception:
-                said, fine = traceback.format_exc(limit=3).strip().replace("\n", " | "), False
-            held = held and fine
-            print(f"{'holds' if fine else 'FAILS'}  {case.__name__}, {workers} workers: {said}", flush=True)
-    sys.exit(0 if held else 1)
+    cases = all_cases()
+    if options.list:
+        for case in cases:
+            print(f"{case.__name__}: {case.__doc__}")
+        return
+    if options.program is None:
+        parser.error("PROGRAM is missing")
+    if unknown := set(options.cases) - {case.__name__ for case in cases}:
+        parser.error(f"no such case: {', '.join(sorted(unknown))}")
+    if options.beside and not unbound.is_there():
+        parser.error("there is no Unbound here")
+    wanted = [case for case in cases if not options.cases or case.__name__ in options.cases]
+    sys.exit(0 if run_all(wanted, options) else 1)
 
 
 if __name__ == "__main__":

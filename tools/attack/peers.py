@@ -1,5 +1,7 @@
-"""Peers of a server on the loopback: a primary, an upstream, and the server itself. All of them end with the script."""
+"""Peers of a server on the loopback: a primary, an upstream, and the server itself. Their threads end with the script, or at `end`."""
 
+import contextlib
+import heapq
 import os
 import signal
 import socket
@@ -23,50 +25,72 @@ def listener(port):
     return sock
 
 
+class Listener:
+    """Takes the connections to a port, and serves each in a thread of its own."""
+
+    def __init__(self, port, serve):
+        self.serve, self.lock, self.open = serve, threading.Lock(), set()
+        self.sock = listener(port)
+        threading.Thread(target=self.accept, daemon=True).start()
+
+    def accept(self):
+        with contextlib.suppress(OSError):
+            while True:
+                connection, _ = self.sock.accept()
+                threading.Thread(target=self.serve_one, args=(connection,), daemon=True).start()
+
+    def serve_one(self, connection):
+        with connection, contextlib.suppress(OSError):
+            connection.setsockopt(socket.IPPROTO_TCP, socket.TCP_NODELAY, 1)
+            with self.lock:
+                self.open.add(connection)
+            try:
+                self.serve(connection)
+            finally:
+                with self.lock:
+                    self.open.discard(connection)
+
+    def end(self):
+        """Takes no more connections, and ends those that are open; whoever reads or writes there gets an end or an error."""
+        with self.lock:
+            for sock in [self.sock, *self.open]:
+                with contextlib.suppress(OSError):
+                    sock.shutdown(socket.SHUT_RDWR)
+        self.sock.close()
+
+
 def serve_each(port, serve):
     """Calls `serve` in a thread of its own for each connection."""
-    sock = listener(port)
-
-    def accept():
-        while True:
-            connection, _ = sock.accept()
-            connection.setsockopt(socket.IPPROTO_TCP, socket.TCP_NODELAY, 1)
-            threading.Thread(target=guarded, args=(serve, connection), daemon=True).start()
-
-    threading.Thread(target=accept, daemon=True).start()
-
-
-def guarded(serve, connection):
-    try:
-        serve(connection)
-    except OSError:
-        pass
-    finally:
-        connection.close()
+    return Listener(port, serve)
 
 
 class Primary:
-    """A primary of one policy zone. `is_stopped`: it accepts connections and says nothing. `drip`: it sends a byte each second."""
+    """A primary of one policy zone. `is_stopped`: it accepts connections and says nothing. `drips`: it sends an octet each second."""
 
-    def __init__(self, port, rules):
+    def __init__(self, port, rules, is_stopped=False):
         self.port, self.serial, self.rules = port, 1, list(rules)
-        self.is_stopped = self.drips = False
-        self.transfers = 0
-        serve_each(port, self.serve)
+        self.is_stopped, self.drips, self.has_ended = is_stopped, False, False
+        self.requests = self.transfers = 0
+        self.listener = serve_each(port, self.serve)
 
     def serve(self, connection):
         request = wire.read_frame(connection)
         if request is None:
             return
-        while self.is_stopped:
+        self.requests += 1
+        while self.is_stopped and not self.has_ended:
             time.sleep(0.05)
         for message in wire.transfer(request, ZONE, self.serial, self.rules):
-            if self.drips:
-                for octet in message:
-                    connection.sendall(bytes([octet]))
-                    time.sleep(1)
-            connection.sendall(message)
+            self.send(connection, message)
         self.transfers += 1
+
+    def send(self, connection, message):
+        gone = 0
+        while self.drips and gone < len(message):
+            connection.sendall(message[gone: gone + 1])
+            gone += 1
+            time.sleep(1)
+        connection.sendall(message[gone:])
 
     def change(self, rule):
         self.rules.append(rule)
@@ -84,16 +108,21 @@ class Primary:
             sock.sendto(message, (LOOPBACK, port))
             return wire.rcode_of(sock.recv(512))
 
+    def end(self):
+        self.has_ended = True
+        self.listener.end()
+
 
 class Upstream:
     """A recursive resolver over TCP, which takes several questions on a connection. Names that begin with `hang` get no answer, those
-    with `slow` one after a second, all others after `delay`."""
+    with `slow` one after a second, all others after `delay`; those with `large` get one of nearly 60,000 octets."""
 
     def __init__(self, port, delay=0.0):
         self.port, self.delay = port, delay
         self.is_stopped = False
         self.questions = self.connections = 0
-        serve_each(port, self.serve)
+        self.later = Later()
+        self.listener = serve_each(port, self.serve)
 
     def serve(self, connection):
         self.connections += 1
@@ -108,29 +137,58 @@ class Upstream:
                 continue
             wait = 1.0 if name.startswith("slow") else self.delay
             if wait:
-                threading.Timer(wait, self.reply, (connection, lock, message)).start()
+                self.later.call(wait, self.reply, connection, lock, message)
             else:
                 self.reply(connection, lock, message)
 
     @staticmethod
     def reply(connection, lock, message):
-        with lock:
-            try:
-                connection.sendall(wire.frame(wire.answer(message)))
-            except OSError:
-                pass
+        make = wire.large_answer if wire.question_name(message).startswith("large") else wire.answer
+        with lock, contextlib.suppress(OSError):
+            connection.sendall(wire.frame(make(message)))
+
+    def end(self):
+        self.listener.end()
+        self.later.end()
 
 
-class Server:
-    """`rpz serve` with its standard output in a file, on an address of this host."""
+class Later:
+    """Calls functions after a time, all of them in one thread."""
 
-    def __init__(self, program, port, upstream, primaries, workers, options=(), stdout=None, host=LOOPBACK):
-        zones = [f"{zone}@{LOOPBACK}:{at}" for zone, at in primaries]
-        words = [*options, f"{host}:{port}", f"{LOOPBACK}:{upstream}", "forever", str(workers), *zones]
+    def __init__(self):
+        self.condition, self.calls, self.count, self.has_ended = threading.Condition(), [], 0, False
+        threading.Thread(target=self.call_all, daemon=True).start()
+
+    def call(self, seconds, function, *arguments):
+        with self.condition:
+            self.count += 1
+            heapq.heappush(self.calls, (time.monotonic() + seconds, self.count, function, arguments))
+            self.condition.notify()
+
+    def call_all(self):
+        while True:
+            with self.condition:
+                while not self.has_ended and (not self.calls or self.calls[0][0] > time.monotonic()):
+                    self.condition.wait(self.calls[0][0] - time.monotonic() if self.calls else None)
+                if self.has_ended:
+                    return
+                _, _, function, arguments = heapq.heappop(self.calls)
+            function(*arguments)
+
+    def end(self):
+        with self.condition:
+            self.has_ended = True
+            self.condition.notify()
+
+
+class Program:
+    """A server that runs as a process of its own, on an address of this host."""
+
+    is_ours = False  # has the limits that cases of our server look for
+
+    def __init__(self, words, port, host, stdout):
         self.host, self.port = host, port
-        self.log = f"/tmp/attack-{os.getpid()}-{port}.log"
-        out = stdout if stdout is not None else open(self.log, "wb")
-        self.process = subprocess.Popen([program, "serve", *words], stdin=subprocess.DEVNULL, stdout=out, stderr=subprocess.DEVNULL)
+        self.process = subprocess.Popen(words, stdin=subprocess.DEVNULL, stdout=stdout, stderr=subprocess.DEVNULL)
 
     def wait_for(self, name, rcode=3, seconds=10):
         """Waits until a name gets this rcode."""
@@ -142,16 +200,41 @@ class Server:
         raise RuntimeError(f"{name} doesn't get rcode {rcode}")
 
     def resident(self):
-        """Bytes of resident memory."""
+        """Octets of resident memory."""
         with open(f"/proc/{self.process.pid}/statm", encoding="ascii") as file:
             return int(file.read().split()[1]) * os.sysconf("SC_PAGESIZE")
+
+    def peak(self):
+        """The most octets of resident memory that it has had."""
+        with open(f"/proc/{self.process.pid}/status", encoding="ascii") as file:
+            return int(next(line for line in file if line.startswith("VmHWM:")).split()[1]) << 10
 
     def descriptors(self):
         return len(os.listdir(f"/proc/{self.process.pid}/fd"))
 
     def end(self):
         self.process.send_signal(signal.SIGTERM)
-        self.process.wait(10)
+        try:
+            self.process.wait(10)
+        except subprocess.TimeoutExpired:
+            self.process.kill()
+            self.process.wait(10)
+
+
+class Server(Program):
+    """`rpz serve` with its standard output in a file, on an address of this host."""
+
+    is_ours = True
+
+    def __init__(self, program, port, upstream, primaries, workers, options=(), stdout=None, host=LOOPBACK):
+        zones = [f"{zone}@{LOOPBACK}:{at}" for zone, at in primaries]
+        words = [program, "serve", *options, f"{host}:{port}", f"{LOOPBACK}:{upstream}", "forever", str(workers), *zones]
+        self.log = f"/tmp/attack-{os.getpid()}-{port}.log"
+        with open(self.log, "wb") as log:
+            super().__init__(words, port, host, log if stdout is None else stdout)
+
+    def remove_files(self):
+        os.remove(self.log)
 
 
 def ask(port, name, seconds, qtype=wire.A, host=LOOPBACK):
@@ -165,6 +248,16 @@ def ask(port, name, seconds, qtype=wire.A, host=LOOPBACK):
             return None
 
 
+def ask_over_tcp(port, name, seconds, qtype=wire.A, host=LOOPBACK):
+    """The same over TCP, on a connection of its own."""
+    with contextlib.suppress(OSError), socket.create_connection((host, port), seconds) as sock:
+        sock.settimeout(seconds)
+        sock.sendall(wire.frame(wire.query(os.getpid() & 0xFFFF, name, qtype)))
+        reply = wire.read_frame(sock)
+        return None if reply is None else wire.rcode_of(reply)
+    return None
+
+
 class Prober:
     """Queries of a process of its own, during an attack: over UDP and TCP, to names that a rule or the cache answers."""
 
@@ -174,6 +267,6 @@ class Prober:
 
     def result(self):
         """(lost over UDP, the slowest in seconds, lost over TCP, the slowest)"""
-        out, _ = self.process.communicate(timeout=120)
+        out, _ = self.process.communicate()
         udp_lost, udp_slow, tcp_lost, tcp_slow = out.split()
         return int(udp_lost), float(udp_slow), int(tcp_lost), float(tcp_slow)

@@ -1,19 +1,20 @@
 #!/usr/bin/env python3
-"""Asks a server over UDP and TCP, one query after another, and prints how many were lost and how long the slowest took.
+"""Asks a server over UDP and TCP, over each one query after another, and prints how many were lost and how long the slowest took.
 
     python3 probe.py HOST PORT COUNT STREAMS GAP NAME...
 
-For `peers.Prober`. GAP is the pause between two queries, in seconds. Every tenth query or so goes over TCP, STREAMS in all, each on a
-connection of its own.
+For `peers.Prober`. COUNT queries go over UDP, with a pause of GAP seconds behind each, and meanwhile STREAMS over TCP, each on a connection
+of its own. What hasn't been asked within 30 seconds in all counts as lost.
 """
 
+import concurrent.futures
 import socket
 import sys
 import time
 
 import wire
 
-MOST = 5.0
+MOST, MOST_IN_ALL = 5.0, 30.0
 
 
 def over_udp(sock, server, number, name):
@@ -46,23 +47,28 @@ def over_tcp(server, number, name):
     return time.monotonic() - begun
 
 
+def ask_all(ask, names, count, gap):
+    """The seconds that each reply took, one query after another; None where none came."""
+    times, end = [], time.monotonic() + MOST_IN_ALL
+    for number in range(count):
+        if time.monotonic() > end:
+            break
+        times.append(ask(number & 0xFFFF, names[number % len(names)]))
+        time.sleep(gap)
+    return times
+
+
 def main():
     server = sys.argv[1], int(sys.argv[2])
     count, streams, gap = int(sys.argv[3]), int(sys.argv[4]), float(sys.argv[5])
     names = sys.argv[6:]
-    every = max(1, count // max(1, streams))
-    udp, tcp = [], []
-    with socket.socket(socket.AF_INET, socket.SOCK_DGRAM) as sock:
-        for number in range(count):
-            name = names[number % len(names)]
-            udp.append(over_udp(sock, server, number & 0xFFFF, name))
-            if number % every == 0 and len(tcp) < streams:
-                tcp.append(over_tcp(server, number & 0xFFFF, name))
-            time.sleep(gap)
+    with socket.socket(socket.AF_INET, socket.SOCK_DGRAM) as sock, concurrent.futures.ThreadPoolExecutor() as pool:
+        udp = pool.submit(ask_all, lambda *query: over_udp(sock, server, *query), names, count, gap)
+        tcp = pool.submit(ask_all, lambda *query: over_tcp(server, *query), names, streams, gap * count / max(1, streams))
     parts = []
-    for times in (udp, tcp):
+    for times, wanted in ((udp.result(), count), (tcp.result(), streams)):
         answered = [each for each in times if each is not None]
-        parts += [str(len(times) - len(answered)), f"{max(answered, default=0):.4f}"]
+        parts += [str(wanted - len(answered)), f"{max(answered, default=0):.4f}"]
     print(*parts)
 
 

@@ -2,7 +2,7 @@
 
 import struct
 
-A, NS, SOA, AXFR, IXFR = 1, 2, 6, 252, 251
+A, NS, SOA, TXT, AXFR, IXFR = 1, 2, 6, 16, 252, 251
 
 
 def name_octets(name):
@@ -56,6 +56,13 @@ def answer(message, addresses=("192.0.2.9",), ttl=60, rcode=0):
         b"\xc0\x0c" + struct.pack("!HHIH", A, 1, ttl, 4) + bytes(map(int, address.split("."))) for address in addresses
     )
     return header + message[12:end] + records
+
+
+def large_answer(message, ttl=60):
+    """The response to a query with one TXT record of nearly 60,000 octets."""
+    data = (bytes([255]) + bytes([120]) * 255) * 234
+    header = message[:2] + struct.pack("!HHHHH", 0x8180, 1, 1, 0, 0)
+    return header + message[12:question_end(message)] + b"\xc0\x0c" + struct.pack("!HHIH", TXT, 1, ttl, len(data)) + data
 
 
 def soa_data(serial, refresh=3600, retry=600):

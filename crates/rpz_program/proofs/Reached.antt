@@ -1,5 +1,5 @@
 -- In a world that a script reaches, a line of the grammar is done.
-use Rattle.std.proofs.Common.{◌≡◌, ℕ, zero, suc, ◌+◌, ◌-◌, ◌==◌, ◌<◌, ◌≤◌, Bool, true, false, if◌then◌else◌, nat_lt, List, [], ◌∷◌, Option, Some, None, Result, Ok, Err, length, map, replicate, refl, sym, ap, subst, ◌∙◌, arith}
+use Rattle.std.proofs.Common.{◌≡◌, ℕ, zero, suc, ◌+◌, ◌-◌, ◌==◌, ◌<◌, ◌≤◌, Bool, true, false, if◌then◌else◌, nat_lt, List, [], ◌∷◌, ◌++◌, Option, Some, None, Result, Ok, Err, length, map, replicate, refl, sym, ap, subst, ◌∙◌, arith, append-nil, append_assoc}
 use Rattle.std.proofs.lemmas.Bool.Decides.{nat_tests}
 use Rattle.std.specs.Prelude.{IsOk, is_some, slice_get, slice_index_or}
 use Rattle.ip_prefix.specs.declared.Addr.{Addr}
@@ -27,31 +27,32 @@ use Rattle.rpz_core.specs.Sessions.{PendingQuery}
 use Rattle.rpz_core.specs.World.{World, policy_of, world_step}
 use Rattle.rpz_core.proofs.Outputs.{step_keeps}
 use Rattle.rpz_core.proofs.Refusals.{refused_by_state}
-use Rattle.rpz_program.specs.Opened.{with_origin, with_primary}
-use Rattle.rpz_program.specs.Script.{HasEvents, ScriptWorld, opened, answering, IsReached, at_start, after_line, state_in, world_in, shown_outcome, event_outcome, zone_outcome, primary_outcome, world_after_line, step, text_outcome, too_long, too_many}
+use Rattle.rpz_program.specs.Opened.{OpenZones, with_origin, with_primary}
+use Rattle.rpz_program.specs.Script.{ScriptWorld, opened, answering, IsReached, at_start, after_line, event_of, event_read, state_in, with_event, world_in, zones_opened, shown_outcome, event_outcome, zone_outcome, primary_outcome, world_after_line, step, text_outcome, too_long, too_many}
 
 -- ---- events lead to a world that is reached, and it has its workers
 
-abbrev IsLedTo : World → Type 0
-IsLedTo world = (primaries : List (Option Addr)) × (events : List Event) × Reaches world.origins primaries events world
+abbrev IsLed : OpenZones → List Event → ScriptWorld → Type 0
+IsLed zones events (opened these) = (these ≡ zones) × (events ≡ [])
+IsLed zones events (answering world) = Reaches zones.origins zones.primaries events world
 
-events_in : (w : ScriptWorld) → HasEvents w → IsLedTo (world_in w)
-events_in (opened zones) h = (zones.primaries, [], begins)
-events_in (answering world) h = h
+events_in : (zones : OpenZones) (events : List Event) (w : ScriptWorld) → IsLed zones events w → Reaches zones.origins zones.primaries events (world_in w)
+events_in zones events (opened these) h =
+    subst (λ (es : List Event). Reaches zones.origins zones.primaries es (world_in (opened these))) (sym h.1)
+    (subst (λ (zs : OpenZones). Reaches zs.origins zs.primaries [] (world_in (opened these))) h.0 begins)
+events_in zones events (answering world) h = h
 
-led_on : (world next : World) (e : Event) (out : Output) → IsLedTo world → world_step world e ≡ Ok (next, out) → IsLedTo next
-led_on world next e out h is = (
-  h.0,
-  e ∷ h.1,
-  subst (λ (origins : List (List (List ℕ))). Reaches origins h.0 (e ∷ h.1) next) (sym (step_keeps world next e out is).origins) (goes_on h.1 e world next out h.2 is),
-)
+-- a line that is no event
+stays : (zones : OpenZones) (events : List Event) (w : ScriptWorld) → IsLed zones events w → IsLed (zones_opened w zones) events w
+stays zones events (opened these) h = (refl, h.1)
+stays zones events (answering world) h = h
 
 worker_count : (origins : List (List (List ℕ))) (primaries : List (Option Addr)) (events : List Event) (world : World) → Reaches origins primaries events world → length world.sessions.workers ≡ WORKERS
 worker_count origins primaries _ _ begins = refl
 worker_count origins primaries _ _ (goes_on events e world next out before is) = (step_keeps world next e out is).workers ∙ worker_count origins primaries events world before
 
-workers_in : (w : ScriptWorld) → HasEvents w → length (world_in w).sessions.workers ≡ WORKERS
-workers_in w h = let led = events_in w h in worker_count (world_in w).origins led.0 led.1 (world_in w) led.2
+workers_in : (zones : OpenZones) (events : List Event) (w : ScriptWorld) → IsLed zones events w → length (world_in w).sessions.workers ≡ WORKERS
+workers_in zones events w h = worker_count zones.origins zones.primaries events (world_in w) (events_in zones events w h)
 
 abbrev Outcome : Type 0
 Outcome = Result (ScriptWorld × List ℕ) LineFault
@@ -68,75 +69,95 @@ ended_is given next e = cc
 done_is : (given next : ScriptWorld) (octets out : List ℕ) → (let o : Outcome = Ok (given, octets) in o ≡ Ok (next, out)) → given ≡ next
 done_is given next octets out e = ap (λ (p : ScriptWorld × List ℕ). p.0) (pairs_are (given, octets) (next, out) e)
 
-abbrev GoesByEvents : ScriptWorld → Outcome → Type 0
-GoesByEvents next outcome = (out : List ℕ) → outcome ≡ Ok (next, out) → HasEvents next
+-- what is done leads on
+module _ (zones : OpenZones) where
+  abbrev Goes : List Event → ScriptWorld → Outcome → Type 0
+  Goes events next outcome = (out : List ℕ) → outcome ≡ Ok (next, out) → IsLed (zones_opened next zones) events next
 
-event_if : (world : World) (next : ScriptWorld) (e : Event) (r : Result (World × Output) CoreFault) → IsLedTo world → world_step world e ≡ r → GoesByEvents next (outcome_along answering (shown_outcome r))
-event_if world next e (Ok given) h is out same = subst HasEvents (done_is (answering given.0) next _ out same) (led_on world given.0 e given.1 h is)
-event_if world next e (Err fault) h is out same = absurd cc
+  given_goes : (events : List Event) (given next : ScriptWorld) (octets : List ℕ) → IsLed (zones_opened given zones) events given → Goes events next (Ok (given, octets))
+  given_goes events given next octets h out is = subst (λ (w : ScriptWorld). IsLed (zones_opened w zones) events w) (done_is given next octets out is) h
 
-event_goes : (w next : ScriptWorld) (e : Event) → HasEvents w → GoesByEvents next (event_outcome w e)
-event_goes w next e h = event_if (world_in w) next e (world_step (world_in w) e) (events_in w h) refl
+  event_if : (events : List Event) (world : World) (next : ScriptWorld) (e : Event) (r : Result (World × Output) CoreFault) → Reaches zones.origins zones.primaries events world → world_step world e ≡ r → Goes (e ∷ events) next (outcome_along answering (shown_outcome r))
+  event_if events world next e (Ok given) h is = given_goes (e ∷ events) (answering given.0) next _ (goes_on events e world given.0 given.1 h is)
+  event_if events world next e (Err fault) h is = λ out same. absurd cc
 
-zone_goes : (w next : ScriptWorld) (origin : List (List ℕ)) → GoesByEvents next (zone_outcome w origin)
-zone_goes (opened zones) next origin out is = subst HasEvents (done_is (opened (with_origin zones origin)) next [] out is) tt
-zone_goes (answering world) next origin out is = absurd cc
+  event_goes : (events : List Event) (w next : ScriptWorld) (e : Event) → IsLed zones events w → Goes (e ∷ events) next (event_outcome w e)
+  event_goes events w next e h = event_if events (world_in w) next e (world_step (world_in w) e) (events_in zones events w h) refl
 
-primary_goes : (w next : ScriptWorld) (zone : ℕ) (address : Addr) → GoesByEvents next (primary_outcome w zone address)
-primary_goes (opened zones) next zone address out is = subst HasEvents (done_is (opened (with_primary zones zone address)) next [] out is) tt
-primary_goes (answering world) next zone address out is = absurd cc
+  zone_goes : (events : List Event) (w next : ScriptWorld) (origin : List (List ℕ)) → IsLed zones events w → Goes events next (zone_outcome w origin)
+  zone_goes events (opened these) next origin h = given_goes events (opened (with_origin these origin)) next [] (refl, h.1)
+  zone_goes events (answering world) next origin h = λ out is. absurd cc
 
-line_goes : (w next : ScriptWorld) (line : Line) → HasEvents w → GoesByEvents next (world_after_line w line)
-unfolding world_after_line
-line_goes w next (Zone origin) h = zone_goes w next origin
-line_goes w next (Primary zone address) h = primary_goes w next zone address
-line_goes w next (Transfer zone stream) h = event_goes w next (event.Transfer zone stream) h
-line_goes w next (Full zone) h = event_goes w next (event.Full zone) h
-line_goes w next (Query worker transport client message) h = event_goes w next (event.Query worker transport client message) h
-line_goes w next (Give worker message) h = event_goes w next (event.Give worker message) h
-line_goes w next (Fail worker) h = event_goes w next (event.Fail worker) h
-line_goes w next (Notify client message) h = event_goes w next (event.Notify client message) h
-line_goes w next Due h = event_goes w next event.Due h
-line_goes w next (Clock seconds) h = event_goes w next (event.Clock seconds) h
+  primary_goes : (events : List Event) (w next : ScriptWorld) (zone : ℕ) (address : Addr) → IsLed zones events w → Goes events next (primary_outcome w zone address)
+  primary_goes events (opened these) next zone address h = given_goes events (opened (with_primary these zone address)) next [] (refl, h.1)
+  primary_goes events (answering world) next zone address h = λ out is. absurd cc
 
-text_goes : (w next : ScriptWorld) (read : Result (Option Line) LineFault) → HasEvents w → GoesByEvents next (text_outcome w read)
-text_goes w next (Err why) h out is = absurd cc
-text_goes w next (Ok None) h out is = subst HasEvents (done_is w next [] out is) h
-text_goes w next (Ok (Some line)) h out is = line_goes w next line h out is
+  line_goes : (events : List Event) (w next : ScriptWorld) (line : Line) → IsLed zones events w → Goes (with_event (event_of line) events) next (world_after_line w line)
+  unfolding world_after_line
+  line_goes events w next (Zone origin) h = zone_goes events w next origin h
+  line_goes events w next (Primary zone address) h = primary_goes events w next zone address h
+  line_goes events w next (Transfer zone stream) h = event_goes events w next (event.Transfer zone stream) h
+  line_goes events w next (Full zone) h = event_goes events w next (event.Full zone) h
+  line_goes events w next (Query worker transport client message) h = event_goes events w next (event.Query worker transport client message) h
+  line_goes events w next (Give worker message) h = event_goes events w next (event.Give worker message) h
+  line_goes events w next (Fail worker) h = event_goes events w next (event.Fail worker) h
+  line_goes events w next (Notify client message) h = event_goes events w next (event.Notify client message) h
+  line_goes events w next Due h = event_goes events w next event.Due h
+  line_goes events w next (Clock seconds) h = event_goes events w next (event.Clock seconds) h
 
-pub reached_events : (w : ScriptWorld) → IsReached w → HasEvents w
-reached_events w at_start = tt
-reached_events w (after_line world next text out before is) = text_goes world next (unnumbered_line text (state_in world)) (reached_events world before) out is
+  text_goes : (events : List Event) (w next : ScriptWorld) (read : Result (Option Line) LineFault) → IsLed zones events w → Goes (with_event (event_read read) events) next (text_outcome w read)
+  text_goes events w next (Err why) h = λ out is. absurd cc
+  text_goes events w next (Ok None) h = given_goes events w next [] (stays zones events w h)
+  text_goes events w next (Ok (Some line)) h = line_goes events w next line h
+
+reached_led : (lines : List (List ℕ)) (zones : OpenZones) (events : List Event) (w : ScriptWorld) → IsReached lines zones events w → IsLed zones events w
+reached_led _ _ _ _ at_start = (refl, refl)
+reached_led _ _ _ _ (after_line lines more zones after events all world next text out before is lines_are zones_are events_are) =
+    subst (λ (es : List Event). IsLed after es next) (sym events_are)
+    (subst (λ (zs : OpenZones). IsLed zs (with_event (event_read (unnumbered_line text (state_in world))) events) next) (sym zones_are)
+    (text_goes zones events world next (unnumbered_line text (state_in world)) (reached_led lines zones events world before) out is))
+
+pub reached_events : (lines : List (List ℕ)) (zones : OpenZones) (events : List Event) (w : ScriptWorld) → IsReached lines zones events w → Reaches zones.origins zones.primaries events (world_in w)
+reached_events lines zones events w reached = events_in zones events w (reached_led lines zones events w reached)
 
 -- ---- the world after lines is reached
 
 abbrev Counted : Type 0
 Counted = Result ((ℕ × ScriptWorld) × List ℕ) LineFault
 
-line_reached : (many long : Bool) (number : ℕ) (w : ScriptWorld) (line : List ℕ) (r : Outcome) (next : (ℕ × ScriptWorld) × List ℕ) → IsReached w → step w line ≡ r
-    → (let o : Counted = (if many then Err too_many else (if long then Err too_long else counting_on number r)) in o ≡ Ok next) → IsReached next.0.1
-line_reached true long number w line r next reached is took = absurd cc
-line_reached false true number w line r next reached is took = absurd cc
-line_reached false false number w line (Err why) next reached is took = absurd cc
-line_reached false false number w line (Ok (given, out)) next reached is took =
-    subst (λ (n : (ℕ × ScriptWorld) × List ℕ). IsReached n.0.1) (counted_is ((number + 1, given), out) next took) (after_line w given line out reached is)
+-- reached by just these lines
+abbrev pub IsReachedBy : List (List ℕ) → ScriptWorld → Type 0
+IsReachedBy lines w = (zones : OpenZones) × (events : List Event) × IsReached lines zones events w
+
+line_reached : (many long : Bool) (number : ℕ) (lines : List (List ℕ)) (w : ScriptWorld) (line : List ℕ) (r : Outcome) (next : (ℕ × ScriptWorld) × List ℕ) → IsReachedBy lines w → step w line ≡ r
+    → (let o : Counted = (if many then Err too_many else (if long then Err too_long else counting_on number r)) in o ≡ Ok next) → IsReachedBy (lines ++ line ∷ []) next.0.1
+line_reached true long number lines w line r next reached is took = absurd cc
+line_reached false true number lines w line r next reached is took = absurd cc
+line_reached false false number lines w line (Err why) next reached is took = absurd cc
+line_reached false false number lines w line (Ok (given, out)) next reached is took =
+    subst (λ (n : (ℕ × ScriptWorld) × List ℕ). IsReachedBy (lines ++ line ∷ []) n.0.1) (counted_is ((number + 1, given), out) next took)
+    (zones_opened given reached.0, with_event (event_read (unnumbered_line line (state_in w))) reached.1,
+    after_line lines (lines ++ line ∷ []) reached.0 (zones_opened given reached.0) reached.1 (with_event (event_read (unnumbered_line line (state_in w))) reached.1) w given line out reached.2 is refl refl refl)
 
 abbrev Ended : Type 0
 Ended = Result (ℕ × ScriptWorld) (ℕ × LineFault)
 
-on_reached : (number : ℕ) (r : Counted) (lines : List (List ℕ)) (end : ℕ × ScriptWorld) → ((next : (ℕ × ScriptWorld) × List ℕ) → r ≡ Ok next → IsReached next.0.1)
-    → ((next : ℕ × ScriptWorld) → IsReached next.1 → (run_of too_many too_long step next lines).1 ≡ Ok end → IsReached end.1)
-    → (run_on number r (λ next. run_of too_many too_long step next lines)).1 ≡ Ok end → IsReached end.1
-on_reached number (Err why) lines end took rest is = absurd cc
-on_reached number (Ok next) lines end took rest is = rest next.0 (took next refl) is
+on_reached : (number : ℕ) (r : Counted) (before lines : List (List ℕ)) (line : List ℕ) (end : ℕ × ScriptWorld) → ((next : (ℕ × ScriptWorld) × List ℕ) → r ≡ Ok next → IsReachedBy (before ++ line ∷ []) next.0.1)
+    → ((next : ℕ × ScriptWorld) → IsReachedBy (before ++ line ∷ []) next.1 → (run_of too_many too_long step next lines).1 ≡ Ok end → IsReachedBy ((before ++ line ∷ []) ++ lines) end.1)
+    → (run_on number r (λ next. run_of too_many too_long step next lines)).1 ≡ Ok end → IsReachedBy ((before ++ line ∷ []) ++ lines) end.1
+on_reached number (Err why) before lines line end took rest is = absurd cc
+on_reached number (Ok next) before lines line end took rest is = rest next.0 (took next refl) is
 
-pub run_reached : (lines : List (List ℕ)) (old : ℕ × ScriptWorld) (end : ℕ × ScriptWorld) → IsReached old.1 → (run_of too_many too_long step old lines).1 ≡ Ok end → IsReached end.1
-run_reached [] old end reached is = subst (λ (e : ℕ × ScriptWorld). IsReached e.1) (ended_is old end is) reached
-run_reached (line ∷ lines) old end reached is =
-    on_reached old.0 (line_outcome too_many too_long step old line) lines end
-    (λ next took. line_reached (nat_lt LINES old.0) (nat_lt LINE_BYTES (length line)) old.0 old.1 line (step old.1 line) next reached refl took)
-    (λ next. run_reached lines next end)
-    is
+pub run_reached : (before lines : List (List ℕ)) (old : ℕ × ScriptWorld) (end : ℕ × ScriptWorld) → IsReachedBy before old.1 → (run_of too_many too_long step old lines).1 ≡ Ok end → IsReachedBy (before ++ lines) end.1
+run_reached before [] old end reached is =
+    subst (λ (e : ℕ × ScriptWorld). IsReachedBy (before ++ []) e.1) (ended_is old end is)
+    (subst (λ (ls : List (List ℕ)). IsReachedBy ls old.1) (sym (append-nil before)) reached)
+run_reached before (line ∷ lines) old end reached is =
+    subst (λ (ls : List (List ℕ)). IsReachedBy ls end.1) (append_assoc before (line ∷ []) lines)
+    (on_reached old.0 (line_outcome too_many too_long step old line) before lines line end
+    (λ next took. line_reached (nat_lt LINES old.0) (nat_lt LINE_BYTES (length line)) old.0 before old.1 line (step old.1 line) next reached refl took)
+    (λ next. run_reached (before ++ line ∷ []) lines next end)
+    is)
 
 -- ---- a line within its state has no fault
 
@@ -179,13 +200,16 @@ zones_in (answering world) = policy_length world.origins world.accepted
 zone_found : (w : ScriptWorld) (number : ℕ) → IsZone (state_in w) number → zone_fault (zone_at (policy_of (world_in w)) number) ≡ None
 zone_found w number h = number_there (policy_of (world_in w)) number h.0 (subst (λ (n : ℕ). number ≤ n) (sym (zones_in w)) h.1)
 
-worker_found : (w : ScriptWorld) (k : ℕ) → HasEvents w → k < WORKERS → k < length (world_in w).sessions.workers
-worker_found w k has h = subst (λ (n : ℕ). k < n) (sym (workers_in w has)) h
+abbrev HasWorkers : ScriptWorld → Type 0
+HasWorkers w = length (world_in w).sessions.workers ≡ WORKERS
 
-query_found : (w : ScriptWorld) (k : ℕ) → HasEvents w → k < WORKERS → is_pending (state_in w) k ≡ false → query_fault (slice_get (world_in w).sessions.workers k) ≡ None
+worker_found : (w : ScriptWorld) (k : ℕ) → HasWorkers w → k < WORKERS → k < length (world_in w).sessions.workers
+worker_found w k has h = subst (λ (n : ℕ). k < n) (sym has) h
+
+query_found : (w : ScriptWorld) (k : ℕ) → HasWorkers w → k < WORKERS → is_pending (state_in w) k ≡ false → query_fault (slice_get (world_in w).sessions.workers k) ≡ None
 query_found w k has h free = query_free (world_in w).sessions.workers k (worker_found w k has h) (sym (pending_in w k) ∙ free)
 
-fact_found : (w : ScriptWorld) (k : ℕ) → HasEvents w → k < WORKERS → is_pending (state_in w) k ≡ true → fact_fault (slice_get (world_in w).sessions.workers k) ≡ None
+fact_found : (w : ScriptWorld) (k : ℕ) → HasWorkers w → k < WORKERS → is_pending (state_in w) k ≡ true → fact_fault (slice_get (world_in w).sessions.workers k) ≡ None
 fact_found w k has h busy = fact_awaited (world_in w).sessions.workers k (worker_found w k has h) (sym (pending_in w k) ∙ busy)
 
 -- ---- so it is done
@@ -205,7 +229,7 @@ primary_done : (w : ScriptWorld) (zone : ℕ) (address : Addr) → MayHavePrimar
 primary_done (opened zones) zone address h = refl
 primary_done (answering world) zone address h = absurd h
 
-within_done : (w : ScriptWorld) (line : Line) → HasEvents w → IsWithin (state_in w) line → IsOk (world_after_line w line)
+within_done : (w : ScriptWorld) (line : Line) → HasWorkers w → IsWithin (state_in w) line → IsOk (world_after_line w line)
 unfolding world_after_line
 within_done w (Zone origin) has h = zone_done w origin h.1
 within_done w (Primary zone address) has h = primary_done w zone address h.1
@@ -219,5 +243,5 @@ within_done w Due has h = event_done w event.Due refl
 within_done w (Clock seconds) has h = event_done w (event.Clock seconds) refl
 
 -- A line of the grammar is done in every world that is reached.
-pub line_done : (w : ScriptWorld) (text : List ℕ) (line : Line) → IsReached w → unnumbered_line text (state_in w) ≡ Ok (Some line) → IsOk (world_after_line w line)
-line_done w text line reached is = within_done w line (reached_events w reached) (line_within text (state_in w) line is)
+pub line_done : (lines : List (List ℕ)) (zones : OpenZones) (events : List Event) (w : ScriptWorld) (text : List ℕ) (line : Line) → IsReached lines zones events w → unnumbered_line text (state_in w) ≡ Ok (Some line) → IsOk (world_after_line w line)
+line_done lines zones events w text line reached is = within_done w line (workers_in zones events w (reached_led lines zones events w reached)) (line_within text (state_in w) line is)

@@ -1,5 +1,5 @@
 -- The world of a script, and what its lines do to it.
-use Rattle.std.specs.Prelude.{◌≡◌, ℕ, List, [], length, map, Option, Some, None, is_some, Result, Ok, Err, ⊤}
+use Rattle.std.specs.Prelude.{◌≡◌, ℕ, List, [], ◌∷◌, ◌++◌, length, map, Option, Some, None, is_some, Result, Ok, Err}
 use Rattle.dns_name.specs.Labels.{Name}
 use Rattle.ip_prefix.specs.declared.Addr.{Addr}
 use Rattle.script_codec.specs.declared.line.Line.{Line}
@@ -22,7 +22,6 @@ use Rattle.rpz_core.specs.declared.event.Output.{Output}
 use Rattle.rpz_core.specs.declared.event.Output.TheVariants as output
 use Rattle.ixfr_apply.specs.declared.refusal.Refusal.{Refusal}
 use Rattle.ixfr_apply.specs.declared.refusal.Refusal.TheVariants as refusal
-use Rattle.rpz_core.specs.History.{Reaches}
 use Rattle.rpz_core.specs.World.{World, new_world, world_step}
 use Rattle.script_loop.specs.Abstraction.{outcome_along}
 use Rattle.script_loop.specs.Fold as fold
@@ -60,6 +59,12 @@ event_of (Fail worker) = Some (event.Fail worker)
 event_of (Notify client message) = Some (event.Notify client message)
 event_of Due = Some event.Due
 event_of (Clock seconds) = Some (event.Clock seconds)
+
+-- the event that what was read of a line is
+abbrev pub event_read : Result (Option Line) LineFault → Option Event
+event_read (Err why) = None
+event_read (Ok None) = None
+event_read (Ok (Some line)) = event_of line
 
 -- a core that refuses an event refuses its line
 abbrev pub why_of : CoreFault → LineFault
@@ -150,15 +155,22 @@ script_transcript script = fold.transcript too_many too_long step start script
 abbrev pub script_verdict : List ℕ → Result (ℕ × ScriptWorld) (ℕ × LineFault)
 script_verdict script = fold.verdict too_many too_long step start script
 
--- The worlds that scripts reach.
-pub data IsReached : ScriptWorld → Type 0 where
-  at_start : IsReached start
-  after_line : (world next : ScriptWorld) (text out : List ℕ) → IsReached world →
-      step world text ≡ Ok (next, out) → IsReached next
+-- the zones that are open, or were when the first event came
+abbrev pub zones_opened : ScriptWorld → OpenZones → OpenZones
+zones_opened (opened zones) before = zones
+zones_opened (answering world) before = before
 
--- Events of the core lead to the world that lines have brought about, from zones with nothing loaded.
-abbrev pub HasEvents : ScriptWorld → Type 0
-HasEvents (opened zones) = ⊤
-HasEvents (answering world) =
-    (primaries : List (Option Addr)) × (events : List Event)
-    × Reaches world.origins primaries events world
+-- events with one more, the last one first
+abbrev pub with_event : Option Event → List Event → List Event
+with_event None events = events
+with_event (Some event) events = event ∷ events
+
+-- The worlds that lines of scripts lead to, with the zones that these lines opened, and the events that they are, the last one first.
+pub data IsReached : List (List ℕ) → OpenZones → List Event → ScriptWorld → Type 0 where
+  at_start : IsReached [] no_zones [] start
+  after_line : (lines more : List (List ℕ)) (zones after : OpenZones) (events all : List Event)
+      (world next : ScriptWorld) (text out : List ℕ) → IsReached lines zones events world
+      → step world text ≡ Ok (next, out) → more ≡ lines ++ text ∷ []
+      → after ≡ zones_opened next zones
+      → all ≡ with_event (event_read (unnumbered_line text (state_in world))) events
+      → IsReached more after all next

@@ -111,7 +111,7 @@ fn run_turns<
     plan: &Plan<W::Up>,
     hashers: RandomState,
     feeder: &mut Feeder<N>,
-    readers: Vec<PolicyReader<N>>,
+    readers: &mut Vec<PolicyReader<N>>,
     wires: &mut W,
     spawner: &mut P,
     clock: &mut C,
@@ -205,7 +205,7 @@ fn serve_open<
     plan: &Plan<W::Up>,
     hashers: RandomState,
     feeder: &mut Feeder<N>,
-    readers: Vec<PolicyReader<N>>,
+    readers: &mut Vec<PolicyReader<N>>,
     wires: &mut W,
     spawner: &mut P,
     clock: &mut C,
@@ -324,7 +324,7 @@ pub(crate) fn serve_over<
     ensures failed { result ≡ Err ServeError.WriteFault →
         Rose (K.faults out.old) (K.faults out.new) }
 {
-    let (publisher, readers) = parts.open::<N, R>(rt, alloc)?;
+    let (publisher, mut readers) = parts.open::<N, R>(rt, alloc)?;
     let now = clock.now();
     let PlannedZones { origins, primaries } = zones;
     let mut feeder = Feeder::start(rt, alloc, publisher, origins, primaries, now)?;
@@ -334,7 +334,7 @@ pub(crate) fn serve_over<
         plan,
         hashers,
         &mut feeder,
-        readers,
+        &mut readers,
         wires,
         spawner,
         clock,

@@ -14,7 +14,8 @@ use answer_cache::Shared;
 use edge_io::{Clock, Deadline, Endpoint, Ids, Inlet, Link, Spawner, StartError, Task, Wires};
 use policy_publish::{Latest, PolicyReader, StoreName};
 use rpz_workers::{
-    AsksNobody, InletItems, NoGate, NoOnward, Report, RequestItems, ServeTask, Worker,
+    AsksNobody, InletItems, NoGate, NoOnward, Report, RequestItems, RequestOnward, ServeTask,
+    Worker,
 };
 use std::alloc::{AllocError, Global};
 use std::hash::RandomState;
@@ -118,6 +119,32 @@ fn hold<L: Link, R: Wait + Copy + Drop>(
     Ok(Shared::new(*rt, Arc::try_clone(cache)?))
 }
 
+// What a worker that asks is given: a hold on the cache, what it takes, and the handle on when its time is over, for its link.
+fn asking_parts<N: StoreName, L: Link, R: Wait + time::Clock + Copy + Drop>(
+    rt: &R,
+    alloc: Global,
+    cache: &ServerCache<L>,
+    feeds: &Feeds<N>,
+) -> Result<(Shared<R, L>, RequestItems<N, R>, Deadline), AllocError> {
+    let shared = hold(rt, cache)?;
+    let (items, deadline) = feeds.passed(rt, alloc)?;
+    Ok((shared, items, deadline))
+}
+
+// What a worker that answers is given: a hold on the cache, the handle on what is published, and where it passes on what needs the
+// upstream.
+fn answering_parts<N: StoreName, L: Link, R: Wait + time::Clock + Copy + Drop>(
+    rt: &R,
+    alloc: Global,
+    cache: &ServerCache<L>,
+    feeds: &Feeds<N>,
+) -> Result<(Shared<R, L>, Latest<N>, RequestOnward<N, R>), AllocError> {
+    let shared = hold(rt, cache)?;
+    let latest = feeds.latest()?;
+    let onward = feeds.onward(rt, alloc)?;
+    Ok((shared, latest, onward))
+}
+
 // Starts a worker that asks over the link, over the cache that all workers share.
 fn start_asking<
     N: StoreName + Send + Sync + 'static,
@@ -129,7 +156,7 @@ fn start_asking<
 >(
     rt: &R,
     alloc: Global,
-    cache: &ServerCache<W::Up>,
+    shared: Shared<R, W::Up>,
     reader: PolicyReader<N>,
     items: RequestItems<N, R>,
     link: W::Up,
@@ -147,7 +174,6 @@ fn start_asking<
     ensures not_socket { result ≢ Err ServeError.SocketFault }
     ensures not_write { result ≢ Err ServeError.WriteFault }
 {
-    let shared = hold(rt, cache)?;
     let worker = Worker::new(alloc, reader, shared, link, ids, NoGate);
     start_task(
         rt,
@@ -191,11 +217,11 @@ fn start_asker<
         Rose (P.faults spawner.old) (P.faults spawner.new) }
     ensures not_write { result ≢ Err ServeError.WriteFault }
 {
-    let (items, deadline) = feeds.passed(rt, alloc)?;
+    let (shared, items, deadline) = asking_parts(rt, alloc, cache, feeds)?;
     let (link, replies) = wire_asker(wires, upstream, deadline)?;
     let (own_clock, own_ids) = (clock.another(), ids.another());
     start_asking::<N, W, P, C, I, R>(
-        rt, alloc, cache, reader, items, link, replies, spawner, own_clock, own_ids,
+        rt, alloc, shared, reader, items, link, replies, spawner, own_clock, own_ids,
     )
 }
 
@@ -274,9 +300,8 @@ fn start_answering<
     ensures not_socket { result ≢ Err ServeError.SocketFault }
     ensures not_write { result ≢ Err ServeError.WriteFault }
 {
-    let shared = hold(rt, cache)?;
-    let items = InletItems::new(*rt, inlet, feeds.latest()?);
-    let onward = feeds.onward(rt, alloc)?;
+    let (shared, latest, onward) = answering_parts(rt, alloc, cache, feeds)?;
+    let items = InletItems::new(*rt, inlet, latest);
     let worker: Worker<N, W::Up, Shared<R, W::Up>, AsksNobody> = Worker::passing_on(
         alloc, reader, shared,
     );
@@ -455,7 +480,7 @@ pub(crate) fn start_all<
     alloc: Global,
     plan: &Plan<W::Up>,
     hashers: RandomState,
-    readers: Vec<PolicyReader<N>>,
+    readers: &mut Vec<PolicyReader<N>>,
     latest: Latest<N>,
     wires: &mut W,
     spawner: &mut P,
@@ -478,7 +503,6 @@ pub(crate) fn start_all<
         Rose (P.faults spawner.old) (P.faults spawner.new) }
     ensures not_write { result ≢ Err ServeError.WriteFault }
 {
-    let mut readers = readers;
     let server = plan.server;
     let feeds = Feeds::open(alloc, server.askers, hashers, latest)?;
     start_askers::<N, W, P, C, I, R>(
@@ -486,7 +510,7 @@ pub(crate) fn start_all<
         alloc,
         server.upstream,
         &plan.cache,
-        &mut readers,
+        readers,
         server.askers,
         wires,
         spawner,
@@ -498,7 +522,7 @@ pub(crate) fn start_all<
         rt,
         alloc,
         &plan.cache,
-        &mut readers,
+        readers,
         plan.workers,
         wires,
         spawner,
