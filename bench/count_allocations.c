@@ -1,10 +1,12 @@
-/* Counts the calls for memory of a program that it is loaded into, and says at the end on standard error how many there were:
+/* Counts the calls for memory of a program that it is loaded into, says at the end on standard error how many there were, and can refuse
+   one of them:
 
        cc -O2 -shared -fPIC -o count_allocations.so count_allocations.c
        LD_PRELOAD=./count_allocations.so PROGRAM
 
    With COUNT_FILE=NAME in the environment the numbers stand in that file, six of eight bytes each in the order of the line at the end, all
-   the while that the program runs; a program that ends without the C library says nothing at its end.
+   the while that the program runs; a program that ends without the C library says nothing at its end. With REFUSE=N the call of this
+   number, from 1 on, gets no memory.
 
    Each call is counted, whether it gets memory or not, but for free of no memory. The memory is that of the GNU C library,
    by the names that it keeps for this. */
@@ -28,10 +30,22 @@ enum { mallocs, callocs, reallocs, aligned_allocs, posix_memaligns, frees, KINDS
 
 static atomic_ulong own[KINDS];
 static atomic_ulong *calls = own;
+static atomic_ulong asked; /* for memory, where one call is to be refused */
+static unsigned long refused; /* the number of that call, or 0 */
 
-static void count(int kind)
+/* Counts a call, and says whether it is the one that is refused. */
+static int count(int kind)
 {
     atomic_fetch_add_explicit(&calls[kind], 1, memory_order_relaxed);
+    return refused != 0 && kind != frees && atomic_fetch_add_explicit(&asked, 1, memory_order_relaxed) + 1 == refused;
+}
+
+__attribute__((constructor)) static void refuse(void)
+{
+    const char *number = getenv("REFUSE");
+
+    if (number != NULL)
+        refused = strtoul(number, NULL, 10);
 }
 
 __attribute__((constructor)) static void share(void)
@@ -49,34 +63,28 @@ __attribute__((constructor)) static void share(void)
 
 void *malloc(size_t size)
 {
-    count(mallocs);
-    return __libc_malloc(size);
+    return count(mallocs) ? NULL : __libc_malloc(size);
 }
 
 void *calloc(size_t members, size_t size)
 {
-    count(callocs);
-    return __libc_calloc(members, size);
+    return count(callocs) ? NULL : __libc_calloc(members, size);
 }
 
 void *realloc(void *memory, size_t size)
 {
-    count(reallocs);
-    return __libc_realloc(memory, size);
+    return count(reallocs) ? NULL : __libc_realloc(memory, size);
 }
 
 void *aligned_alloc(size_t alignment, size_t size)
 {
-    count(aligned_allocs);
-    return __libc_memalign(alignment, size);
+    return count(aligned_allocs) ? NULL : __libc_memalign(alignment, size);
 }
 
 int posix_memalign(void **memory, size_t alignment, size_t size)
 {
-    void *got;
+    void *got = count(posix_memaligns) ? NULL : __libc_memalign(alignment, size);
 
-    count(posix_memaligns);
-    got = __libc_memalign(alignment, size);
     if (got == NULL)
         return ENOMEM;
     *memory = got;

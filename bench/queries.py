@@ -9,7 +9,8 @@ alone are made.
 
 Half of the rules of a zone are hK.gJ.example CNAME . and half *.wK.gJ.example CNAME . (every name doesn't exist). Exact
 hits ask for names of the first kind, wildcard hits for x.wK.gJ.example, and passes for pK.gJ.example, which the server
-answers with one address, of TTL 0 so that each is asked for. The names are drawn at random, the same at each run.
+answers with one address, of TTL 0 so that each is asked for. Local data are asked for as exact hits are, in a zone whose rules have an
+address each. The names are drawn at random, the same at each run.
 
 The first table is that of `bench queries`, which does with the lines of a script what `rpz replay` does, over zones that it
 reads from streams, for 1,000 and 1,000,000 rules: the queries per second once the zone is loaded. Then come 8 zones of
@@ -40,11 +41,12 @@ import sys
 import tempfile
 import time
 
-from stream import ORIGIN, label, write_zone
+from stream import ORIGIN, ZONE, label, pointer, record, write_zone
 
 RUNS = 3
 TURNS = 7
 KINDS = ("exact hits", "wildcard hits", "passes")
+LOCAL = "local data"  # exact hits in a zone whose rules have an address each
 MANY_ZONES = 8
 MANY_RULES = 1_000
 GROUP = 100  # rows of one gJ.example
@@ -67,16 +69,21 @@ QUERY, RESPONSE = 0x0100, 0x8100
 SHIM = os.path.join(os.path.dirname(os.path.abspath(__file__)), "count_allocations.c")
 
 
-def rules(count):
+def rules(count, kind=None):
     half = count // 2
     rows = [(f"h{number % GROUP}", f"g{number // GROUP}", "example") for number in range(half)]
     rows += [("*", f"w{number % GROUP}", f"g{number // GROUP}", "example") for number in range(half)]
-    return rows
+    return [*map(with_address, rows)] if kind == LOCAL else rows
+
+
+def with_address(labels):
+    """A row of this owner in front of the zone's that has an address."""
+    return record(b"".join(map(label, labels)) + pointer(ZONE), 1, bytes([192, 0, 2, 1]))
 
 
 def asked(kind, number):
     group, host = divmod(number, GROUP)
-    if kind == "exact hits":
+    if kind in ("exact hits", LOCAL):
         return (f"h{host}", f"g{group}", "example")
     if kind == "wildcard hits":
         return ("x", f"w{host}", f"g{group}", "example")
@@ -142,7 +149,7 @@ def write_lines(out, kind, count):
 
 def write_bench(out, kind, count):
     """The input of `bench queries` over one zone: its transfer, an empty message, then the lines."""
-    write_transfer(out, rules(count))
+    write_transfer(out, rules(count, kind))
     write_lines(out, kind, count)
 
 
@@ -247,9 +254,9 @@ def replay_rate(program, kind, count):
     return REPLAY_QUERIES / (full - bare)
 
 
-def table(title, rate, program, counts):
+def table(title, rate, program, counts, kinds=KINDS):
     print(title)
-    for kind in KINDS:
+    for kind in kinds:
         few, many = (rate(program, kind, count) for count in counts)
         print(f"{kind}: {few:.0f} queries/s with {counts[0]} rules, {many:.0f} with {counts[1]}; a query takes {few / many:.2f} times as long")
 
@@ -414,7 +421,7 @@ def rule_tables(wanted):
     if wanted.before:
         for kind in KINDS:
             compare(wanted.bench, wanted.before, kind, BENCH_RULES[1])
-    table("bench queries", bench_rate, wanted.bench, BENCH_RULES)
+    table("bench queries", bench_rate, wanted.bench, BENCH_RULES, (*KINDS, LOCAL))
     for kind in KINDS:
         one = bench_rate(wanted.bench, kind, MANY_RULES)
         many = many_rate(wanted.bench, kind, MANY_ZONES, MANY_RULES)

@@ -4,8 +4,8 @@
     python3 bench/serve.py RPZ [--seconds N] [--rounds N] [--rules N,N] [--servers NAME,NAME] [--workers N,N]
 
 RPZ is the built program. Wanted: nsd, the primary of the policy zone and the upstream, dnsperf, dig, and cc. Of unbound, pdns_recursor and
-named those that are installed are measured beside; `echo` is bench/udp_echo.c, one thread that sends each datagram back, which bounds
-what one thread can receive and send.
+named those that are installed are measured beside; `echo` is bench/udp_echo.c, as many threads as workers that send each datagram back,
+which bounds what these can receive and send.
 
 Half of the rules are hK.gJ.example CNAME . and half *.wK.gJ.example CNAME . Queries are for names of the first kind (hits), for 4,000
 names that no rule is about and that are in each server's cache (cached passes), or for both by turns (mix). dnsperf has two cores and
@@ -158,7 +158,7 @@ def words_of(server, folder, program, workers, zones):
         return ["pdns_recursor", f"--config-dir={folder}"]
     if server == "named":
         return ["named", "-f", "-n", str(workers), "-c", str(folder / "named.conf")]
-    return [str(folder / "udp_echo"), str(PORT)]
+    return [str(folder / "udp_echo"), str(PORT), str(workers)]
 
 
 class Running:
@@ -255,7 +255,7 @@ def main():
     print("    rules queries        server         workers     kq/s cpu s/Mq   p99 us   lost at half the rate   cpu without polls")
     with tempfile.TemporaryDirectory() as name:
         folder = pathlib.Path(name)
-        subprocess.run(["cc", "-O2", "-o", folder / "udp_echo", ROOT / "udp_echo.c"], check=True)
+        subprocess.run(["cc", "-O2", "-pthread", "-o", folder / "udp_echo", ROOT / "udp_echo.c"], check=True)
         for rules in map(int, options.rules.split(",")):
             write_zones(folder, rules)
             paths = {kind: write_queries(folder, kind, rules) for kind in KINDS}

@@ -6,7 +6,8 @@
 PROGRAM is `rpz`. For so many seconds (3,600) dnsperf asks so many queries a second (50,000), of which a tenth are misses; a primary makes
 ten changes a second, each with a NOTIFY and taken by an incremental transfer; and 100 connections come and go, each with a few queries.
 The upstream is an Unbound. A line is printed each minute: what was asked and lost so far (and how much of that the system dropped in front
-of the server; what else is missing was lost on its way back), the resident memory, the descriptors. At the
+of the server; what else is missing was lost on its way back, or not answered within 5 seconds, as where the machine stood still), the
+resident memory, the descriptors, and the longest time for which a thread didn't run that wanted to. At the
 end: the same, how many transfers were taken and refused, and whether memory and descriptors stayed flat. The status is 0 where nothing
 was lost or refused and neither grew. Wanted: dnsperf and unbound (packages of Debian). Nothing else should run meanwhile.
 """
@@ -180,17 +181,36 @@ def dropped(port):
     return sum(int(row[-1]) for row in rows if int(row[1].split(":")[1], 16) == port)
 
 
+class Pauses:
+    """The longest time for which this process didn't run though it wanted to: whether the machine stood still."""
+
+    def __init__(self):
+        self.longest = 0.0
+        threading.Thread(target=self.look, daemon=True).start()
+
+    def look(self):
+        while True:
+            begun = time.monotonic()
+            time.sleep(0.01)
+            self.longest = max(self.longest, time.monotonic() - begun - 0.01)
+
+    def take(self):
+        """The longest since the last call."""
+        longest, self.longest = self.longest, 0.0
+        return longest
+
+
 def watch(server, options, path):
     """Asks in parts of a minute; what was sent, lost and seen of memory and descriptors."""
     sent = lost = 0
-    seen = []
+    seen, pauses = [], Pauses()
     end = time.monotonic() + options.seconds
     while (left := end - time.monotonic()) >= 1:
         text = dnsperf(path, options.port, int(min(60, left)), options.rate)
         sent, lost = sent + figure(text, "Queries sent"), lost + figure(text, "Queries lost")
         seen.append((server.resident(), server.descriptors()))
         print(f"{sent:>12,} asked, {lost} lost ({dropped(options.port)} before the server read them), {seen[-1][0] >> 20} MiB resident, "
-              f"{seen[-1][1]} descriptors", flush=True)
+              f"{seen[-1][1]} descriptors, longest pause of the machine {1000 * pauses.take():.0f} ms", flush=True)
     return sent, lost, seen
 
 
