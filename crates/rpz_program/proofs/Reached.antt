@@ -135,9 +135,11 @@ line_reached true long number lines w line r next reached is took = absurd cc
 line_reached false true number lines w line r next reached is took = absurd cc
 line_reached false false number lines w line (Err why) next reached is took = absurd cc
 line_reached false false number lines w line (Ok (given, out)) next reached is took =
-    subst (λ (n : (ℕ × ScriptWorld) × List ℕ). IsReachedBy (lines ++ line ∷ []) n.0.1) (counted_is ((number + 1, given), out) next took)
-    (zones_opened given reached.0, with_event (event_read (unnumbered_line line (state_in w))) reached.1,
-    after_line lines (lines ++ line ∷ []) reached.0 (zones_opened given reached.0) reached.1 (with_event (event_read (unnumbered_line line (state_in w))) reached.1) w given line out reached.2 is refl refl refl)
+    subst (λ (n : (ℕ × ScriptWorld) × List ℕ). IsReachedBy (lines ++ line ∷ []) n.0.1) (counted_is ((number + 1, given), out) next took) (
+      zones_opened given reached.0,
+      with_event (event_read (unnumbered_line line (state_in w))) reached.1,
+      after_line lines (lines ++ line ∷ []) reached.0 (zones_opened given reached.0) reached.1 (with_event (event_read (unnumbered_line line (state_in w))) reached.1) w given line out reached.2 is refl refl refl,
+    )
 
 abbrev Ended : Type 0
 Ended = Result (ℕ × ScriptWorld) (ℕ × LineFault)
