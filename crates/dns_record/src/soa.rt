@@ -9,7 +9,7 @@ use dns_name::{Name, Octets};
 use std::alloc::{AllocError, Global};
 
 /// What a SOA record says (RFC 1035, section 3.3.13). All times are in seconds.
-#[derive(Debug, Drop)]
+#[derive(Debug)]
 pub struct Soa {
     /// The name of the primary server.
     pub mname: Name,
@@ -24,6 +24,22 @@ pub struct Soa {
     pub minimum: u32,
     /// How long the record itself may be kept.
     pub ttl: u32,
+}
+
+// Written out, so that wherever one is dropped this is one call.
+impl Drop for Soa {
+    fn drop(self) {
+        let Soa {
+            mname: _,
+            rname: _,
+            serial: _,
+            refresh: _,
+            retry: _,
+            expire: _,
+            minimum: _,
+            ttl: _,
+        } = self;
+    }
 }
 
 /// A copy is what the SOA says. It takes an allocation for each of the two names.

@@ -21,7 +21,6 @@ const SPARE: usize = 8192;
 /// blocks of at most 512, which copies of the list share; no edit of one is seen in the other. An edit copies one block, and a
 /// copy of the list takes time for each 32,768th row and the rows of the last block; beside these, both take time for one word
 /// of each block.
-#[derive(Drop)]
 pub struct RowList {
     blocks: SharedTable<Held<Block>>,
     tail: Block,
@@ -43,6 +42,21 @@ impl Model for RowList {
 
     ghost invariant = { λ l. IsIndexed l.firsts l.starts (l.blocks ++ l.tail ∷ [])
         l.next };
+}
+
+// Written out, so that wherever one is dropped this is one call.
+impl Drop for RowList {
+    fn drop(self) {
+        let RowList {
+            blocks: _,
+            tail: _,
+            firsts: _,
+            starts: _,
+            next: _,
+            gone: _,
+            alloc: _,
+        } = self;
+    }
 }
 
 impl RowList {
