@@ -14,8 +14,6 @@ mod edges;
 #[cfg(test)]
 mod frames;
 #[cfg(test)]
-mod indexes;
-#[cfg(test)]
 mod laws;
 #[cfg(test)]
 mod links;
@@ -25,8 +23,6 @@ mod load_runs;
 mod names;
 #[cfg(test)]
 mod polls;
-#[cfg(test)]
-mod prefixes;
 #[cfg(test)]
 mod records;
 #[cfg(test)]

@@ -1,2 +1,11 @@
+pub mod PlainNode
+pub mod Nodes
+pub mod Walk
+pub mod Trie
+pub mod Bits
+pub mod Halves
+pub mod BitsLaws
 pub mod Longest
 pub mod Order
+pub mod Ranked
+pub mod Made

@@ -1,7 +1,17 @@
-//! Maps from prefixes of addresses, with a look-up of the longest prefix that contains an address.
+//! Maps from prefixes of addresses, whose versions share their nodes.
 #![tactic(auto)]
 
+mod bit_trie;
+mod build;
+mod copy;
+mod key;
+mod keyed;
+mod long;
 mod map;
-mod ranked;
+mod node;
+mod put;
+mod short;
+mod take;
+mod walk;
 
-pub use map::PrefixMap;
+pub use map::PrefixTrie;

@@ -1,124 +1,199 @@
 //! A map from prefixes.
 
-ghost use Rattle.std.specs.Prelude.{◌≡◌, [], length, None, IfOk, OnOk, OnErr};
+ghost use Rattle.std.specs.Prelude.{◌≡◌, ◌+◌, ◌≤◌, [], true, IfOk, IfSome};
 ghost use Rattle.std.specs.BTreeMap.{insert_entry, is_at};
-ghost use Rattle.std.specs.List.{AllByRecursion};
-ghost use Rattle.std.specs.List.Sorted.{IsStrictlySortedBy};
-ghost use Rattle.std.specs.Map.{keys_of, lookup, remove_entry};
-ghost use Rattle.std.specs.Option.{option_copied, option_map};
-ghost use Rattle.ip_prefix.specs.Prefix.{IsPrefix, prefix_order};
-ghost use Rattle.prefix_index.specs.Longest.{longest};
+ghost use Rattle.std.specs.Map.{lookup, remove_entry};
+ghost use Rattle.ip_prefix.specs.Prefix.{prefix_order};
+ghost use Rattle.prefix_index.specs.Longest.{longest_acting};
+ghost use Rattle.prefix_index.specs.Ranked.{with_all};
+ghost use Rattle.prefix_index.specs.Trie.{ArePresent};
 
-use crate::ranked::Ranked;
-use ip_prefix::{Addr, Prefix, laws};
+use crate::bit_trie::BitTrie;
+use crate::key::Key;
+use crate::keyed::push_prefixes;
+use crate::long::Long;
+use crate::short::Short;
+use ip_prefix::{Addr, Prefix};
 use std::alloc::{AllocError, Global};
-use std::collections::BTreeMap;
 use std::marker::Model;
+use std::sync::ledger::Ledger;
+use trie_keys::{Mark, Marked, Steps};
 
-/// A map from prefixes to values. Contracts see the list of its entries in the order of precedence of their
-/// prefixes, each prefix once.
+/// A map from prefixes to plain values with their marks. Contracts see the list of its entries in the order of precedence of their
+/// prefixes, each prefix once. An edit gives a new version, and the two share what is the same in both.
 #[derive(Drop)]
-pub struct PrefixMap<V> {
-    entries: BTreeMap<Ranked, V>,
+pub struct PrefixTrie<N, M: Mark> {
+    four: BitTrie<Short, N, M>,
+    six: BitTrie<Long, N, M>,
 }
 
-impl<V> Model for PrefixMap<V> {
+impl<N, M: Mark> Model for PrefixTrie<N, M> {
     ghost use Rattle.std.specs.Prelude.{List};
-    ghost use Rattle.std.specs.List.{AllByRecursion};
-    ghost use Rattle.std.specs.List.Sorted.{IsStrictlySortedBy};
-    ghost use Rattle.std.specs.Map.{keys_of};
-    ghost use Rattle.ip_prefix.specs.Prefix.{PlainPrefix, IsPrefix, prefix_order};
+    ghost use Rattle.ip_prefix.specs.Prefix.{PlainPrefix};
+    ghost use Rattle.trie_keys.specs.declared.marked.Marked.{Marked};
+    ghost use Rattle.prefix_index.specs.Ranked.{AreSome, ranked_prefixes};
 
-    ghost Value = { List (PlainPrefix × V) };
+    ghost Value = { List (PlainPrefix × Marked N M) };
 
-    ghost view = { λ m. m.entries.entries };
+    ghost view = { λ t. ranked_prefixes t.four t.six };
 
-    ghost invariant = { λ m. AllByRecursion (λ e. IsPrefix e.0) m.entries.entries
-        × IsStrictlySortedBy prefix_order (keys_of m.entries.entries) };
+    ghost invariant = { λ t. AreSome t.four × AreSome t.six };
 }
 
-impl<V> PrefixMap<V> {
+impl<N: Copy + Drop, M: Mark> PrefixTrie<N, M> {
     /// No entries. It takes no memory.
-    pub fn new(alloc: Global) -> Self
+    pub fn empty(alloc: Global) -> Self
         ensures { result ≡ [] }
     {
-        PrefixMap {
-            entries: BTreeMap::new(alloc),
+        PrefixTrie {
+            four: BitTrie::empty(alloc),
+            six: BitTrie::empty(alloc),
         }
     }
 
-    /// How many entries. Its clauses also say that each key is a prefix, and that the keys stand in the order of
-    /// precedence, each once.
-    pub fn len(&self) -> usize
-        ensures len { result ≡ length self.now }
-        ensures prefixes { AllByRecursion (λ e. IsPrefix e.0) self.now }
-        ensures sorted { IsStrictlySortedBy prefix_order (keys_of self.now) }
+    /// The entries, of which a later one of a prefix counts in place of an earlier one.
+    pub fn of(alloc: Global, entries: &[(Prefix, Marked<N, M>)]) -> Result<Self, AllocError>
+        requires { ArePresent M.present entries.now }
+        ensures { IfOk result (λ trie. trie ≡ with_all [] entries.now) }
     {
-        self.entries.len()
-    }
-
-    /// Puts the value at the prefix, and gives back the one that was there. It takes memory only for a prefix
-    /// that is new, so only such a one can be an `Err`, which leaves the map as it was
-    /// and drops the value.
-    pub fn insert(&mut self, prefix: Prefix, value: V) -> Result<Option<V>, AllocError>
-    where
-        V: Drop,
-        ensures old { IfOk result (λ old. old ≡ lookup (is_at (prefix_order prefix)) self.old) }
-        ensures ok { OnOk result (self.new ≡ insert_entry prefix_order self.old prefix value) }
-        ensures err { OnErr result (self.new ≡ self.old) }
-        ensures err_new { OnErr result (lookup (is_at (prefix_order prefix)) self.old ≡ None) }
-    {
-        Ok(self.entries.insert(Ranked::of(prefix), value)?)
-    }
-
-    /// Takes out the entry of exactly this prefix, and gives its value back. It takes no memory.
-    pub fn remove(&mut self, prefix: Prefix) -> Option<V>
-    where
-        V: Drop,
-        ensures value { result ≡ lookup (is_at (prefix_order prefix)) self.old }
-        ensures entries { self.new ≡ remove_entry (is_at (prefix_order prefix)) self.old }
-    {
-        self.entries.remove(&Ranked::of(prefix))
-    }
-
-    /// The entries in the order of precedence.
-    pub fn into_entries(self, alloc: Global) -> Result<Vec<(Prefix, V)>, AllocError>
-    where
-        V: Drop,
-        ensures { IfOk result (λ entries. entries.items ≡ self) }
-    {
-        let mut entries = Vec::with_capacity(alloc, self.entries.len())?;
-        for (ranked, value) in self.entries {
-            entries.push((ranked.prefix(), value))?;
+        if let Some(trie) = Self::of_distinct(alloc, entries)? {
+            return Ok(trie);
         }
+        let mut trie = PrefixTrie::empty(alloc);
+        for entry in entries {
+            trie = trie.inserted(&entry.0, entry.1)?;
+        }
+        Ok(trie)
+    }
+
+    // The entries, or `None` where a prefix stands twice.
+    fn of_distinct(
+        alloc: Global,
+        entries: &[(Prefix, Marked<N, M>)],
+    ) -> Result<Option<Self>, AllocError>
+        requires { ArePresent M.present entries.now }
+        ensures { IfOk result (λ built. IfSome built (λ trie. trie ≡ with_all [] entries.now)) }
+    {
+        let Some(four) = BitTrie::of(alloc, entries)? else {
+            return Ok(None);
+        };
+        let Some(six) = BitTrie::of(alloc, entries)? else {
+            return Ok(None);
+        };
+        Ok(Some(PrefixTrie { four, six }))
+    }
+
+    /// The same version once more: for an edit of many prefixes, by [`inserted`](Self::inserted) and [`removed`](Self::removed),
+    /// which leaves this version as it is.
+    pub fn share(&self) -> Result<Self, AllocError>
+        ensures { IfOk result (λ trie. trie ≡ self.now) }
+    {
+        let four = self.four.share()?;
+        let six = self.six.share()?;
+        Ok(PrefixTrie { four, six })
+    }
+
+    /// The same version, of copies of the nodes in use alone.
+    pub fn rebuilt(&self) -> Result<Self, AllocError>
+        ensures { IfOk result (λ trie. trie ≡ self.now) }
+    {
+        let four = self.four.rebuilt()?;
+        let six = self.six.rebuilt()?;
+        Ok(PrefixTrie { four, six })
+    }
+
+    /// With the value at the prefix. This version stays as it is.
+    pub fn with(&self, prefix: &Prefix, value: Marked<N, M>) -> Result<Self, AllocError>
+        requires { M.present value.mark ≡ true }
+        ensures { IfOk result (λ trie. trie ≡ insert_entry prefix_order self.now prefix.now value) }
+    {
+        self.share()?.inserted(prefix, value)
+    }
+
+    /// Without the prefix. This version stays as it is.
+    pub fn without(&self, prefix: &Prefix) -> Result<Self, AllocError>
+        ensures { IfOk result (λ trie. trie ≡ remove_entry (is_at (prefix_order prefix.now)) self.now) }
+    {
+        self.share()?.removed(prefix)
+    }
+
+    /// With the value at the prefix, in place of this version: one of many edits.
+    pub fn inserted(self, prefix: &Prefix, value: Marked<N, M>) -> Result<Self, AllocError>
+        requires { M.present value.mark ≡ true }
+        ensures { IfOk result (λ trie. trie ≡ insert_entry prefix_order self prefix.now value) }
+    {
+        let PrefixTrie { four, six } = self;
+        match prefix.addr() {
+            Addr::V4(number) => {
+                let four = four.inserted(Short::new(number, prefix.length()), value)?;
+                Ok(PrefixTrie { four, six })
+            }
+            Addr::V6(number) => {
+                let six = six.inserted(Long::new(number, prefix.length()), value)?;
+                Ok(PrefixTrie { four, six })
+            }
+        }
+    }
+
+    /// Without the prefix, in place of this version: one of many edits.
+    pub fn removed(self, prefix: &Prefix) -> Result<Self, AllocError>
+        ensures { IfOk result (λ trie. trie ≡ remove_entry (is_at (prefix_order prefix.now)) self) }
+    {
+        let PrefixTrie { four, six } = self;
+        match prefix.addr() {
+            Addr::V4(number) => {
+                let four = four.removed(&Short::new(number, prefix.length()))?;
+                Ok(PrefixTrie { four, six })
+            }
+            Addr::V6(number) => {
+                let six = six.removed(&Long::new(number, prefix.length()))?;
+                Ok(PrefixTrie { four, six })
+            }
+        }
+    }
+
+    /// All entries in the order of precedence.
+    pub fn entries(&self, alloc: Global) -> Result<Vec<(Prefix, Marked<N, M>)>, AllocError>
+        ensures { IfOk result (λ entries. entries.items ≡ self.now) }
+    {
+        let four = self.four.entries(alloc)?;
+        let six = self.six.entries(alloc)?;
+        let mut entries = Vec::new(alloc);
+        push_prefixes(&four, &mut entries)?;
+        push_prefixes(&six, &mut entries)?;
+        entries.sort_by(|a, b| a.0.rank_cmp(&b.0))?;
         Ok(entries)
     }
 
-    /// The value at exactly this prefix. It takes no memory.
-    pub fn get(&self, prefix: Prefix) -> Option<&V>
-        ensures { option_copied result ≡ lookup (is_at (prefix_order prefix)) self.now }
+    /// The value at exactly this prefix, whether it acts or not. It takes no memory.
+    pub fn get(&self, prefix: &Prefix) -> Option<Marked<N, M>>
+        ensures { result ≡ lookup (is_at (prefix_order prefix.now)) self.now }
     {
-        self.entries.get(&Ranked::of(prefix))
+        match prefix.addr() {
+            Addr::V4(number) => self.four.get(&Short::new(number, prefix.length())),
+            Addr::V6(number) => self.six.get(&Long::new(number, prefix.length())),
+        }
     }
 
-    /// The entry of the longest prefix that contains the address: the first such entry in the order of
-    /// precedence. It takes no memory. Its time is that of at most 32 look-ups for an address of version 4, and
-    /// 128 for one of version 6.
-    pub fn longest(&self, addr: Addr) -> Option<(Prefix, &V)>
-        ensures { option_map (λ e. (e.0, e.1.now)) result ≡ longest addr self.now }
+    /// The entry of the longest prefix that contains the address, of those that act: the first such entry in the order of
+    /// precedence. It takes no memory, and looks at no more than 129 nodes.
+    pub fn longest<L: Ledger>(
+        &self,
+        addr: Addr,
+        steps: &mut Steps<L>,
+    ) -> Option<(Prefix, Marked<N, M>)>
+        ensures found { result ≡ longest_acting M.acts addr self.now }
+        ensures cost { steps.new ≤ steps.old + 129 }
     {
-        laws::a_prefix_contains_what_agrees();
-        if self.entries.is_empty() {
-            return None;
+        match addr {
+            Addr::V4(number) => match self.four.longest(&Short::new(number, 32), steps) {
+                Some(found) => Some((found.0.prefix(), found.1)),
+                None => None,
+            },
+            Addr::V6(number) => match self.six.longest(&Long::new(number, 128), steps) {
+                Some(found) => Some((found.0.prefix(), found.1)),
+                None => None,
+            },
         }
-        let mut length = addr.width();
-        while length > 0 {
-            let prefix = Prefix::of(addr, length);
-            if let Some(value) = self.entries.get(&Ranked::of(prefix)) {
-                return Some((prefix, value));
-            }
-            length -= 1;
-        }
-        None
     }
 }

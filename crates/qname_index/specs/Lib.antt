@@ -1,4 +1,9 @@
 pub mod Best
-pub mod Head
 pub mod Index
 pub mod Rank
+pub mod Key
+pub mod Patterns
+pub mod Ranked
+pub mod Trie
+pub mod Found
+pub mod Listing

@@ -1,11 +1,11 @@
 -- Where a pattern stands among others, by what a look-up knows of it: two small numbers, and then bytes.
-use Rattle.std.specs.Prelude.{ℕ, ◌-◌, Bool, true, false, List, length, drop}
+use Rattle.std.specs.Prelude.{ℕ, Bool, List, length}
 use Rattle.std.specs.Cmp.{IsTotalOrder, then_total, on_total, back_total, bool_cmp_total, nat_cmp_total}
 use Rattle.std.specs.Cmp.Lexicographic.{slice_cmp, nat_list_cmp_total}
-use Rattle.std.specs.Ordering.{nat_cmp, bool_cmp, ordering_then, is_eq}
+use Rattle.std.specs.Ordering.{nat_cmp, bool_cmp, ordering_then}
 use Rattle.std.specs.declared.cmp.Ordering.{Ordering}
 use Rattle.dns_name.specs.Alike.{PlainPattern}
-use Rattle.dns_name.specs.Labels.{name_octets, Name}
+use Rattle.dns_name.specs.Labels.{name_octets}
 
 -- whether the pattern is wild, how many labels its base has, and the base as it is written
 pub record Rank : Type 0 where
@@ -28,16 +28,3 @@ rank_total =
     then_total (on_total (λ r. r.wild) bool_cmp_total) (then_total
     (back_total (on_total (λ r. r.labels) nat_cmp_total))
     (on_total (λ r. r.octets) nat_list_cmp_total))
-
--- the rank of the exact pattern of a name
-abbrev pub exact_rank : Name → Rank
-exact_rank name = record { wild = false; labels = length name; octets = name_octets name }
-
--- the rank of the wild pattern whose base is so many labels of the name, its last ones
-abbrev pub wild_rank : Name → ℕ → Rank
-wild_rank name count =
-    record { wild = true; labels = count; octets = name_octets (drop (length name - count) name) }
-
--- the rank is the pattern's
-abbrev pub has_rank : Rank → PlainPattern → Bool
-has_rank rank pattern = is_eq (rank_order rank (rank_of pattern))

@@ -1,12 +1,13 @@
-//! Maps from patterns of names, with a look-up of the pattern that comes first for a name.
+//! Maps from patterns of names, whose versions share their nodes.
 #![tactic(auto)]
 
 mod key;
+pub mod laws;
+mod listing;
 mod map;
+mod order;
 mod pattern_ref;
 
-// Contracts of other crates can name the map only if the types of its fields are exported, too.
-#[doc(hidden)]
 pub use key::Key;
-pub use map::NameMap;
+pub use map::{Found, NameTrie};
 pub use pattern_ref::PatternRef;

@@ -1,209 +1,174 @@
-//! The map.
+//! A map from patterns of names.
 
-ghost use Rattle.std.specs.Prelude.{◌≡◌, true, false, [], length, IfOk, OnOk, OnErr, slice_index_or};
+ghost use Rattle.std.specs.Prelude.{◌≡◌, ◌+◌, ◌≤◌, [], true, map, IfOk};
 ghost use Rattle.std.specs.BTreeMap.{insert_entry, is_at};
-ghost use Rattle.std.specs.Map.{keys_of, lookup, lookup_entry, remove_entry};
-ghost use Rattle.std.specs.Option.{option_map, option_copied};
-ghost use Rattle.dns_name.specs.Alike.{PlainPattern};
+ghost use Rattle.std.specs.Map.{lookup, remove_entry};
+ghost use Rattle.std.specs.Option.{option_map};
 ghost use Rattle.dns_name.specs.Labels.{lowered};
-ghost use Rattle.qname_index.specs.Best.{pattern_order, best};
-ghost use Rattle.qname_index.specs.Index.{IsIndex, IsMarked};
-ghost use Rattle.qname_index.specs.Rank.{has_rank};
+ghost use Rattle.octet_trie.specs.Listed.{ArePresent};
+ghost use Rattle.octet_trie.specs.Trie.{found_entry};
+ghost use Rattle.qname_index.specs.Best.{pattern_order};
+ghost use Rattle.trie_keys.specs.Filling.{with_all};
+ghost use Rattle.qname_index.specs.Found.{found_pattern};
+ghost use Rattle.qname_index.specs.Listing.{AreListed};
+ghost use Rattle.qname_index.specs.Ranked.{ArePatternKeys, patterns};
+ghost use Rattle.qname_index.specs.Trie.{best_acting};
 
-use crate::key::{Key, KeyParts, head_of};
+use crate::key::Key;
+use crate::listing::{listing_cmp, push_entries};
 use crate::pattern_ref::PatternRef;
-use dns_name::laws::{names_of_equal_octets_are_equal, names_that_are_alike};
+use dns_name::laws::names_that_are_alike;
 use dns_name::{Name, Pattern};
+use octet_trie::{OctetFound, OctetTrie};
 use std::alloc::{AllocError, Global};
-use std::collections::BTreeMap;
 use std::marker::Model;
+use std::sync::ledger::Ledger;
+use trie_keys::{Mark, Marked, Steps};
 
-// One more than the labels that a name can have: each takes two octets or more, of 255, and one octet is the zero.
-const DEPTHS: usize = 128;
-
-/// A map from patterns of names to values. Contracts see its entries in order of precedence: exact patterns
-/// before wild ones, then the base of more labels first.
+/// An entry: its pattern, which lies in the trie, and its value.
 #[derive(Drop)]
-pub struct NameMap<V> {
-    entries: BTreeMap<Key, V>,
-    // Whether a wild pattern may have a base of so many labels. Without it a look-up searches the entries once for
-    // each ancestor of the name, of which most can't be there. A removal clears no mark.
-    wild_depths: [bool; DEPTHS],
+pub struct Found<'a, N, M> {
+    /// Its pattern.
+    pub pattern: PatternRef<'a>,
+    /// Its value.
+    pub value: Marked<N, M>,
 }
 
-impl<V> Model for NameMap<V> {
+/// A map from patterns of names to small plain values with their marks. Contracts see the list of its entries in order of
+/// precedence, each pattern once: exact patterns before wild ones, then the base of more labels first. An edit gives a new
+/// version, and the two share what is the same in both.
+#[derive(Drop)]
+pub struct NameTrie<N, M: Mark> {
+    trie: OctetTrie<N, M>,
+}
+
+impl<N, M: Mark> Model for NameTrie<N, M> {
     ghost use Rattle.std.specs.Prelude.{List};
     ghost use Rattle.dns_name.specs.Alike.{PlainPattern};
-    ghost use Rattle.qname_index.specs.Index.{IsIndex, AreMarked};
+    ghost use Rattle.trie_keys.specs.declared.marked.Marked.{Marked};
+    ghost use Rattle.qname_index.specs.Ranked.{ranked_patterns};
+    ghost use Rattle.qname_index.specs.Trie.{IsNameTrie};
 
-    ghost Value = { List (PlainPattern × V) };
+    ghost Value = { List (PlainPattern × Marked N M) };
 
-    ghost view = { λ m. m.entries.entries };
+    ghost view = { λ t. ranked_patterns t.trie };
 
-    ghost invariant = { λ m. IsIndex m.entries.entries
-        × AreMarked m.wild_depths m.entries.entries };
+    ghost invariant = { λ t. IsNameTrie t.trie };
 }
 
-// Marks how many labels the base of the pattern has, where the pattern is wild.
-fn mark(depths: &mut [bool; DEPTHS], key: &Key)
-    ensures marked { IsMarked depths.new key.now }
-    ensures kept { (pattern : PlainPattern) → IsMarked depths.old pattern →
-        IsMarked depths.new pattern }
-{
-    if key.pattern().is_wild() {
-        depths[key.labels()] = true;
-    }
-}
-
-// Whether so many labels are marked.
-fn is_marked(depths: &[bool; DEPTHS], labels: usize) -> bool
-    ensures { result ≡ slice_index_or depths.now labels false }
-{
-    labels < DEPTHS && depths[labels]
-}
-
-impl<V> NameMap<V> {
+impl<N: Copy + Drop, M: Mark> NameTrie<N, M> {
     /// No entries. It takes no memory.
-    pub fn new(alloc: Global) -> Self
+    pub fn empty(alloc: Global) -> Self
+    where
+        N: Default,
         ensures { result ≡ [] }
     {
-        NameMap {
-            entries: BTreeMap::new(alloc),
-            wild_depths: [false; DEPTHS],
+        NameTrie {
+            trie: OctetTrie::empty(alloc),
         }
     }
 
-    /// How many entries there are. In a map they are in order, each pattern once.
-    pub fn len(&self) -> usize
-        ensures count { result ≡ length self.now }
-        ensures index { IsIndex self.now }
-    {
-        self.entries.len()
-    }
-
-    /// Puts the value at the pattern, and gives back the one that was there. A new entry takes memory. An
-    /// `Err` leaves the map as it was. The time is logarithmic in the number of entries.
-    pub fn insert(&mut self, pattern: Pattern, value: V) -> Result<Option<V>, AllocError>
+    /// The entries by the octets of their patterns' keys ([`Key`]), of which a later one of a pattern counts in place of an earlier
+    /// one. Where they stand in the order of their keys, each key once, it takes one pass over them.
+    pub fn of(alloc: Global, entries: &[OctetFound<'_, N, M>]) -> Result<Self, AllocError>
     where
-        V: Drop,
-        ensures old { IfOk result (λ old. old ≡ lookup (is_at (pattern_order pattern)) self.old) }
-        ensures ok { OnOk result (self.new ≡ insert_entry pattern_order self.old pattern value) }
-        ensures err { OnErr result (self.new ≡ self.old) }
+        N: Default,
+        requires keys { ArePatternKeys (map found_entry entries.now) }
+        requires present { ArePresent M.present entries.now }
+        ensures { let these = patterns (map found_entry entries.now) in
+            IfOk result (λ trie. trie ≡ with_all pattern_order [] these) }
     {
-        let key = Key::new(pattern);
-        mark(&mut self.wild_depths, &key);
-        Ok(self.entries.insert(key, value)?)
+        let trie = OctetTrie::of(alloc, entries)?;
+        Ok(NameTrie { trie })
     }
 
-    /// The value at the pattern. It takes no memory, and its time is logarithmic in the number of entries.
-    pub fn get(&self, pattern: &Pattern) -> Option<&V>
-        ensures { option_copied result ≡ lookup (is_at (pattern_order pattern.now)) self.now }
+    /// The same version once more: for an edit of many patterns, by [`inserted`](Self::inserted) and [`removed`](Self::removed),
+    /// which leaves this version as it is.
+    pub fn share(&self) -> Result<Self, AllocError>
+        ensures { IfOk result (λ trie. trie ≡ self.now) }
     {
-        self.entries.get(KeyParts::of(pattern))
+        Ok(NameTrie {
+            trie: self.trie.share()?,
+        })
     }
 
-    /// Takes out the entry of the pattern, and gives its value back. It takes no memory.
-    pub fn remove(&mut self, pattern: &Pattern) -> Option<V>
-    where
-        V: Drop,
-        ensures value { result ≡ lookup (is_at (pattern_order pattern.now)) self.old }
-        ensures entries { self.new ≡ remove_entry (is_at (pattern_order pattern.now)) self.old }
+    /// With the value at the pattern. This version stays as it is.
+    pub fn with(&self, pattern: &Pattern, value: Marked<N, M>) -> Result<Self, AllocError>
+        requires { M.present value.mark ≡ true }
+        ensures { IfOk result
+            (λ trie. trie ≡ insert_entry pattern_order self.now pattern.now value) }
     {
-        self.entries.remove(KeyParts::of(pattern))
+        self.share()?.inserted(pattern, value)
     }
 
-    /// The entries in order of precedence.
-    pub fn into_entries(self, alloc: Global) -> Result<Vec<(Pattern, V)>, AllocError>
-    where
-        V: Drop,
-        ensures { IfOk result (λ entries. entries.items ≡ self) }
+    /// Without the pattern. This version stays as it is.
+    pub fn without(&self, pattern: &Pattern) -> Result<Self, AllocError>
+        ensures { IfOk result
+            (λ trie. trie ≡ remove_entry (is_at (pattern_order pattern.now)) self.now) }
     {
-        let mut entries = Vec::with_capacity(alloc, self.entries.len())?;
-        for (key, value) in self.entries {
-            entries.push((key.into_pattern(), value))?;
-        }
-        Ok(entries)
+        self.share()?.removed(pattern)
     }
 
-    // The entry whose pattern has this rank.
-    fn find(&self, asked: KeyParts<'_>) -> Option<(&Pattern, &V)>
-        ensures found { option_map (λ e. (e.0.now, e.1.now)) result
-            ≡ lookup_entry (has_rank (record {
-              wild = asked.entry.wild;
-              labels = asked.entry.labels;
-              octets = asked.entry.octets.now;
-            })) self.now }
-        ensures index { IsIndex self.now }
+    /// With the value at the pattern, in place of this version: one of many edits. An `Err` comes where allocation fails, or
+    /// where there is as much in the trie as there may be.
+    pub fn inserted(self, pattern: &Pattern, value: Marked<N, M>) -> Result<Self, AllocError>
+        requires { M.present value.mark ≡ true }
+        ensures { IfOk result
+            (λ trie. trie ≡ insert_entry pattern_order self pattern.now value) }
     {
-        match self.entries.get_key_value(asked) {
-            Some((key, value)) => Some((key.pattern(), value)),
-            None => None,
-        }
+        let NameTrie { trie } = self;
+        let key = Key::of(pattern.base());
+        let trie = trie.inserted(key.as_slice(), pattern.is_wild(), value)?;
+        Ok(NameTrie { trie })
     }
 
-    // The entry of the wild pattern with this base. The entries are searched only where a wild pattern may have a
-    // base of so many labels.
-    fn find_wild(&self, labels: usize, octets: &[u8]) -> Option<(&Pattern, &V)>
-        ensures found { option_map (λ e. (e.0.now, e.1.now)) result
-            ≡ lookup_entry (has_rank (record { wild = true; labels = labels; octets = octets.now }))
-            self.now }
-        ensures index { IsIndex self.now }
+    /// Without the pattern, in place of this version: one of many edits.
+    pub fn removed(self, pattern: &Pattern) -> Result<Self, AllocError>
+        ensures { IfOk result
+            (λ trie. trie ≡ remove_entry (is_at (pattern_order pattern.now)) self) }
     {
-        if is_marked(&self.wild_depths, labels) {
-            self.find(KeyParts {
-                wild: true,
-                labels,
-                octets,
-                head: head_of(octets),
-            })
-        } else {
-            None
-        }
+        let NameTrie { trie } = self;
+        let key = Key::of(pattern.base());
+        let trie = trie.removed(key.as_slice(), pattern.is_wild())?;
+        Ok(NameTrie { trie })
     }
 
-    /// The first entry in order of precedence whose pattern is about the name: the exact one, and then the wild one of
-    /// the longest base. The name is in lower case ([`Name::lower`]), as bases are. It takes no memory; its time is
-    /// that of at most as many look-ups as the name has labels, and one. An ancestor of so many labels as no base of a
-    /// wild pattern ever had in this map isn't looked up.
-    pub fn best(&self, name: &Name) -> Option<(PatternRef<'_>, &V)>
+    /// The value at exactly this pattern, whether it acts or not. It takes no memory.
+    pub fn get(&self, pattern: &Pattern) -> Option<Marked<N, M>>
+        ensures { result ≡ lookup (is_at (pattern_order pattern.now)) self.now }
+    {
+        let key = Key::of(pattern.base());
+        self.trie.get(key.as_slice(), pattern.is_wild())
+    }
+
+    /// The first entry in order of precedence whose pattern matches the name, of those that act: the exact one, or else the wild
+    /// one of the longest base. The name is in lower case ([`Name::lower`]), as bases are. It takes no memory, and looks at no
+    /// more than 256 nodes.
+    pub fn best<L: Ledger>(&self, name: &Name, steps: &mut Steps<L>) -> Option<Found<'_, N, M>>
         requires { lowered name.now ≡ name.now }
-        ensures { option_map (λ e. (e.0, e.1.now)) result ≡ best name.now self.now }
+        ensures found { option_map found_pattern result ≡ best_acting M.acts name.now self.now }
+        ensures cost { steps.new ≤ steps.old + 256 }
     {
-        match self.find_best(name) {
-            Some((pattern, value)) => Some((PatternRef::of(pattern), value)),
-            None => None,
-        }
-    }
-
-    // The entry of `best`, with the pattern as it is kept.
-    fn find_best(&self, name: &Name) -> Option<(&Pattern, &V)>
-        requires { lowered name.now ≡ name.now }
-        ensures { option_map (λ e. (e.0.now, e.1.now)) result ≡ best name.now self.now }
-    {
-        names_of_equal_octets_are_equal();
         names_that_are_alike();
-        if self.entries.is_empty() {
-            return None;
+        let key = Key::of(name);
+        match self.trie.best(key.as_slice(), steps) {
+            Some(found) => Some(Found {
+                pattern: PatternRef::new(found.key, found.wild),
+                value: found.value,
+            }),
+            None => None,
         }
-        let mut labels = name.labels();
-        let mut left = name.label_count();
-        let octets = labels.octets();
-        let exact = KeyParts {
-            wild: false,
-            labels: left,
-            octets,
-            head: head_of(octets),
-        };
-        if let Some(found) = self.find(exact) {
-            return Some(found);
-        }
-        while left > 0 {
-            let _label = labels.next_label();
-            left -= 1;
-            if let Some(found) = self.find_wild(left, labels.octets()) {
-                return Some(found);
-            }
-        }
-        None
+    }
+
+    /// All entries in the canonical order of their bases (RFC 4034, section 6.1), an exact pattern before the wild one of the same
+    /// base.
+    pub fn entries(&self, alloc: Global) -> Result<Vec<(Pattern, Marked<N, M>)>, AllocError>
+        ensures { IfOk result (λ entries. AreListed self.now entries.items) }
+    {
+        let found = self.trie.entries()?;
+        let mut entries = Vec::new(alloc);
+        push_entries(alloc, &found, &mut entries)?;
+        entries.sort_by(|a, b| listing_cmp(&a.0, &b.0))?;
+        Ok(entries)
     }
 }

@@ -6,7 +6,7 @@ ghost use Rattle.rpz_precedence.specs.Seen.{hit_seen, trigger_seen};
 
 use crate::hit::Hit;
 use crate::trigger_ref::TriggerRef;
-use name_trie::PatternRef;
+use qname_index::PatternRef;
 use std::cmp::Ordering;
 
 /// Whether the rule of the first hit goes before that of the second (draft-vixie-dnsop-dns-rpz, section 5): the smaller

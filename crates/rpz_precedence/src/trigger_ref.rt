@@ -1,7 +1,7 @@
 //! The trigger of a rule.
 
 use ip_prefix::Prefix;
-use name_trie::PatternRef;
+use qname_index::PatternRef;
 
 /// The trigger of a rule, where a pattern is lent by the index that has it.
 #[derive(Drop)]

@@ -5,7 +5,7 @@ use crate::looking::of_name;
 use crate::sign::{Sign, there};
 use dns_name::laws::case_does_not_matter;
 use dns_name::{Name, Pattern};
-use name_trie::{Key, NameTrie};
+use qname_index::{Key, NameTrie};
 use std::alloc::{AllocError, Global};
 use std::process::Abort;
 

@@ -4,7 +4,7 @@ use crate::asserts::assert_same;
 use crate::looking::of_addr;
 use crate::sign::{Sign, there};
 use ip_prefix::{Addr, Prefix};
-use prefix_trie::PrefixTrie;
+use prefix_index::PrefixTrie;
 use std::alloc::{AllocError, Global};
 
 // 192.0.2.0

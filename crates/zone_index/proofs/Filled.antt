@@ -7,16 +7,16 @@ use Rattle.std.specs.declared.cmp.Ordering.{Ordering}
 use Rattle.std.proofs.lemmas.List.{map-append}
 use Rattle.dns_name.specs.Alike.{PlainPattern}
 use Rattle.ip_prefix.specs.Prefix.{PlainPrefix, prefix_order}
-use Rattle.name_trie.specs.Patterns.{pattern_in}
-use Rattle.name_trie.specs.Ranked.{ArePatternKeys, IsPatternKey, patterns}
-use Rattle.name_trie.specs.Key.{name_key}
-use Rattle.name_trie.specs.Ranked.{pattern_key}
+use Rattle.qname_index.specs.Patterns.{pattern_in}
+use Rattle.qname_index.specs.Ranked.{ArePatternKeys, IsPatternKey, patterns}
+use Rattle.qname_index.specs.Key.{name_key}
+use Rattle.qname_index.specs.Ranked.{pattern_key}
 use Rattle.octet_trie.specs.ListKeys.{entry_key}
 use Rattle.octet_trie.specs.Trie.{found_entry}
 use Rattle.qname_index.specs.Index.{IsKey}
 use Rattle.octet_trie.specs.declared.trie.OctetFound.{OctetFound}
-use Rattle.prefix_trie.specs.Order.{prefix_order_total}
-use Rattle.prefix_trie.specs.Ranked.{with_all as with_prefixes}
+use Rattle.prefix_index.specs.Order.{prefix_order_total}
+use Rattle.prefix_index.specs.Ranked.{with_all as with_prefixes}
 use Rattle.qname_index.specs.Best.{pattern_order}
 use Rattle.trie_keys.specs.Filling.{with_all}
 use Rattle.trie_keys.specs.declared.marked.Marked.{Marked}

@@ -7,9 +7,9 @@ use Rattle.dns_name.specs.Alike.{PlainPattern}
 use Rattle.ip_prefix.specs.Prefix.{PlainPrefix, family, number_of}
 use Rattle.ip_prefix.specs.declared.Addr.{Addr}
 use Rattle.ip_prefix.specs.declared.Addr.TheVariants.{V4, V6}
-use Rattle.name_trie.specs.Key.{name_key}
-use Rattle.name_trie.specs.Patterns.{pattern_in}
-use Rattle.name_trie.specs.Ranked.{pattern_key}
+use Rattle.qname_index.specs.Key.{name_key}
+use Rattle.qname_index.specs.Patterns.{pattern_in}
+use Rattle.qname_index.specs.Ranked.{pattern_key}
 use Rattle.zone_index.specs.PlaceOctets.{IsSized, IsSizedTrigger, flag, number_octets, pattern_octets, place_octets, prefix_octets, trigger_octets}
 use Rattle.zone_index.specs.declared.place.Place.{Place}
 use Rattle.zone_index.specs.declared.place.Place.TheVariants.{Rule, Other}

@@ -2,12 +2,12 @@
 use Rattle.std.specs.Prelude.{◌≡◌, ℕ, List, [], ◌∷◌, ◌++◌, map}
 use Rattle.ip_prefix.specs.Prefix.{PlainPrefix, prefix_order}
 use Rattle.dns_name.specs.Alike.{PlainPattern}
-use Rattle.name_trie.specs.Ranked.{ArePatternKeys, patterns}
+use Rattle.qname_index.specs.Ranked.{ArePatternKeys, patterns}
 use Rattle.octet_trie.specs.Listed.{ArePresent as AreFoundPresent}
 use Rattle.octet_trie.specs.Trie.{found_entry}
 use Rattle.octet_trie.specs.declared.trie.OctetFound.{OctetFound}
-use Rattle.prefix_trie.specs.Ranked.{with_all as with_prefixes}
-use Rattle.prefix_trie.specs.Trie.{ArePresent}
+use Rattle.prefix_index.specs.Ranked.{with_all as with_prefixes}
+use Rattle.prefix_index.specs.Trie.{ArePresent}
 use Rattle.qname_index.specs.Best.{pattern_order}
 use Rattle.trie_keys.specs.Filling.{with_all}
 use Rattle.trie_keys.specs.declared.marked.Marked.{Marked}

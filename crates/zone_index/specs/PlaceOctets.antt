@@ -3,7 +3,7 @@ use Rattle.std.specs.Prelude.{ℕ, ◌/◌, ◌%◌, ◌^◌, ◌<◌, Bool, con
 use Rattle.std.specs.Int.{to_be_bytes, w64}
 use Rattle.dns_name.specs.Alike.{PlainPattern}
 use Rattle.ip_prefix.specs.Prefix.{PlainPrefix, family, number_of}
-use Rattle.name_trie.specs.Key.{name_key}
+use Rattle.qname_index.specs.Key.{name_key}
 use Rattle.zone_index.specs.declared.place.Place.{Place}
 use Rattle.zone_index.specs.declared.place.Place.TheVariants.{Rule, Other}
 use Rattle.trigger_codec.specs.declared.trigger.Trigger.{Trigger}

@@ -7,7 +7,7 @@ use std::alloc::AllocError;
 use zone_rows::ApplyFault;
 
 /// Why the rows of a zone can't be edited as steps say.
-#[derive(Clone, Copy, Debug, Drop)]
+#[derive(Clone, Copy, Drop)]
 pub(crate) enum EditError {
     OutOfMemory,
     /// Making the zone anew takes less time.

@@ -18,7 +18,6 @@ use std::alloc::{AllocError, Global};
 use std::marker::Model;
 
 /// What stands at the places of a zone, place by place, to be made an index at once. Contracts see what they see of that index.
-#[derive(Drop)]
 pub(crate) struct IndexEntries<'a> {
     places: Places<PrefixEntries, PatternEntries<'a>>,
     groups: SharedTable<Held<Group>>,
@@ -35,6 +34,18 @@ impl<'a> Model for IndexEntries<'a> {
     ghost view = { λ t. places_in t.groups t.places };
 
     ghost invariant = { λ t. AreAllWell t.groups t.places };
+}
+
+// Written out, so that wherever one is dropped this is one call.
+impl<'a> Drop for IndexEntries<'a> {
+    fn drop(self) {
+        let IndexEntries {
+            places: _,
+            groups: _,
+            usage: _,
+            alloc: _,
+        } = self;
+    }
 }
 
 impl<'a> IndexEntries<'a> {

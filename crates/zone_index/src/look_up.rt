@@ -13,7 +13,7 @@ use crate::patterns::Patterns;
 use crate::prefixes::Prefixes;
 use dns_name::Name;
 use ip_prefix::{Addr, Prefix};
-use name_trie::{Found, PatternRef};
+use qname_index::{Found, PatternRef};
 use shared_list::{Held, SharedTable};
 
 /// The rule that comes first of those whose prefix contains the address.

@@ -19,7 +19,7 @@ use action_codec::ActionRef;
 use dns_name::Name;
 use dns_name::laws::{case_does_not_matter, names_of_equal_octets_are_equal};
 use ip_prefix::{Addr, Prefix};
-use name_trie::PatternRef;
+use qname_index::PatternRef;
 use trigger_codec::{Kind, Trigger};
 
 // None of these takes memory. Some calls stand in them for their clauses alone.

@@ -3,7 +3,7 @@
 ghost use Rattle.std.specs.Prelude.{◌≡◌, [], true, IfOk, OnOk, None};
 ghost use Rattle.std.specs.BTreeMap.{insert_entry, is_at};
 ghost use Rattle.std.specs.Map.{lookup};
-ghost use Rattle.name_trie.specs.Key.{name_key};
+ghost use Rattle.qname_index.specs.Key.{name_key};
 ghost use Rattle.qname_index.specs.Best.{pattern_order};
 ghost use Rattle.zone_index.specs.Kept.{is_kept};
 
@@ -11,14 +11,13 @@ use crate::kept::Kept;
 use crate::patterns::Patterns;
 use crate::tally::tally;
 use dns_name::Pattern;
-use name_trie::laws::keys_are_of_patterns;
 use octet_trie::OctetFound;
+use qname_index::laws::keys_are_of_patterns;
 use std::alloc::{AllocError, Global};
 use std::marker::Model;
 use trie_keys::Marked;
 
 /// Entries by pattern. Contracts see the list of them in order of precedence.
-#[derive(Drop)]
 pub(crate) struct PatternEntries<'a> {
     found: Vec<OctetFound<'a, u32, Kept>>,
     // how many of them act
@@ -37,6 +36,16 @@ impl<'a> Model for PatternEntries<'a> {
     ghost view = { λ p. patterns_of p.found.items };
 
     ghost invariant = { λ p. AreFoundPatterns p.found.items p.acting };
+}
+
+// Written out, so that wherever one is dropped this is one call.
+impl<'a> Drop for PatternEntries<'a> {
+    fn drop(self) {
+        let PatternEntries {
+            found: _,
+            acting: _,
+        } = self;
+    }
 }
 
 impl<'a> PatternEntries<'a> {

@@ -8,8 +8,8 @@ ghost use Rattle.zone_index.specs.declared.place.Place.{Place};
 use crate::place::Place;
 use dns_name::Pattern;
 use ip_prefix::{Addr, Prefix};
-use name_trie::Key;
-use name_trie::laws::keys_are_of_patterns;
+use qname_index::Key;
+use qname_index::laws::keys_are_of_patterns;
 use std::alloc::AllocError;
 use trigger_codec::Trigger;
 

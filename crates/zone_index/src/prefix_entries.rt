@@ -15,7 +15,6 @@ use std::marker::Model;
 use trie_keys::Marked;
 
 /// Entries by prefix. Contracts see the list of them in order of precedence.
-#[derive(Drop)]
 pub(crate) struct PrefixEntries {
     found: Vec<(Prefix, Marked<u32, Kept>)>,
     // how many of them act
@@ -34,6 +33,16 @@ impl Model for PrefixEntries {
     ghost view = { λ p. prefixes_of p.found.items };
 
     ghost invariant = { λ p. AreFoundPrefixes p.found.items p.acting };
+}
+
+// Written out, so that wherever one is dropped this is one call.
+impl Drop for PrefixEntries {
+    fn drop(self) {
+        let PrefixEntries {
+            found: _,
+            acting: _,
+        } = self;
+    }
 }
 
 impl PrefixEntries {

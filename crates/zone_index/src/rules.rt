@@ -16,7 +16,7 @@ use action_codec::ActionRef;
 use dns_message::RecordRefs;
 use dns_name::Name;
 use ip_prefix::{Addr, Prefix};
-use name_trie::PatternRef;
+use qname_index::PatternRef;
 use std::marker::Model;
 use trigger_codec::Kind;
 

@@ -19,7 +19,7 @@ use crate::tries;
 use crate::usage::Usage;
 use dns_name::Name;
 use ip_prefix::{Addr, Prefix};
-use name_trie::PatternRef;
+use qname_index::PatternRef;
 use shared_list::{Held, Share, SharedTable};
 use std::alloc::{AllocError, Global};
 use std::marker::Model;
@@ -27,7 +27,6 @@ use trigger_codec::{Kind, Trigger};
 
 /// What stands at the places of a zone. Contracts see the entries of each kind of trigger in order of precedence, and those of the
 /// other rows. A copy shares what is the same in both.
-#[derive(Drop)]
 pub struct TriggerIndex {
     places: Places<Prefixes, Patterns>,
     groups: SharedTable<Held<Group>>,
@@ -44,6 +43,18 @@ impl Model for TriggerIndex {
     ghost view = { λ t. places_in t.groups t.places };
 
     ghost invariant = { λ t. AreAllWell t.groups t.places };
+}
+
+// Written out, so that wherever one is dropped this is one call.
+impl Drop for TriggerIndex {
+    fn drop(self) {
+        let TriggerIndex {
+            places: _,
+            groups: _,
+            usage: _,
+            alloc: _,
+        } = self;
+    }
 }
 
 impl TriggerIndex {

@@ -1,5 +1,5 @@
 use Rattle.dns_name.specs.Alike.{matches}
-use Rattle.name_trie.specs.Found.{found_pattern}
+use Rattle.qname_index.specs.Found.{found_pattern}
 use Rattle.zone_index.proofs.Found.{got, got_none, there}
 use Rattle.zone_index.specs.Entry.{entry_seen}
 use Rattle.zone_index.proofs.look_up.best.Goals as goal

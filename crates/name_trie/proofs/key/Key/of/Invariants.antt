@@ -1,9 +1,0 @@
-use Rattle.std.proofs.Common.{◌≡◌, ◌++◌, ◌≤◌, length}
-use Rattle.name_trie.specs.Key.{name_key}
-use Rattle.name_trie.proofs.key.Key.of.Given as goal
-
-abbrev pub invariant-loop-label : goal.invariant-loop-label
-invariant-loop-label l = (name_key l.name ≡ name_key l.labels ++ l.key) × (length (name_key l.name) ≤ 254)
-
-abbrev pub decreases-loop-label : goal.decreases-loop-label
-decreases-loop-label l = length l.labels

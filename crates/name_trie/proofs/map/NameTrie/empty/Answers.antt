@@ -1,7 +1,0 @@
-use Rattle.std.proofs.Common.{sym, subst}
-use Rattle.name_trie.specs.Trie.{IsNameTrie}
-use Rattle.name_trie.proofs.Ranking.{no_entries}
-use Rattle.name_trie.proofs.map.NameTrie.empty.Goals as goal
-
-pub invariant_of-result : goal.invariant_of-result
-invariant_of-result g c = subst (λ es. IsNameTrie es) (sym c.empty.ensures) no_entries

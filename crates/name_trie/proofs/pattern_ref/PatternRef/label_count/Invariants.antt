@@ -1,9 +1,0 @@
-use Rattle.std.proofs.Common.{length}
-use Rattle.name_trie.proofs.Written.{AreRead}
-use Rattle.name_trie.proofs.pattern_ref.PatternRef.label_count.Given as goal
-
-abbrev pub invariant-loop-len : goal.invariant-loop-len
-invariant-loop-len l = AreRead l.rest l.count l.self.base
-
-abbrev pub decreases-loop-len : goal.decreases-loop-len
-decreases-loop-len l = length l.rest

@@ -1,4 +1,0 @@
-use Rattle.prefix_trie.proofs.take.+take.Given as goal
-
-abbrev pub decreases-take : goal.decreases-take
-decreases-take g l = l.at

@@ -1,5 +1,0 @@
-use Rattle.prefix_trie.proofs.Walking.{collect_none}
-use Rattle.prefix_trie.proofs.walk.+collect.Goals as goal
-
-pub returns-then-at-eq0 : goal.returns-then-at-eq0
-returns-then-at-eq0 g t c = collect_none g.K.Key.keys g.met.K.Key.laws _ c.args.at _ c.if-at-eq0.true

@@ -1,4 +1,0 @@
-use Rattle.prefix_trie.proofs.walk.+collect.Given as goal
-
-abbrev pub decreases-collect : goal.decreases-collect
-decreases-collect g l = l.at

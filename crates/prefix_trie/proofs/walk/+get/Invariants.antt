@@ -1,4 +1,0 @@
-use Rattle.prefix_trie.proofs.walk.+get.Given as goal
-
-abbrev pub decreases-get : goal.decreases-get
-decreases-get g l = l.at

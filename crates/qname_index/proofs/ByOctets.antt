@@ -1,0 +1,43 @@
+-- What a look-up by octets gives, as the entry of a pattern.
+use Rattle.std.proofs.Common.{◌≡◌, ℕ, ◌&&◌, Bool, Option, Some, None, List, sym, ap, ◌∙◌}
+use Rattle.std.specs.List.{find}
+use Rattle.std.specs.Option.{option_map}
+use Rattle.dns_name.specs.Alike.{PlainPattern, matches}
+use Rattle.dns_name.specs.Labels.{Name, lowered}
+use Rattle.octet_trie.specs.Fits.{fits}
+use Rattle.trie_keys.specs.Scan.{last_where}
+use Rattle.qname_index.specs.Key.{name_key}
+use Rattle.qname_index.specs.Patterns.{pattern_in}
+use Rattle.qname_index.specs.Ranked.{IsPatternKey, ranked_patterns}
+use Rattle.qname_index.specs.Trie.{IsNameTrie}
+use Rattle.qname_index.proofs.Finding.{best_found}
+use Rattle.qname_index.proofs.Last.{last_all}
+use Rattle.qname_index.proofs.Longer.{AreAlike, AreWithin}
+
+-- the octets that are looked up are the key of the name
+module _ {V : Type 0} (acts : V → Bool) (name : Name) (octets : List ℕ) (key : octets ≡ name_key name) where
+  abbrev hit : List ℕ × V → Bool
+  hit e = fits octets e.0 && acts e.1
+
+  pub found_key : (es : List (List ℕ × V)) (e : List ℕ × V) → IsNameTrie es → Some e ≡ last_where hit es → IsPatternKey e.0
+  found_key es e trie h = last_all hit (λ x. IsPatternKey x.0) es e trie.keys (sym h)
+
+  abbrev best_in : List (PlainPattern × V) → Option (PlainPattern × V)
+  best_in entries = find (λ e. matches e.0 name && acts e.1) entries
+
+  abbrev as_pattern : List ℕ × V → PlainPattern × V
+  as_pattern e = (pattern_in e.0, e.1)
+
+  by_octets : (es : List (List ℕ × V)) → lowered name ≡ name → AreAlike → AreWithin → IsNameTrie es → option_map as_pattern (last_where hit es) ≡ best_in (ranked_patterns es)
+  by_octets es lower alike within trie =
+      ap (λ k. option_map as_pattern (last_where (λ e. fits k e.0 && acts e.1) es)) key ∙ best_found acts name lower alike within es trie
+
+  pub some_found : (es : List (List ℕ × V)) (entries : List (PlainPattern × V)) (e : List ℕ × V) (p : PlainPattern) → p ≡ pattern_in e.0 → lowered name ≡ name → AreAlike → AreWithin
+      → IsNameTrie es → ranked_patterns es ≡ entries → Some e ≡ last_where hit es → Some (p, e.1) ≡ best_in entries
+  some_found es entries e p same lower alike within trie view h =
+      ap (λ (q : PlainPattern). Some (q, e.1)) same ∙ ap (option_map as_pattern) h ∙ by_octets es lower alike within trie ∙ ap best_in view
+
+  pub none_found : (es : List (List ℕ × V)) (entries : List (PlainPattern × V)) → lowered name ≡ name → AreAlike → AreWithin
+      → IsNameTrie es → ranked_patterns es ≡ entries → None ≡ last_where hit es → None ≡ best_in entries
+  none_found es entries lower alike within trie view h =
+      ap (option_map as_pattern) h ∙ by_octets es lower alike within trie ∙ ap best_in view
