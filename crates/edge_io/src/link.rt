@@ -24,8 +24,8 @@ pub trait Link {
     /// How often an exchange has failed. It never falls, and stands still at 2^64 - 1.
     ghost faults: { Self → ℕ };
 
-    /// From now on an exchange ends at the moment that this deadline gives at its start, at the latest: it fails then. Without this
-    /// call, and where no moment is set, only the limits of the kind of link hold.
+    /// From now on an exchange ends at the moment that this deadline gives at its start, at the latest: it fails then; and each one is
+    /// counted there. Without this call, and where no moment is set, only the limits of the kind of link hold.
     fn keep_to(&mut self, deadline: Deadline)
         ensures count { faults self.new ≡ faults self.old };
 
@@ -64,7 +64,7 @@ impl Link for ListLink {
 
     ghost faults = { λ link. link.schedule.faults };
 
-    // it answers at once
+    // it answers at once, and counts nothing
     fn keep_to(&mut self, _deadline: Deadline) {}
 
     fn exchange(&mut self, alloc: Global, _sent: &[u8], _now: u32) -> Result<Octets, LinkError> {

@@ -2,8 +2,8 @@
 
 use crate::asserts::assert_same;
 use edge_io::{
-    Bytes, Discard, Failed, ListSink, ListSource, ReaderSource, Schedule, SinkError, Source,
-    WriterSink, write_all,
+    Bytes, Discard, Failed, LineSink, ListSink, ListSource, ReaderSource, Schedule, Sink,
+    SinkError, Source, WAITING_LINE_BYTES, WriterSink, write_all,
 };
 
 // Writing "abcd" behind "-", with at most so many bytes a call, where the call of this number fails.
@@ -70,6 +70,22 @@ fn a_writer_is_written(rt: HostRuntime) {
     drop(writer);
     assert_same(&rt, held.as_slice(), b"ef".as_slice());
     assert_same(&rt, write_all(&mut Discard, b"gh"), Ok(()));
+}
+
+// Lines are taken while there is room for those that wait to be written, and at the end all that were taken are written.
+#[test]
+fn lines_are_written_by_a_thread(rt: HostRuntime) {
+    let alloc = rt.alloc();
+    let mut lines = LineSink::start(rt, alloc).expect(&rt, "no error");
+    let long = vec![in alloc; b'-'; WAITING_LINE_BYTES + 1].expect(&rt, "no error");
+    for (piece, result) in [
+        (b"one\n".as_slice(), Ok(4)),
+        (long.as_slice(), Err(SinkError::WriteFault)),
+        (b"another\n", Ok(8)),
+    ] {
+        assert_same(&rt, lines.write(piece), result);
+    }
+    assert!(rt; lines.end());
 }
 
 // Call 1 is to fail.

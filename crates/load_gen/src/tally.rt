@@ -8,7 +8,7 @@ ghost use Rattle.load_gen.specs.Tallied as tallied;
 use reply_build::{Said, Turn};
 
 /// What replies that stand one after another come to, so that neighbouring parts can be put together. All numbers are modulo 2^64.
-#[derive(Clone, Copy, Debug)]
+#[derive(Clone, Copy)]
 pub(crate) struct Tally {
     /// How many have the rcode 3.
     pub nxdomain: u64,

@@ -2,12 +2,10 @@
 #![tactic(auto)]
 
 mod descriptors;
-mod line_sink;
 mod output;
 
 use descriptors::{allowed_descriptors, wanted_descriptors};
-use edge_io::{ReaderSource, TaskSpawner, WriterSink};
-use line_sink::line_sink;
+use edge_io::{LineSink, ReaderSource, TaskSpawner, WriterSink};
 use output::{Output, Way};
 use rpz_net::{NetWires, RandomIds, SystemClock};
 use rpz_program::run::run;
@@ -47,6 +45,15 @@ fn tell_of_descriptors(rt: &HostRuntime, settings: &Settings) -> io::Result<()> 
     }
 }
 
+// The code with which the program ends, behind what standard error says of it, unless that was said. It is apart from `main`, so that
+// what fails here has nothing to drop.
+fn code_of(rt: &HostRuntime, alloc: Global, status: Status, is_told: bool) -> io::Result<ExitCode> {
+    if !is_told && let Some(text) = status.text(alloc)? {
+        eprintln!(rt; "{text}")?;
+    }
+    Ok(ExitCode::from(status.code()))
+}
+
 fn main(rt: HostRuntime) -> io::Result<ExitCode> {
     let alloc = rt.alloc();
     let words = words_of(&rt, alloc)?;
@@ -54,9 +61,10 @@ fn main(rt: HostRuntime) -> io::Result<ExitCode> {
     if let Some(settings) = &server {
         let _ = tell_of_descriptors(&rt, settings);
     }
+    let hashers = RandomState::new(&rt)?;
     // the lines of a server are written by a thread, so that it waits for no reader of them
     let way = if server.is_some() {
-        Way::ByThread(line_sink(rt, alloc)?)
+        Way::ByThread(LineSink::start(rt, alloc)?)
     } else {
         Way::AtOnce(WriterSink::new(io::writer(&rt)))
     };
@@ -72,7 +80,6 @@ fn main(rt: HostRuntime) -> io::Result<ExitCode> {
     );
     let mut clock = SystemClock::new(rt);
     let mut ids = RandomIds::new(rt);
-    let hashers = RandomState::new(&rt)?;
     let status = match words {
         Some(words) => run(
             &rt,
@@ -94,8 +101,5 @@ fn main(rt: HostRuntime) -> io::Result<ExitCode> {
         status
     };
     let is_told = out.is_told && status == Status::WriteFault;
-    if !is_told && let Some(text) = status.text(alloc)? {
-        eprintln!(rt; "{text}")?;
-    }
-    Ok(ExitCode::from(status.code()))
+    code_of(&rt, alloc, status, is_told)
 }

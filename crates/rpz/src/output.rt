@@ -2,8 +2,7 @@
 
 ghost use Rattle.std.specs.Prelude.{◌≡◌, ◌≤◌, ◌<◌, None, IfOk, length};
 
-use crate::line_sink::LineSink;
-use edge_io::{Sink, SinkError, WriterSink};
+use edge_io::{LineSink, Sink, SinkError, WriterSink};
 use std::io;
 use std::io::Write;
 use std::sync::Wait;

@@ -87,6 +87,9 @@ impl<R: Net<Listener = TcpListener, Stream = TcpStream> + time::Clock + Wait + C
     }
 
     fn exchange(&mut self, alloc: Global, sent: &[u8], _now: u32) -> Result<Octets, LinkError> {
+        if let Some(deadline) = &self.deadline {
+            deadline.count_question();
+        }
         match self.ask(alloc, sent) {
             Ok(received) => Ok(received),
             Err(LinkError::OutOfMemory) => Err(LinkError::OutOfMemory),

@@ -48,7 +48,7 @@ impl<N: StoreName> Feeds<N> {
         let Ok(now) = Instant::now(rt) else {
             return Err(AllocError);
         };
-        let deadline = Deadline::new(alloc, now)?;
+        let deadline = self.requests.deadline(alloc, now)?;
         let again = deadline.again()?;
         let items = self.requests.items(*rt, self.latest.again()?, again)?;
         Ok((items, deadline))

@@ -8,7 +8,7 @@ use crate::sums::{Sums, nothing};
 use policy_feed::Notice;
 
 /// How far the lines of a server have come, and what became of the NOTIFYs.
-#[derive(Clone, Copy, Debug, PartialEq, Eq)]
+#[derive(Clone, Copy)]
 pub(crate) struct Progress {
     /// A write of a line has failed, and nothing is written from then on.
     pub(crate) is_cut: bool,

@@ -19,7 +19,7 @@ use std::sync::Wait;
 pub const FIRST_PASS_SECONDS: u32 = 2;
 
 // What a turn came to.
-#[derive(Clone, Copy, Debug)]
+#[derive(Clone, Copy)]
 pub(crate) struct Turned {
     pub(crate) progress: Progress,
     /// Polls were tried anew.

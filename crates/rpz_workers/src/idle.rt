@@ -1,7 +1,7 @@
 //! The askers that have nothing to do.
 
 /// The askers that have nothing to do: how many sleep, or are about to, and how many of these were called and haven't come yet.
-#[derive(Clone, Copy, Debug, PartialEq, Eq)]
+#[derive(Clone, Copy)]
 pub(crate) struct Idle {
     asleep: usize,
     called: usize,

@@ -2,14 +2,24 @@
 
 use crate::marks::Marks;
 use crate::tally::Tally;
+use edge_io::Deadline;
 use std::alloc::{AllocError, Global};
+
+// An asker, with the query that it has in hand, if any.
+#[derive(Drop)]
+struct Asker {
+    deadline: Deadline,
+    marks: Option<Marks>,
+    // Whether the query counts twice for its client.
+    is_double: bool,
+}
 
 /// The queries that askers have in hand, by asker, with how many there are of each client, domain and question.
 #[derive(Drop)]
 pub(crate) struct InHand {
     // How many askers there are to be, 1 at least.
     askers: usize,
-    by_asker: Vec<Option<Marks>>,
+    by_asker: Vec<Asker>,
     busy: usize,
     questions: Tally,
     clients: Tally,
@@ -29,10 +39,14 @@ impl InHand {
         })
     }
 
-    /// One more asker, and its number. It takes memory only where there are more than were told.
-    pub(crate) fn enter(&mut self) -> Result<usize, AllocError> {
+    /// One more asker with this deadline, and its number. It takes memory only where there are more than were told.
+    pub(crate) fn enter(&mut self, deadline: Deadline) -> Result<usize, AllocError> {
         let number = self.by_asker.len();
-        self.by_asker.push(None)?;
+        self.by_asker.push(Asker {
+            deadline,
+            marks: None,
+            is_double: false,
+        })?;
         Ok(number)
     }
 
@@ -53,8 +67,8 @@ impl InHand {
         if self.questions.count(question) == 0 {
             return false;
         }
-        for marks in &self.by_asker {
-            if let Some(marks) = marks {
+        for asker in &self.by_asker {
+            if let Some(marks) = asker.marks {
                 if marks.question == question {
                     return true;
                 }
@@ -65,8 +79,9 @@ impl InHand {
 
     /// Gives a query to the asker of this number, which has none.
     pub(crate) fn begin(&mut self, asker: usize, marks: Marks) {
-        if let Some(place) = self.by_asker.get_mut(asker) {
-            *place = Some(marks);
+        if let Some(asker) = self.by_asker.get_mut(asker) {
+            asker.deadline.forget_questions();
+            asker.marks = Some(marks);
             self.busy = self.busy.saturating_add(1);
             self.questions.add(marks.question);
             self.clients.add(marks.client);
@@ -74,12 +89,38 @@ impl InHand {
         }
     }
 
+    // The client of the query that this asker has, where it counts twice for it from now on.
+    fn double(&mut self, asker: usize) -> Option<u64> {
+        let asker = self.by_asker.get_mut(asker)?;
+        let marks = asker.marks?;
+        if asker.is_double || !asker.deadline.is_much_asked() {
+            return None;
+        }
+        asker.is_double = true;
+        Some(marks.client)
+    }
+
+    /// From now on each query for which much was asked counts twice for its client.
+    pub(crate) fn weigh(&mut self) {
+        for asker in 0..self.by_asker.len() {
+            if let Some(client) = self.double(asker) {
+                self.clients.add(client);
+            }
+        }
+    }
+
     /// Takes the query back that the asker of this number has, if any.
     pub(crate) fn end(&mut self, asker: usize) -> Option<Marks> {
-        let marks = self.by_asker.get_mut(asker)?.take()?;
+        let asker = self.by_asker.get_mut(asker)?;
+        let marks = asker.marks.take()?;
+        let was_double = asker.is_double;
+        asker.is_double = false;
         self.busy = self.busy.saturating_sub(1);
         self.questions.remove(marks.question);
         self.clients.remove(marks.client);
+        if was_double {
+            self.clients.remove(marks.client);
+        }
         self.domains.remove(marks.domain);
         Some(marks)
     }

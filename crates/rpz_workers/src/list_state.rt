@@ -4,6 +4,7 @@ use crate::idle::Idle;
 use crate::in_hand::InHand;
 use crate::list_onward::Passed;
 use crate::waiting::{Waiting, WaitingQueries};
+use edge_io::Deadline;
 use policy_publish::StoreName;
 use std::alloc::{AllocError, Global};
 use std::time::Instant;
@@ -34,6 +35,8 @@ pub(crate) struct ListState<N: StoreName> {
     waiting: WaitingQueries<N>,
     in_hand: InHand,
     idle: Idle,
+    // For how many queries much was asked when these were last looked for.
+    much: u64,
 }
 
 impl<N: StoreName> ListState<N> {
@@ -43,12 +46,13 @@ impl<N: StoreName> ListState<N> {
             waiting: WaitingQueries::open(alloc)?,
             in_hand: InHand::open(alloc, askers)?,
             idle: Idle::new(),
+            much: 0,
         })
     }
 
-    /// One more asker, and its number.
-    pub(crate) fn enter(&mut self) -> Result<usize, AllocError> {
-        self.in_hand.enter()
+    /// One more asker with this deadline, and its number.
+    pub(crate) fn enter(&mut self, deadline: Deadline) -> Result<usize, AllocError> {
+        self.in_hand.enter(deadline)
     }
 
     /// Puts a query behind those that wait, and says whether an asker is to be woken. An error gives it back, where there is no room.
@@ -74,9 +78,25 @@ impl<N: StoreName> ListState<N> {
         self.idle.calls(self.waiting.free())
     }
 
-    /// The asker of this number is done with what it had, and takes what goes next. It sleeps where there is nothing.
-    pub(crate) fn turn(&mut self, asker: usize, was_asleep: bool, now: Option<Instant>) -> Turn<N> {
+    // Looks for those for which much was asked, where there are more of them than when that was last done.
+    fn weigh(&mut self, much: u64) {
+        if much != self.much {
+            self.much = much;
+            self.in_hand.weigh();
+        }
+    }
+
+    /// The asker of this number is done with what it had, and takes what goes next, while much was asked for so many queries. It sleeps
+    /// where there is nothing.
+    pub(crate) fn turn(
+        &mut self,
+        asker: usize,
+        was_asleep: bool,
+        much: u64,
+        now: Option<Instant>,
+    ) -> Turn<N> {
         self.end(asker, was_asleep);
+        self.weigh(much);
         let taken = self.take(asker, now);
         if taken.is_none() {
             self.idle.enter();

@@ -12,7 +12,7 @@ const DOMAIN_LABELS: usize = 2;
 
 /// The hashes that the request list knows a query by. They are made with a seed that is drawn at random, since strangers pick what is
 /// hashed.
-#[derive(Clone, Copy, Debug, PartialEq, Eq)]
+#[derive(Clone, Copy)]
 pub(crate) struct Marks {
     /// Of the question: its name in lower case, its type and its class.
     pub(crate) question: u64,

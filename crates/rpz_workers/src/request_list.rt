@@ -21,6 +21,8 @@ pub(crate) struct SharedList<N: StoreName> {
     woken: WakeCount,
     // How many handles may still pass on.
     open: AtomicU64,
+    // For how many queries much was asked by now.
+    much: Arc<AtomicU64>,
     hashers: RandomState,
 }
 
@@ -30,9 +32,9 @@ impl<N: StoreName> SharedList<N> {
         &self.hashers
     }
 
-    // One more asker, and its number.
-    fn enter<R: Wait>(&self, rt: &R) -> Result<usize, AllocError> {
-        self.state.lock(rt).enter()
+    // One more asker with this deadline, and its number.
+    fn enter<R: Wait>(&self, rt: &R, deadline: Deadline) -> Result<usize, AllocError> {
+        self.state.lock(rt).enter(deadline)
     }
 
     // The same under the lock as `put`.
@@ -56,7 +58,8 @@ impl<N: StoreName> SharedList<N> {
         was_asleep: bool,
         now: Option<Instant>,
     ) -> Turn<N> {
-        self.state.lock(rt).turn(asker, was_asleep, now)
+        let much = self.much.load(Ordering::SeqCst);
+        self.state.lock(rt).turn(asker, was_asleep, much, now)
     }
 
     /// The asker of this number is done with what it had, and takes what goes next.
@@ -135,8 +138,8 @@ impl<N: StoreName> Drop for OpenList<N> {
 /// - One question, one asker: a query whose question an asker has in hand waits until that asker is done. Then it goes for itself, and is
 ///   held back no more: it is answered from the cache, or fails at once where the link remembers failures, or is asked.
 /// - Shares: of two that wait the one goes first whose client (an address, of version 6 the /56) and whose domain (the last two labels
-///   of the question) have less than half of the askers. No asker stands idle for that: where no other may go, a share holds nobody
-///   back.
+///   of the question) have less than half of the askers. A query for which more than [`MUCH_QUESTIONS`](edge_io::MUCH_QUESTIONS)
+///   questions were asked counts twice for its client. No asker stands idle for that: where no other may go, a share holds nobody back.
 /// - Else the oldest that may go, goes.
 /// - Time: a query has [`QUERY_SECONDS`](crate::QUERY_SECONDS) from when it was passed on, and while more than half of the askers are
 ///   busy, [`JOSTLE_MILLISECONDS`](crate::JOSTLE_MILLISECONDS) from when it is taken, if that is less. One whose time is over goes
@@ -153,10 +156,13 @@ impl<N: StoreName> RequestList<N> {
     /// An empty list for so many askers, 1 at least. Names and addresses are hashed with these hashers, whose seed is to be drawn at
     /// random.
     pub fn open(alloc: Global, askers: usize, hashers: RandomState) -> Result<Self, AllocError> {
+        let state = ListState::open(alloc, askers)?;
+        let much = Arc::new(alloc, AtomicU64::new(0))?;
         let shared = SharedList {
-            state: Mutex::new(ListState::open(alloc, askers)?),
+            state: Mutex::new(state),
             woken: WakeCount::new(),
             open: AtomicU64::new(1),
+            much,
             hashers,
         };
         Ok(RequestList {
@@ -175,8 +181,14 @@ impl<N: StoreName> RequestList<N> {
         Ok(RequestOnward::new(rt, alloc, self.open.again()?))
     }
 
-    /// The items of one more asker. The list that was published last is looked at where nothing waits, and the end of each query's time
-    /// is set for the asker's link. It is an error where there are more askers than were told and memory runs out.
+    /// A deadline for one more asker. No moment is set yet, and none that is set later lies before the start.
+    pub fn deadline(&self, alloc: Global, start: Instant) -> Result<Deadline, AllocError> {
+        Deadline::among(alloc, start, Arc::try_clone(&self.open.shared.much)?)
+    }
+
+    /// The items of one more asker, whose deadline is one of this list's. The list that was published last is looked at where nothing
+    /// waits, and the end of each query's time is set for the asker's link. It is an error where there are more askers than were told
+    /// and memory runs out.
     pub fn items<R: Wait + time::Clock + Copy + Drop>(
         &self,
         rt: R,
@@ -184,7 +196,7 @@ impl<N: StoreName> RequestList<N> {
         deadline: Deadline,
     ) -> Result<RequestItems<N, R>, AllocError> {
         let shared = Arc::try_clone(&self.open.shared)?;
-        let asker = shared.enter(&rt)?;
+        let asker = shared.enter(&rt, deadline.again()?)?;
         Ok(RequestItems::new(rt, shared, asker, latest, deadline))
     }
 }

@@ -22,6 +22,8 @@ pub enum Step {
     Pass(u16, Addr, &'static [u8]),
     /// The asker of this place takes the query of this number.
     Take(usize, u16),
+    /// The asker of this place asks so many questions.
+    Ask(usize, u32),
 }
 
 /// Steps over an empty list for so many askers.
@@ -44,7 +46,7 @@ const SITE_2: Addr = Addr::V6(0x2001_0db8_0000_01ff_0000_0000_0000_0002);
 
 const OTHER: Addr = Addr::V6(0x2001_0db8_0000_0200_0000_0000_0000_0001);
 
-static ROWS: [Row; 9] = [
+static ROWS: [Row; 11] = [
     Row {
         name: "in order",
         askers: 8,
@@ -165,6 +167,35 @@ static ROWS: [Row; 9] = [
             Step::Take(1, 4),
         ],
     },
+    Row {
+        name: "a query for which 17 questions were asked counts twice for its client",
+        askers: 4,
+        steps: &[
+            Step::Pass(1, A, b"x.one"),
+            Step::Pass(2, A, b"x.two"),
+            Step::Pass(3, B, b"x.three"),
+            Step::Take(0, 1),
+            Step::Ask(0, 17),
+            Step::Take(1, 3),
+            Step::Take(2, 2),
+        ],
+    },
+    Row {
+        name: "one for which 16 were asked counts once, and one behind it, too",
+        askers: 4,
+        steps: &[
+            Step::Pass(1, A, b"x.one"),
+            Step::Pass(2, A, b"x.two"),
+            Step::Pass(3, A, b"x.three"),
+            Step::Pass(4, B, b"x.four"),
+            Step::Take(0, 1),
+            Step::Ask(0, 17),
+            Step::Take(0, 2),
+            Step::Ask(0, 16),
+            Step::Take(1, 3),
+            Step::Take(2, 4),
+        ],
+    },
 ];
 
 /// A query of this number, of this client, with a message of so many octets.
@@ -220,9 +251,8 @@ pub fn asker<N: StoreName, R: Abort + Wait + Clock + Copy + Drop>(
     list: &RequestList<N>,
     latest: &Latest<N>,
 ) -> (RequestItems<N, R>, Deadline) {
-    let deadline = Deadline::new(alloc, Instant::now(rt).expect(rt, "no error")).expect(
-        rt, "no error",
-    );
+    let now = Instant::now(rt).expect(rt, "no error");
+    let deadline = list.deadline(alloc, now).expect(rt, "no error");
     let theirs = deadline.again().expect(rt, "no error");
     (
         list.items(*rt, latest.again().expect(rt, "no error"), theirs)
@@ -246,7 +276,7 @@ pub fn taken<N: StoreName, Q: Items<N, ListSource, ListSink>>(items: &mut Q) -> 
 fn goes<N: StoreName, R: Wait + Clock + Copy + Drop>(
     alloc: Global,
     onward: &mut RequestOnward<N, R>,
-    items: &mut Vec<RequestItems<N, R>>,
+    askers: &mut Vec<(RequestItems<N, R>, Deadline)>,
     reader: &PolicyReader<N>,
     step: Step,
 ) -> bool {
@@ -255,23 +285,35 @@ fn goes<N: StoreName, R: Wait + Clock + Copy + Drop>(
             Some(job) => is_passed(alloc, onward, reader, &job, name),
             None => false,
         },
-        Step::Take(place, number) => match items.get_mut(place) {
-            Some(items) => taken(items) == Some(number),
+        Step::Take(place, number) => match askers.get_mut(place) {
+            Some(asker) => taken(&mut asker.0) == Some(number),
+            None => false,
+        },
+        Step::Ask(place, count) => match askers.get(place) {
+            Some(asker) => ask(&asker.1, count),
             None => false,
         },
     }
+}
+
+// So many questions are asked.
+fn ask(deadline: &Deadline, count: u32) -> bool {
+    for _ in 0..count {
+        deadline.count_question();
+    }
+    true
 }
 
 // Whether all steps of a row go as they say.
 fn all_go<N: StoreName, R: Wait + Clock + Copy + Drop>(
     alloc: Global,
     onward: &mut RequestOnward<N, R>,
-    items: &mut Vec<RequestItems<N, R>>,
+    askers: &mut Vec<(RequestItems<N, R>, Deadline)>,
     reader: &PolicyReader<N>,
     row: &Row,
 ) -> bool {
     for step in row.steps {
-        if !goes(alloc, onward, items, reader, *step) {
+        if !goes(alloc, onward, askers, reader, *step) {
             return false;
         }
     }
@@ -284,13 +326,13 @@ fn askers<N: StoreName, R: Abort + Wait + Clock + Copy + Drop>(
     alloc: Global,
     list: &RequestList<N>,
     latest: &Latest<N>,
-) -> Vec<RequestItems<N, R>> {
-    let mut items = Vec::new(alloc);
+) -> Vec<(RequestItems<N, R>, Deadline)> {
+    let mut askers = Vec::new(alloc);
     for _ in 0..4 {
-        let (asker, _deadline) = asker(rt, alloc, list, latest);
-        items.push(asker).expect(rt, "no error");
+        let asker = asker(rt, alloc, list, latest);
+        askers.push(asker).expect(rt, "no error");
     }
-    items
+    askers
 }
 
 // Whether the row goes as it says, over four askers.
@@ -303,9 +345,9 @@ fn row_goes<N: StoreName, R: Abort + Wait + Clock + RandomSource + Copy + Drop>(
 ) -> bool {
     let list = open_list(rt, alloc, row.askers);
     let mut onward = list.onward(*rt, alloc).expect(rt, "no error");
-    let mut items = askers(rt, alloc, &list, latest);
-    let goes = all_go(alloc, &mut onward, &mut items, reader, row);
-    drop(items);
+    let mut askers = askers(rt, alloc, &list, latest);
+    let goes = all_go(alloc, &mut onward, &mut askers, reader, row);
+    drop(askers);
     drop(onward);
     drop(list);
     goes

@@ -2,9 +2,9 @@
 
 ghost use Rattle.std.specs.Prelude.{None};
 
+use crate::edge::{Sink, SinkError};
 use crossbeam_channel::{Receiver, Sender, unbounded};
 use dns_name::Octets;
-use edge_io::{Sink, SinkError};
 use std::alloc::{AllocError, Global};
 use std::io::{Print, Write};
 use std::sync::atomic::{AtomicBool, AtomicUsize, Ordering};
@@ -15,7 +15,7 @@ use std::{io, thread};
 
 /// How many bytes of lines may wait to be written. Where a reader of the output stands still, so many are kept, and what doesn't fit is
 /// a fault.
-pub const WAITING_BYTES: usize = 65_536;
+pub const WAITING_LINE_BYTES: usize = 65_536;
 
 // How long the end of a program waits for lines that are still to be written, in pauses of 10 milliseconds.
 const LAST_PAUSES: u32 = 100;
@@ -28,7 +28,7 @@ struct LineState {
     has_failed: AtomicBool,
 }
 
-/// Gives lines to a thread that writes them to the standard output, and never waits for it. At most [`WAITING_BYTES`] wait there. What
+/// Gives lines to a thread that writes them to the standard output, and never waits for it. At most [`WAITING_LINE_BYTES`] wait there. What
 /// doesn't fit is a fault, and so is each write behind one that has failed. Contracts don't know the bytes.
 #[derive(Drop)]
 pub struct LineSink<R: Wait + Drop> {
@@ -54,32 +54,31 @@ fn write_lines<R: Print + Wait + Drop>(rt: R, lines: Receiver<Octets>, state: Ar
     }
 }
 
-/// Starts the thread that writes lines.
-pub fn line_sink<R: Print + Threads + Wait + Copy + Drop + Send + 'static>(
-    rt: R,
-    alloc: Global,
-) -> Result<LineSink<R>, AllocError> {
-    let (lines, receiver) = unbounded(alloc)?;
-    let state = LineState {
-        waiting: AtomicUsize::new(0),
-        has_failed: AtomicBool::new(false),
-    };
-    let Ok(state) = Arc::new(alloc, state) else {
-        return Err(AllocError);
-    };
-    let again = Arc::try_clone(&state)?;
-    match thread::spawn(&rt, move || write_lines(rt, receiver, again)) {
-        // the end of the program doesn't wait for a reader that stands still
-        Ok(thread) => drop(thread),
-        Err(_) => return Err(AllocError),
+impl<R: Print + Threads + Wait + Copy + Drop + Send + 'static> LineSink<R> {
+    /// Starts the thread that writes lines.
+    pub fn start(rt: R, alloc: Global) -> Result<Self, AllocError> {
+        let (lines, receiver) = unbounded(alloc)?;
+        let state = LineState {
+            waiting: AtomicUsize::new(0),
+            has_failed: AtomicBool::new(false),
+        };
+        let Ok(state) = Arc::new(alloc, state) else {
+            return Err(AllocError);
+        };
+        let again = Arc::try_clone(&state)?;
+        match thread::spawn(&rt, move || write_lines(rt, receiver, again)) {
+            // the end of the program doesn't wait for a reader that stands still
+            Ok(thread) => drop(thread),
+            Err(_) => return Err(AllocError),
+        }
+        Ok(LineSink {
+            rt,
+            alloc,
+            lines,
+            state,
+            faults: 0,
+        })
     }
-    Ok(LineSink {
-        rt,
-        alloc,
-        lines,
-        state,
-        faults: 0,
-    })
 }
 
 impl<R: Wait + Drop> LineSink<R> {
@@ -101,7 +100,7 @@ impl<R: Wait + Drop> LineSink<R> {
     fn give(&self, bytes: Octets) -> bool {
         let len = bytes.len();
         let waiting = self.state.waiting.load(Ordering::SeqCst);
-        let is_full = waiting.saturating_add(len) > WAITING_BYTES;
+        let is_full = waiting.saturating_add(len) > WAITING_LINE_BYTES;
         if is_full || self.state.has_failed.load(Ordering::SeqCst) {
             return false;
         }
