@@ -18,7 +18,7 @@ use std::sync::{Arc, Wait};
 use std::time::Instant;
 
 /// What the thread has to do next for a connection.
-#[derive(Clone, Copy, Debug, PartialEq, Eq)]
+#[derive(Clone, Copy)]
 pub(crate) enum Next {
     /// Nothing, until something happens.
     Wait,
@@ -142,7 +142,7 @@ impl ClientConnection {
             return self.discard(scratch);
         }
         let is_broken = self.look(rt, now);
-        if is_broken {
+        if is_broken || self.unanswered.is_silent() {
             return Next::Close;
         }
         if self.is_with_worker || self.is_writing {

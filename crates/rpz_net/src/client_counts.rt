@@ -5,7 +5,7 @@ use std::alloc::Global;
 use std::collections::BTreeMap;
 
 /// A client, as connections are counted: an address of version 4, or a prefix of 64 bits of version 6 (RFC 6177, section 2).
-#[derive(Clone, Copy, PartialEq, Eq, PartialOrd, Ord, Debug, Drop)]
+#[derive(Clone, Copy, PartialEq, Eq, PartialOrd, Ord, Drop)]
 pub(crate) struct Client {
     version: u8,
     bits: u64,

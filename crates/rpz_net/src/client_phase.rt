@@ -1,12 +1,12 @@
 //! What a connection of a client waits for.
 
 use crate::limits::{
-    ANSWER_SECONDS, IDLE_SECONDS, LINGER_SECONDS, MESSAGE_SECONDS, OUTBOX_SECONDS,
+    ANSWER_SECONDS, IDLE_SECONDS, LINGER_SECONDS, MESSAGE_SECONDS, OUTBOX_SECONDS, SILENT_MESSAGES,
 };
 use std::time::{Duration, Instant};
 
 /// What a connection of a client waits for.
-#[derive(Clone, Copy, Debug, PartialEq, Eq)]
+#[derive(Clone, Copy, PartialEq, Eq)]
 pub(crate) enum Phase {
     /// The first byte of its next message.
     Idle,
@@ -36,11 +36,12 @@ impl Phase {
 }
 
 /// How many messages of a connection were given out and not answered. Each is forgotten `ANSWER_SECONDS` after the last of them, since
-/// there is none to some.
-#[derive(Clone, Copy, Debug)]
+/// there is none to some; how many these were is counted.
+#[derive(Clone, Copy)]
 pub(crate) struct Unanswered {
     given: u64,
     answered: u64,
+    silent: u64,
     last: Option<Instant>,
 }
 
@@ -50,6 +51,7 @@ impl Unanswered {
         Unanswered {
             given: 0,
             answered: 0,
+            silent: 0,
             last: None,
         }
     }
@@ -76,8 +78,15 @@ impl Unanswered {
         let limit = Duration::from_secs(ANSWER_SECONDS);
         let is_over = |last| now.saturating_duration_since(last) >= limit;
         if self.last.is_some_and(is_over) {
+            self.silent = self.silent.saturating_add(u64::from(self.count()));
             self.given = self.answered;
             self.last = None;
         }
+    }
+
+    /// Whether as many got no answer as may be. Each pause for those that get none is as long as a query may take, so that a client which
+    /// sends many such would keep its connection for long.
+    pub(crate) fn is_silent(&self) -> bool {
+        self.silent >= SILENT_MESSAGES
     }
 }

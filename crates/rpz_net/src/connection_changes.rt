@@ -7,7 +7,7 @@ use std::sync::atomic::{AtomicU64, Ordering};
 use std::sync::{Mutex, Wait};
 
 /// Which connection: its place, and how many connections came before it, since later ones may have the same place.
-#[derive(Clone, Copy, Debug, PartialEq, Eq)]
+#[derive(Clone, Copy, PartialEq, Eq)]
 pub(crate) struct ConnectionPlace {
     pub(crate) index: usize,
     pub(crate) number: u64,

@@ -4,7 +4,7 @@ ghost use Rattle.std.specs.Prelude.{◌≤◌};
 
 /// How far a stream of frames has come. A frame is a length in two bytes, the higher first, and so many bytes of a message
 /// (RFC 1035, section 4.2.2).
-#[derive(Debug, Drop)]
+#[derive(Drop)]
 pub(crate) struct FrameGauge {
     // The first byte of a length, where the second is still to come.
     high: Option<u8>,

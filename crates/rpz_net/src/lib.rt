@@ -58,6 +58,7 @@ mod upstream_manner;
 mod upstream_pool;
 mod upstream_questions;
 mod upstream_reader;
+mod upstream_window;
 mod upstreams;
 mod wake_signal;
 mod wire_numbers;

@@ -32,6 +32,9 @@ pub const TURN_MESSAGES: u32 = 8;
 /// How many messages of a connection may be without an answer. Behind them nothing is read until some are answered.
 pub const UNANSWERED_MESSAGES: u32 = 16;
 
+/// How many messages of a connection may get no answer at all. Behind them it is closed.
+pub const SILENT_MESSAGES: u64 = 16;
+
 /// The bytes of memory that messages of all connections may take that no worker has yet. Where they take more, the connection is closed
 /// that has waited longest with a part of a message.
 pub const GATHERED_BYTES: usize = 16 << 20;
@@ -140,6 +143,9 @@ pub const UPSTREAM_FEW_QUESTIONS: usize = 10;
 
 /// How many questions that somebody waits for stand on one connection at most.
 pub const UPSTREAM_QUESTIONS: usize = 100;
+
+/// How many questions may at least wait in turn on a connection, where the upstream answers one after another and falls behind.
+pub const UPSTREAM_LEAST_QUESTIONS: usize = 16;
 
 /// How many questions of one connection may be given up and not answered. One that has so many takes no more questions.
 pub const UPSTREAM_ABANDONED: usize = 1_000;

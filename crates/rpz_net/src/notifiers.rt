@@ -42,7 +42,7 @@ impl Notifier {
 }
 
 /// Of whom a NOTIFY is.
-#[derive(Clone, Copy, Debug, PartialEq, Eq)]
+#[derive(Clone, Copy)]
 pub(crate) enum NotifyOrigin {
     /// Of an address of which a transfer was ordered.
     Primary,

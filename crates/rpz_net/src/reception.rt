@@ -9,6 +9,7 @@ use crate::limits::{
 };
 use crate::notices::NoticeSender;
 use crate::service_state::ServiceState;
+use crate::shared_connection::SharedConnection;
 use crate::shortage::is_shortage;
 use crate::stretch::Stretch;
 use crossbeam_channel::{Sender, TrySendError};
@@ -16,9 +17,11 @@ use dns_name::Octets;
 use edge_io::Endpoint;
 use ip_prefix::Transport;
 use mio::event::Event;
-use mio::{Events, Poll, Token};
+use mio::unix::SourceFd;
+use mio::{Events, Poll, Registry, Token};
 use std::alloc::Global;
 use std::net::TcpListener;
+use std::os::fd::AsRawFd;
 use std::sync::{Arc, Wait};
 use std::time::{Duration, Instant};
 use std::{io, mem, time};
@@ -65,7 +68,7 @@ pub(crate) struct ReceptionSockets {
 }
 
 /// Why a turn was cut short.
-#[derive(Clone, Copy, Debug, PartialEq, Eq)]
+#[derive(Clone, Copy)]
 pub(crate) enum TurnError {
     /// The system has no descriptor or no memory left, for now.
     Shortage,
@@ -334,6 +337,7 @@ impl<R: time::Clock + Wait + Copy + Drop> Reception<R> {
     pub(crate) fn close(&mut self, index: usize) {
         if let Some(connection) = self.table.take(index) {
             self.service.peers.lock(&self.rt).remove(connection.peer());
+            forget(self.sockets.poll.registry(), connection.shared());
             connection.shared().close(&self.rt);
             drop(connection);
         }
@@ -374,6 +378,12 @@ impl<R: time::Clock + Wait + Copy + Drop> Reception<R> {
             }
         }
     }
+}
+
+// The system reports nothing more of a connection, whoever still has a part of it: the next one at its place has its token.
+fn forget(registry: &Registry, connection: &SharedConnection) {
+    let fd = connection.stream().as_raw_fd();
+    let _ = registry.deregister(&mut SourceFd(&fd));
 }
 
 // The system has something for a connection.

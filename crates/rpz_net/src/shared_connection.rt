@@ -9,7 +9,7 @@ use std::net::{Shutdown, TcpStream};
 use std::sync::{Arc, Mutex, Wait};
 
 /// How a worker has given a connection back.
-#[derive(Clone, Copy, Debug, PartialEq, Eq)]
+#[derive(Clone, Copy, PartialEq, Eq)]
 pub(crate) enum StretchEnd {
     /// It has read all messages that it was given.
     AllRead,
@@ -31,7 +31,7 @@ struct State {
 }
 
 /// What the thread that has the connections sees of one.
-#[derive(Clone, Copy, Debug)]
+#[derive(Clone, Copy)]
 pub(crate) struct ConnectionView {
     /// Nothing is to go out.
     pub(crate) is_empty: bool,

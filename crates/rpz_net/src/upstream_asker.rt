@@ -21,7 +21,7 @@ use std::time::{Duration, Instant};
 use std::{io, time};
 
 /// Why a question has no answer.
-#[derive(Clone, Copy, Debug, PartialEq, Eq)]
+#[derive(Clone, Copy)]
 pub(crate) enum AskError {
     OutOfMemory,
     /// Its time was over, or no connection could be had.

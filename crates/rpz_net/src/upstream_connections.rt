@@ -2,8 +2,7 @@
 
 use crate::answer_place::AnswerPlace;
 use crate::limits::{
-    UPSTREAM_ALL_CONNECTIONS, UPSTREAM_CONNECTIONS, UPSTREAM_FEW_QUESTIONS, UPSTREAM_QUESTIONS,
-    UPSTREAM_REST_SECONDS,
+    UPSTREAM_ALL_CONNECTIONS, UPSTREAM_CONNECTIONS, UPSTREAM_FEW_QUESTIONS, UPSTREAM_REST_SECONDS,
 };
 use crate::upstream_connection::UpstreamConnection;
 use crate::upstream_manner::UpstreamManner;
@@ -114,7 +113,7 @@ impl UpstreamConnections {
         for (place, connection) in self.open.iter().enumerate() {
             if let Some(load) = connection.load(rt, now) {
                 room.taking = room.taking.saturating_add(1);
-                if load.awaited < UPSTREAM_QUESTIONS {
+                if load.has_room {
                     room.add(place, load.asked);
                 }
             }

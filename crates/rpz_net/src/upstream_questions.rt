@@ -2,8 +2,10 @@
 
 use crate::answer_place::{Answer, AnswerPlace};
 use crate::limits::{
-    UPSTREAM_ABANDONED, UPSTREAM_CUT_MILLISECONDS, UPSTREAM_IDLE_SECONDS, UPSTREAM_SILENCE_SECONDS,
+    UPSTREAM_ABANDONED, UPSTREAM_CUT_MILLISECONDS, UPSTREAM_IDLE_SECONDS, UPSTREAM_QUESTIONS,
+    UPSTREAM_SILENCE_SECONDS,
 };
+use crate::upstream_window::UpstreamWindow;
 use crate::wire_numbers::WireNumbers;
 use std::alloc::{AllocError, Global};
 use std::sync::{Arc, Wait};
@@ -20,19 +22,20 @@ struct Question {
     place: Arc<AnswerPlace>,
     // Somebody waits for it: it wasn't given up.
     is_awaited: bool,
+    // How many were asked before it, and how many were answered when it was asked.
+    asked_before: u64,
+    answered_before: u64,
 }
 
-/// How many questions of a connection are not answered.
-#[derive(Clone, Copy, Debug)]
+/// How many questions of a connection are not answered, and whether it takes one more now.
+#[derive(Clone, Copy)]
 pub(crate) struct Load {
-    /// All of them.
     pub(crate) asked: usize,
-    /// Those that somebody waits for.
-    pub(crate) awaited: usize,
+    pub(crate) has_room: bool,
 }
 
 /// How a connection was closed.
-#[derive(Clone, Copy, Debug)]
+#[derive(Clone, Copy)]
 pub(crate) struct Closing {
     /// How many questions were answered on it.
     pub(crate) answered: u64,
@@ -46,8 +49,12 @@ pub(crate) struct UpstreamQuestions {
     questions: Vec<Question>,
     // How many of them somebody waits for.
     awaited: usize,
-    // How many were answered.
+    // How many were asked, and how many answered.
+    asked: u64,
     answered: u64,
+    // How many were asked up to the newest one that was answered, itself counted.
+    newest: u64,
+    window: UpstreamWindow,
     // It was closed as `Closing` says.
     was_cut: bool,
     // When something came last; or, where no answer was to come then, when the first question was asked since.
@@ -69,7 +76,10 @@ impl UpstreamQuestions {
         UpstreamQuestions {
             questions: Vec::new(alloc),
             awaited: 0,
+            asked: 0,
             answered: 0,
+            newest: 0,
+            window: UpstreamWindow::new(),
             was_cut: false,
             heard: now,
             idle_since: now,
@@ -95,10 +105,16 @@ impl UpstreamQuestions {
         {
             return None;
         }
-        Some(Load {
-            asked,
-            awaited: self.awaited,
-        })
+        let has_room = self.awaited < UPSTREAM_QUESTIONS && self.in_turn() < self.window.most();
+        Some(Load { asked, has_room })
+    }
+
+    // How many stand behind the newest one that was answered.
+    fn in_turn(&self) -> usize {
+        self.questions
+            .iter()
+            .filter(|known| known.asked_before >= self.newest)
+            .count()
     }
 
     // A number that no question of this connection has.
@@ -135,7 +151,10 @@ impl UpstreamQuestions {
             id,
             place,
             is_awaited: true,
+            asked_before: self.asked,
+            answered_before: self.answered,
         })?;
+        self.asked = self.asked.saturating_add(1);
         self.awaited = self.awaited.saturating_add(1);
         Ok(Some(number))
     }
@@ -157,8 +176,12 @@ impl UpstreamQuestions {
             id,
             place,
             is_awaited,
+            asked_before,
+            answered_before: _,
         } = self.questions.swap_remove(index);
         self.answered = self.answered.saturating_add(1);
+        self.newest = self.newest.max(asked_before.saturating_add(1));
+        self.window.note_answer();
         if is_awaited {
             self.leave_one(now);
         } else {
@@ -167,17 +190,27 @@ impl UpstreamQuestions {
         if is_awaited { Some((id, place)) } else { None }
     }
 
+    // The place of the question of this number, if somebody waits for it.
+    fn awaited_at(&self, number: u16) -> Option<usize> {
+        self.questions
+            .iter()
+            .position(|known| known.number == number && known.is_awaited)
+    }
+
     /// Nobody waits for the answer of this number any more. The number stays taken until its answer comes.
     pub(crate) fn give_up(&mut self, number: u16, now: Instant) {
-        let mut was_awaited = false;
-        for known in self.questions.iter_mut() {
-            if known.number == number {
-                was_awaited = known.is_awaited;
-                known.is_awaited = false;
-            }
-        }
-        if was_awaited {
-            self.leave_one(now);
+        let Some(index) = self.awaited_at(number) else {
+            return;
+        };
+        let Some(known) = self.questions.get_mut(index) else {
+            return;
+        };
+        known.is_awaited = false;
+        let (asked_before, answered_before) = (known.asked_before, known.answered_before);
+        self.leave_one(now);
+        if asked_before >= self.newest && self.answered > answered_before {
+            let stood = self.in_turn();
+            self.window.fall_behind(asked_before, self.asked, stood);
         }
     }
 
