@@ -5,7 +5,8 @@
 //! trigger that the transfer names the zone's rule must do what the live rows of the trigger do that are in the plain list. Behind
 //! each eighth transfer, and behind whole ones, this is asked of all triggers that were named so far, and of the version before the
 //! transfer, too, which must be what it was. It ends with the first difference, or prints how many transfers there were, how many of
-//! them were refused, how many rules were compared, and how many rows there are at the end.
+//! them were refused, how many rules were compared, and how many rows there are at the end. Where memory runs out in a transfer, the
+//! version before it must be what it was, and the run ends with that.
 
 use crate::bench_error::BenchError;
 use crate::comparing::first_difference;
@@ -20,6 +21,24 @@ use zone_rows::Transfer;
 
 // Behind each so many transfers all triggers are looked at.
 const PERIOD: u64 = 8;
+
+// What became of a transfer.
+#[derive(Drop)]
+enum Applied {
+    // with the version before it
+    Taken(Sides),
+    Refused,
+    OutOfMemory,
+}
+
+impl Applied {
+    fn before(self) -> Option<Sides> {
+        match self {
+            Applied::Taken(before) => Some(before),
+            Applied::Refused | Applied::OutOfMemory => None,
+        }
+    }
+}
 
 // How far the comparison has come.
 #[derive(Drop)]
@@ -57,17 +76,18 @@ impl Trial {
         }
     }
 
-    // Applies a transfer, and gives the version before it where it is taken.
-    fn apply(&mut self, alloc: Global, twice: Twice) -> Result<Option<Sides>, BenchError> {
+    // Applies a transfer.
+    fn apply(&mut self, alloc: Global, twice: Twice) -> Result<Applied, BenchError> {
         match self.sides.apply(alloc, twice) {
-            Outcome::Taken(new) => Ok(Some(mem::replace(&mut self.sides, new))),
+            Outcome::Taken(new) => Ok(Applied::Taken(mem::replace(&mut self.sides, new))),
             Outcome::Refused => {
                 self.refused = self.refused.saturating_add(1);
-                Ok(None)
+                Ok(Applied::Refused)
             }
+            Outcome::OutOfMemory => Ok(Applied::OutOfMemory),
             Outcome::Differs(difference) => {
                 self.count(Some(difference), 0)?;
-                Ok(None)
+                Ok(Applied::Refused)
             }
         }
     }
@@ -89,31 +109,46 @@ impl Trial {
         self.count(difference, triggers.len())
     }
 
-    // Takes a transfer, and compares.
-    fn take(&mut self, alloc: Global, twice: Twice) -> Result<(), BenchError> {
+    // Takes a transfer, and compares. Says whether there was memory for it.
+    fn take(&mut self, alloc: Global, twice: Twice) -> Result<bool, BenchError> {
         self.transfers = self.transfers.saturating_add(1);
         let is_whole = matches!(&twice.plain, Transfer::Whole { .. });
         let named = named_in(alloc, &twice.plain, &self.sides.plain.origin)?;
-        let before = self.apply(alloc, twice)?;
-        if is_whole || self.transfers % PERIOD == 0 {
+        let applied = self.apply(alloc, twice)?;
+        let had_memory = !matches!(&applied, Applied::OutOfMemory);
+        if is_whole || self.transfers % PERIOD == 0 || !had_memory {
             put_new(&mut self.known, named)?;
-            self.compare_all(alloc, before)
+            self.compare_all(alloc, applied.before())?;
         } else {
             self.compare(alloc, named.as_slice())?;
             put_new(&mut self.known, named)?;
-            Ok(())
         }
+        Ok(had_memory)
+    }
+
+    // Takes all transfers of the source. Says whether there was memory for them.
+    fn take_all<S: Source>(&mut self, alloc: Global, source: &mut S) -> Result<bool, BenchError> {
+        for _turn in 0..u64::MAX {
+            let Some(twice) = self.sides.next_transfer(alloc, source)? else {
+                break;
+            };
+            if !self.take(alloc, twice)? {
+                return Ok(false);
+            }
+        }
+        Ok(true)
     }
 }
 
 /// Applies the transfers of the input, and compares behind each.
 pub fn run<R: Print, S: Source>(rt: &R, alloc: Global, source: &mut S) -> Result<(), BenchError> {
     let mut trial = Trial::new(alloc)?;
-    for _turn in 0..u64::MAX {
-        let Some(twice) = trial.sides.next_transfer(alloc, source)? else {
-            break;
-        };
-        trial.take(alloc, twice)?;
+    if !trial.take_all(alloc, source)? {
+        println!(rt;
+            "out of memory in transfer {} comparisons {}",
+            trial.transfers, trial.comparisons
+        )?;
+        return Ok(());
     }
     let rows = trial.sides.zone.row_count().ok_or(BenchError::Empty)?;
     println!(rt;

@@ -28,8 +28,10 @@ pub struct Twice {
 #[derive(Drop)]
 pub enum Outcome {
     Taken(Sides),
-    /// Both refuse it, with the same error.
+    /// Both refuse it, with the same fault.
     Refused,
+    /// One of them got no memory.
+    OutOfMemory,
     Differs(Difference),
 }
 
@@ -37,6 +39,7 @@ pub enum Outcome {
 fn taken(zone: Zone, plain: Result<PlainZone, ApplyError>) -> Outcome {
     match plain {
         Ok(plain) => Outcome::Taken(Sides { zone, plain }),
+        Err(ApplyError::OutOfMemory) => Outcome::OutOfMemory,
         Err(error) => Outcome::Differs(Difference::Outcome {
             zone: None,
             plain: Some(error),
@@ -47,6 +50,9 @@ fn taken(zone: Zone, plain: Result<PlainZone, ApplyError>) -> Outcome {
 // What comes of a transfer that the zone refuses.
 fn refused(error: ApplyError, plain: Result<PlainZone, ApplyError>) -> Outcome {
     let plain = plain.err();
+    if error == ApplyError::OutOfMemory || plain == Some(ApplyError::OutOfMemory) {
+        return Outcome::OutOfMemory;
+    }
     if plain == Some(error) {
         return Outcome::Refused;
     }
@@ -93,19 +99,56 @@ impl Sides {
     ) -> Result<Option<Twice>, BenchError> {
         let mut reader = self.reader(alloc)?;
         let mut other = self.reader(alloc)?;
-        for _turn in 0..u64::MAX {
-            let Some(message) = read_frame(alloc, source)? else {
-                return Ok(None);
-            };
-            match (
-                reader.feed(message.as_slice())?,
-                other.feed(message.as_slice())?,
-            ) {
-                (Fed::Done(zone), Fed::Done(plain)) => return Ok(Some(Twice { zone, plain })),
-                (Fed::More, Fed::More) => {}
-                _ => return Err(BenchError::Current),
-            }
-        }
-        Err(BenchError::Ended)
+        read_twice(alloc, source, &mut reader, &mut other)
     }
+}
+
+// What a reader makes of a message: a transfer, if it is whole.
+fn feed(reader: &mut TransferReader, message: &[u8]) -> Result<Option<Transfer>, BenchError> {
+    match reader.feed(message)? {
+        Fed::Done(transfer) => Ok(Some(transfer)),
+        Fed::More => Ok(None),
+        Fed::Current { .. } => Err(BenchError::Current),
+    }
+}
+
+// The transfer once for each side.
+fn for_both(zone: Transfer, plain: Option<Transfer>) -> Result<Option<Twice>, BenchError> {
+    match plain {
+        Some(plain) => Ok(Some(Twice { zone, plain })),
+        None => Err(BenchError::Current),
+    }
+}
+
+// What both readers make of a message.
+fn feed_both(
+    reader: &mut TransferReader,
+    other: &mut TransferReader,
+    message: &[u8],
+) -> Result<Option<Twice>, BenchError> {
+    let zone = feed(reader, message)?;
+    let plain = feed(other, message)?;
+    match zone {
+        Some(zone) => for_both(zone, plain),
+        None => Ok(None),
+    }
+}
+
+// Gives both readers messages of the source, until these are a transfer or the source ends.
+fn read_twice<S: Source>(
+    alloc: Global,
+    source: &mut S,
+    reader: &mut TransferReader,
+    other: &mut TransferReader,
+) -> Result<Option<Twice>, BenchError> {
+    for _turn in 0..u64::MAX {
+        let Some(message) = read_frame(alloc, source)? else {
+            return Ok(None);
+        };
+        let twice = feed_both(reader, other, message.as_slice())?;
+        if twice.is_some() {
+            return Ok(twice);
+        }
+    }
+    Err(BenchError::Ended)
 }

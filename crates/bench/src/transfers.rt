@@ -1,15 +1,31 @@
-//! `bench transfers`: reads transfers of the zone rpz.example from standard input, as the answers to requests of the ID 0: the
-//! whole zone, and then, until the input ends, what is newer than the zone is by then. It puts each into the zone, and prints the
-//! serial of the zone and the number of its rows.
+//! `bench transfers`: takes transfers as a server does, without its sockets.
+//!
+//! It reads transfers of the zone rpz.example from standard input, as the answers to requests of the ID 0: the whole zone, and then,
+//! until the input ends, what is newer than the zone is by then. It publishes each, for one reader, and gives up the zone before. It
+//! prints the serial of the zone, the number of its rows, and how many microseconds the transfer behind the first took that took
+//! longest.
+
+ghost use Rattle.std.specs.Prelude.{◌≡◌};
 
 use crate::bench_error::BenchError;
 use axfr_apply::{Taken, TransferError, TransferFault, Wanted};
 use dns_name::Name;
 use edge_io::Source;
 use ixfr_apply::read_transfer;
+use policy_publish::{Parts, Publication, Publisher, StoreName, start_store};
 use std::alloc::Global;
-use zone_index::Zone;
+use std::marker::Brand;
+use std::sync::Wait;
+use std::time::{Clock, Duration, Instant};
 use zone_rows::Transfer;
+
+// What the transfers have come to.
+#[derive(Clone, Copy)]
+struct Done {
+    last: Publication,
+    // of a transfer behind the first
+    longest: Duration,
+}
 
 /// What is asked for of a zone, which has this serial where something is loaded.
 pub fn wanted(serial: Option<u32>) -> Wanted {
@@ -21,12 +37,15 @@ pub fn wanted(serial: Option<u32>) -> Wanted {
 
 // The next transfer. `None` where the input ends between messages, so that a transfer which is cut there isn't told from the end:
 // the serial that is printed tells it.
-fn next_transfer<S: Source>(
+fn next_transfer<N: StoreName, S: Source>(
     alloc: Global,
     source: &mut S,
-    zone: &Zone,
+    publisher: &Publisher<N>,
 ) -> Result<Option<Transfer>, BenchError> {
-    match read_transfer(alloc, source, 0, zone.origin(), wanted(zone.serial())) {
+    if !publisher.has_zone(1) {
+        return Err(BenchError::Empty);
+    }
+    match read_transfer(alloc, source, 0, publisher.origin(1), publisher.wanted(1)) {
         Ok(Taken::New(transfer)) => Ok(Some(transfer)),
         Ok(Taken::Current { .. }) => Err(BenchError::Current),
         Err(TransferError::Fault(TransferFault::EndedEarly)) => Ok(None),
@@ -34,29 +53,100 @@ fn next_transfer<S: Source>(
     }
 }
 
-// The zone after the transfers that the source gives.
-fn load<S: Source>(alloc: Global, source: &mut S) -> Result<Zone, BenchError> {
-    let mut zone = Zone::new(Name::from_text(alloc, b"rpz.example")?);
+// Publishes a transfer, and gives up the zone before it.
+fn publish<N: StoreName, R: Wait>(
+    rt: &R,
+    publisher: &mut Publisher<N>,
+    transfer: Transfer,
+) -> Result<Publication, BenchError> {
+    if !publisher.has_zone(1) {
+        return Err(BenchError::Empty);
+    }
+    let published = publisher.publish(rt, 1, transfer)?;
+    let _held = publisher.give_up_old();
+    Ok(published)
+}
+
+// Takes the next transfer, if there is one.
+fn take_next<N: StoreName, R: Wait, S: Source>(
+    rt: &R,
+    alloc: Global,
+    source: &mut S,
+    publisher: &mut Publisher<N>,
+) -> Result<Option<Publication>, BenchError> {
+    match next_transfer(alloc, source, publisher)? {
+        Some(transfer) => Ok(Some(publish(rt, publisher, transfer)?)),
+        None => Ok(None),
+    }
+}
+
+// With a transfer that took so long.
+fn with_next(done: Option<Done>, last: Publication, took: Duration) -> Done {
+    match done {
+        None => Done {
+            last,
+            longest: Duration::ZERO,
+        },
+        Some(done) => Done {
+            last,
+            longest: done.longest.max(took),
+        },
+    }
+}
+
+// Takes all transfers of the source.
+fn take_all<N: StoreName, R: Wait + Clock, S: Source>(
+    rt: &R,
+    alloc: Global,
+    source: &mut S,
+    publisher: &mut Publisher<N>,
+) -> Result<Done, BenchError> {
+    let mut done = None;
     for _turn in 0..u64::MAX {
-        let Some(transfer) = next_transfer(alloc, source, &zone)? else {
+        let start = Instant::now(rt)?;
+        let Some(last) = take_next(rt, alloc, source, publisher)? else {
             break;
         };
-        zone = zone.apply(alloc, transfer)?;
+        done = Some(with_next(done, last, start.elapsed(rt)?));
     }
-    Ok(zone)
+    done.ok_or(BenchError::Empty)
 }
 
-// The serial of the zone and the number of its rows.
-fn load_counts<S: Source>(alloc: Global, source: &mut S) -> Result<(u32, usize), BenchError> {
-    let zone = load(alloc, source)?;
-    let serial = zone.serial().ok_or(BenchError::Empty)?;
-    let rows = zone.row_count().ok_or(BenchError::Empty)?;
-    Ok((serial, rows))
+// Takes all of them over a store of its own.
+fn take_over<N: StoreName, R: Wait + Clock, S: Source>(
+    rt: &R,
+    alloc: Global,
+    parts: Parts,
+    source: &mut S,
+) -> Result<Done, BenchError>
+    requires { parts ≡ N.store }
+{
+    let (mut publisher, _readers) = parts.open::<N, R>(rt, alloc)?;
+    let done = take_all(rt, alloc, source, &mut publisher);
+    publisher.close(rt);
+    done
 }
 
-/// Applies the transfers of the input.
-pub fn run<R: Print, S: Source>(rt: &R, alloc: Global, source: &mut S) -> Result<(), BenchError> {
-    let (serial, rows) = load_counts(alloc, source)?;
-    println!(rt; "serial {serial} rows {rows}")?;
+// A store of the one zone, with one reader.
+fn store(alloc: Global) -> Result<Parts, BenchError> {
+    let origin = Name::from_text(alloc, b"rpz.example")?;
+    let origins = vec![in alloc; origin]?;
+    Ok(start_store(origins, 1))
+}
+
+/// Takes the transfers of the input.
+pub fn run<R: Wait + Clock + Print, S: Source>(
+    rt: &R,
+    alloc: Global,
+    source: &mut S,
+) -> Result<(), BenchError> {
+    let parts = store(alloc)?;
+    let done = take_over::<Brand, R, S>(rt, alloc, parts, source)?;
+    println!(rt;
+        "serial {} rows {} longest {}",
+        done.last.serial,
+        done.last.rows,
+        done.longest.as_micros()
+    )?;
     Ok(())
 }
