@@ -17,21 +17,21 @@ environment multiplies the bounds of memory.
 
 import argparse
 import importlib
-import importlib.util
 import sys
 import traceback
 
 import harness
 import unbound
 
-MODULES = ["clients", "upstreams", "datagrams", "primaries", "process"]
-PORTS = 20  # of each run; the second half of them is for Unbound
+MODULES = [
+    "clients", "more_clients", "datagrams", "upstreams", "more_upstreams", "primaries", "more_primaries", "process", "more_process",
+]
+PORTS = 40  # of each run; the second half of them is for Unbound
 
 
 def all_cases():
-    """The cases of all modules that are there."""
-    there = [name for name in MODULES if importlib.util.find_spec(name)]
-    return [case for name in there for case in importlib.import_module(name).CASES]
+    """The cases of all modules."""
+    return [case for name in MODULES for case in importlib.import_module(name).CASES]
 
 
 def tried(case, *arguments, **given):

@@ -41,13 +41,14 @@ def fail_if(is_wrong, said):
 
 
 class Scene:
-    """A server with its peers. `stdout`: what standard output is, or what makes it. `zones`: further policy zones, each with the port of
-    its primary. `stopped`: zones whose primaries accept connections and say nothing. `is_held`: the primary does so at first, and nothing
-    waits for its rules. `upstream`: makes the upstream, of a port and a delay."""
+    """A server with its peers. `stdout`: what standard output is, or what makes it. `zones`: further policy zones, whose primaries are at
+    the ports from `port + 3` on, in their order, and are made by the case. `stopped`: zones behind these, whose primaries accept
+    connections and say nothing. `is_held`: the primary does so at first, and nothing waits for its rules. `upstream`: makes the upstream,
+    of a port and a delay. `started`: what else the server is started with."""
 
     def __init__(
         self, program, port, workers, options=(), delay=0.0, stdout=None, zones=(), make=Server,
-        stopped=(), is_held=False, upstream=Upstream, host=LOOPBACK,
+        stopped=(), is_held=False, upstream=Upstream, host=LOOPBACK, **started,
     ):
         self.program, self.port, self.workers, self.host = program, port, workers, host
         with contextlib.ExitStack() as ends:
@@ -55,12 +56,11 @@ class Scene:
             ends.callback(self.upstream.end)
             self.primary = Primary(port + 2, [*RULED, "first.example"], is_held)
             ends.callback(self.primary.end)
-            zones = [(ZONE, port + 2), *zones]
-            for at, zone in enumerate(stopped, port + 3):
+            for at in range(port + 3 + len(zones), port + 3 + len(zones) + len(stopped)):
                 ends.callback(Primary(at, [], is_stopped=True).end)
-                zones.append((zone, at))
+            at_primaries = [(zone, at) for at, zone in enumerate([ZONE, *zones, *stopped], port + 2)]
             self.stdout = ends.enter_context(contextlib.closing(stdout())) if callable(stdout) else stdout
-            self.server = make(program, port, port + 1, zones, workers, options, self.stdout, host)
+            self.server = make(program, port, port + 1, at_primaries, workers, options, self.stdout, host, **started)
             ends.callback(self.server.remove_files)
             ends.callback(self.server.end)
             if not is_held:

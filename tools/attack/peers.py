@@ -7,6 +7,7 @@ import signal
 import socket
 import subprocess
 import sys
+import tempfile
 import threading
 import time
 
@@ -15,6 +16,7 @@ import wire
 HERE = os.path.dirname(os.path.abspath(__file__))
 LOOPBACK = "127.0.0.1"
 ZONE = "rpz.example"
+KEPT = 600  # the TTL of what an upstream answers, so that nothing expires before a case has ended
 
 
 def listener(port):
@@ -145,7 +147,7 @@ class Upstream:
     def reply(connection, lock, message):
         make = wire.large_answer if wire.question_name(message).startswith("large") else wire.answer
         with lock, contextlib.suppress(OSError):
-            connection.sendall(wire.frame(make(message)))
+            connection.sendall(wire.frame(make(message, ttl=KEPT)))
 
     def end(self):
         self.listener.end()
@@ -182,13 +184,14 @@ class Later:
 
 
 class Program:
-    """A server that runs as a process of its own, on an address of this host."""
+    """A server that runs as a process of its own, on an address of this host. `started`: what else `Popen` is given."""
 
     is_ours = False  # has the limits that cases of our server look for
 
-    def __init__(self, words, port, host, stdout):
+    def __init__(self, words, port, host, stdout, stderr=subprocess.DEVNULL, **started):
         self.host, self.port = host, port
-        self.process = subprocess.Popen(words, stdin=subprocess.DEVNULL, stdout=stdout, stderr=subprocess.DEVNULL)
+        streams = {"stdin": subprocess.DEVNULL, "stdout": stdout, "stderr": stderr}
+        self.process = subprocess.Popen(words, **streams, **started)
 
     def wait_for(self, name, rcode=3, seconds=10):
         """Waits until a name gets this rcode."""
@@ -222,19 +225,32 @@ class Program:
 
 
 class Server(Program):
-    """`rpz serve` with its standard output in a file, on an address of this host."""
+    """`rpz serve` with its standard output and error in files, on an address of this host."""
 
     is_ours = True
 
-    def __init__(self, program, port, upstream, primaries, workers, options=(), stdout=None, host=LOOPBACK):
+    def __init__(
+        self, program, port, upstream, primaries, workers, options=(), stdout=None, host=LOOPBACK, turns="forever", **started,
+    ):
         zones = [f"{zone}@{LOOPBACK}:{at}" for zone, at in primaries]
-        words = [program, "serve", *options, f"{host}:{port}", f"{LOOPBACK}:{upstream}", "forever", str(workers), *zones]
-        self.log = f"/tmp/attack-{os.getpid()}-{port}.log"
-        with open(self.log, "wb") as log:
-            super().__init__(words, port, host, log if stdout is None else stdout)
+        words = [program, "serve", *options, f"{host}:{port}", f"{LOOPBACK}:{upstream}", str(turns), str(workers), *zones]
+        self.log, self.errors = (f"{tempfile.gettempdir()}/attack-{os.getpid()}-{port}.{kind}" for kind in ("log", "errors"))
+        with open(self.log, "wb") as log, open(self.errors, "wb") as errors:
+            super().__init__(words, port, host, log if stdout is None else stdout, errors, **started)
+
+    def lines(self):
+        """What it has written on standard output, where that is its file."""
+        with open(self.log, encoding="utf-8") as file:
+            return file.read().splitlines()
+
+    def complaints(self):
+        """What it has written on standard error."""
+        with open(self.errors, encoding="utf-8", errors="replace") as file:
+            return file.read().splitlines()
 
     def remove_files(self):
         os.remove(self.log)
+        os.remove(self.errors)
 
 
 def ask(port, name, seconds, qtype=wire.A, host=LOOPBACK):

@@ -63,7 +63,7 @@ def zone_text():
 class Unbound(Program):
     """Unbound in the place of the server: what its primaries have is in a file, and options of `serve` say nothing to it."""
 
-    def __init__(self, _program, port, upstream, _primaries, workers, _options=(), stdout=None, host=LOOPBACK):
+    def __init__(self, _program, port, upstream, _primaries, workers, _options=(), stdout=None, host=LOOPBACK, **_started):
         self.folder = tempfile.mkdtemp(prefix="attack-unbound-")
         with open(f"{self.folder}/zone", "w", encoding="ascii") as file:
             file.write(zone_text())
