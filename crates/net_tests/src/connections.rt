@@ -111,9 +111,9 @@ fn count_next<S: Source + Drop, K: Sink + Drop, I: Inlet<S, K>, P: Replies<S, K>
     Some(count)
 }
 
-// How much more comes to a client, until its connection is closed. It waits for 2 seconds.
+// How much more comes to a client, until its connection is closed. It waits for 4 seconds.
 pub fn rest(mut client: &TcpStream) -> io::Result<usize> {
-    client.set_read_timeout(Some(Duration::from_secs(2)))?;
+    client.set_read_timeout(Some(Duration::from_secs(4)))?;
     client.read(&mut [0; 8])
 }
 
@@ -167,7 +167,7 @@ fn replies_later<W: Wires>(rt: &impl Abort, alloc: Global, wires: &mut W) {
         .expect(rt, "no error");
 }
 
-/// The connection that is idle for longest gives way.
+/// The connection that is idle for longest gives way, a second after it was opened.
 pub fn as_many_connections_are_open_as_admitted<R: Host, W: Wires>(rt: &R, wires: &mut W) {
     wires.admit(ConnectionLimits {
         all: 2,

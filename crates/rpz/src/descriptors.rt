@@ -2,7 +2,7 @@
 
 use libc::RLIMIT_NOFILE;
 use libc::types::rlimit;
-use rpz_net::limits::{ORDERS_MOST, UPSTREAM_ALL_CONNECTIONS};
+use rpz_net::limits::{NEW_CONNECTIONS, ORDERS_MOST, UPSTREAM_ALL_CONNECTIONS};
 
 // Standard input, output and error, the sockets of LISTEN, and what waits for the connections of clients.
 const OWN: u64 = 16;
@@ -19,8 +19,9 @@ pub fn allowed_descriptors() -> Option<u64> {
     }
 }
 
-/// How many descriptors a server has at most that admits so many connections of clients: one for each, for each connection to the
-/// upstream and for each transfer under way, and its own.
+/// How many descriptors a server has at most that admits so many connections of clients: one for each and for those that are new, for
+/// each connection to the upstream and for each transfer under way, and its own.
 pub fn wanted_descriptors(clients: u32) -> u64 {
-    u64::from(clients) + UPSTREAM_ALL_CONNECTIONS + ORDERS_MOST + OWN
+    let of_clients = u64::from(clients) + u64::from(NEW_CONNECTIONS);
+    of_clients + UPSTREAM_ALL_CONNECTIONS + ORDERS_MOST + OWN
 }

@@ -5,7 +5,7 @@ ghost use Rattle.std.specs.Prelude.{◌≡◌, ◌≤◌, IfOk, IfSome, length};
 use crate::client_counts::Client;
 use crate::client_phase::{Phase, Unanswered};
 use crate::datagram::is_notify;
-use crate::limits::{TURN_MESSAGES, UNANSWERED_MESSAGES};
+use crate::limits::{NEW_MILLISECONDS, TURN_MESSAGES, UNANSWERED_MESSAGES};
 use crate::message_buffer::{Frames, MessageBuffer};
 use crate::shared_connection::{ConnectionView, SharedConnection, StretchEnd};
 use crate::stretch::Stretch;
@@ -15,7 +15,7 @@ use std::io;
 use std::io::Read;
 use std::net::TcpStream;
 use std::sync::{Arc, Wait};
-use std::time::Instant;
+use std::time::{Duration, Instant};
 
 /// What the thread has to do next for a connection.
 #[derive(Clone, Copy)]
@@ -56,6 +56,7 @@ pub(crate) struct ClientConnection {
     is_lingering: bool,
     phase: Phase,
     since: Instant,
+    opened: Instant,
 }
 
 impl ClientConnection {
@@ -82,6 +83,7 @@ impl ClientConnection {
             is_lingering: false,
             phase: Phase::Busy,
             since: now,
+            opened: now,
         }
     }
 
@@ -351,6 +353,11 @@ impl ClientConnection {
         } else {
             Phase::Idle
         }
+    }
+
+    /// Whether it was opened just now, so that its first query may be on its way.
+    pub(crate) fn is_new(&self, now: Instant) -> bool {
+        now.saturating_duration_since(self.opened) < Duration::from_millis(NEW_MILLISECONDS)
     }
 
     /// Whether it has waited too long.

@@ -172,6 +172,17 @@ impl ConnectionTable {
         self.idle.first()
     }
 
+    /// Whether the connection that has waited longest for a message was opened just now.
+    pub(crate) fn is_oldest_idle_new(&self, now: Instant) -> bool {
+        let Some(index) = self.oldest_idle() else {
+            return false;
+        };
+        match self.places.get(index) {
+            Some(Some(connection)) => connection.is_new(now),
+            _ => false,
+        }
+    }
+
     /// The connection that has waited longest for the rest of a message, if one does.
     pub(crate) fn oldest_begun(&self) -> Option<usize> {
         self.begun.first()

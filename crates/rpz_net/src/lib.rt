@@ -41,6 +41,7 @@ mod service_state;
 mod shared_connection;
 mod shortage;
 mod socket_option;
+mod standard_streams;
 mod stretch;
 mod system_clock;
 mod tcp_link;

@@ -26,6 +26,13 @@ pub const CONNECTIONS_MOST: u32 = 1_000;
 
 pub const CLIENT_CONNECTIONS: u32 = 100;
 
+/// Milliseconds for which a connection is new: its first query may be on its way, so that it isn't closed for the sake of another one
+/// while at most `NEW_CONNECTIONS` more are open than may be.
+pub const NEW_MILLISECONDS: u64 = 1_000;
+
+/// How many connections more than may be open are open for that long, where many come at once.
+pub const NEW_CONNECTIONS: u32 = 1_000;
+
 /// How many messages of a connection a worker gets at a time, before other connections have their turn.
 pub const TURN_MESSAGES: u32 = 8;
 
@@ -156,7 +163,7 @@ pub const UPSTREAM_TRIES: u32 = 2;
 /// Seconds after which a connection to the upstream is closed on which nobody waits for an answer (RFC 7766, section 6.2.3).
 pub const UPSTREAM_IDLE_SECONDS: u64 = 2;
 
-/// Seconds after which a connection takes no more questions on which an answer is to come and nothing has come. Its path may be dead.
+/// Seconds after which a connection takes no more questions on which an answer is to come and none has come. Its path may be dead.
 pub const UPSTREAM_SILENCE_SECONDS: u64 = 3;
 
 /// Milliseconds after which the thread of a connection looks whether it is still wanted, where nothing comes.
@@ -174,6 +181,10 @@ pub const UPSTREAM_CUT_MILLISECONDS: u64 = 100;
 
 /// Seconds for which it gets one question on each connection then.
 pub const UPSTREAM_SINGLE_SECONDS: u64 = 60;
+
+/// Milliseconds that a question has then, where half of `UPSTREAM_ALL_CONNECTIONS` are taken, so that names which are never answered
+/// leave connections to others. It is what a query has while half of the askers are busy.
+pub const UPSTREAM_CROWDED_MILLISECONDS: u64 = 500;
 
 /// Seconds for which a question that was not answered in time is remembered, and fails at once (RFC 9520, section 3.2: at least one,
 /// and at most 300).

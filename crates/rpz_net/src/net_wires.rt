@@ -12,6 +12,7 @@ use crate::datagram_inlet::DatagramInlet;
 use crate::orders::Orders;
 use crate::server_replies::ServerReplies;
 use crate::service::Service;
+use crate::standard_streams::take_free_numbers;
 use crate::tcp_link::TcpLink;
 use crate::thread_starter::{ThreadStarter, thread_starter};
 use crate::upstreams::Upstreams;
@@ -60,11 +61,12 @@ impl<
         + 'static,
 > NetWires<R> {
     /// No endpoint is open yet, and no call has failed. Where there is no room for the thread that starts others, each `bind` and each
-    /// `order` fails.
+    /// `order` fails. The numbers of standard streams that are closed are taken, so that no socket gets one.
     pub fn new(rt: R, alloc: Global) -> Self
         ensures no_fault { ⟦<NetWires<R> as Wires>⟧.faults result ≡ 0 }
         ensures no_order_fault { ⟦<NetWires<R> as Wires>⟧.order_faults result ≡ 0 }
     {
+        take_free_numbers();
         NetWires {
             rt,
             alloc,

@@ -4,7 +4,7 @@ use crate::address::endpoint_of;
 use crate::client_connection::ClientConnection;
 use crate::client_counts::Client;
 use crate::connection_changes::ConnectionPlace;
-use crate::limits::ACCEPT_RUN;
+use crate::limits::{ACCEPT_RUN, NEW_CONNECTIONS};
 use crate::reception::{FIRST, Reception, TurnError};
 use crate::shared_connection::SharedConnection;
 use edge_io::Endpoint;
@@ -41,7 +41,7 @@ impl<R: time::Clock + Wait + Copy + Drop> Reception<R> {
         let Some(place) = self.table.open(client, limits.of_client) else {
             return;
         };
-        if !self.has_room(limits.all) {
+        if !self.has_room(limits.all, now) {
             self.table.give_up(place.index, client);
             return;
         }
@@ -55,14 +55,39 @@ impl<R: time::Clock + Wait + Copy + Drop> Reception<R> {
         }
     }
 
-    // Whether one more may be open where so many may be. The one that has been idle for longest gives way.
-    fn has_room(&mut self, all: u32) -> bool {
-        if self.table.count() >= all
+    // Whether one more may be open where so many may be. The one that has been idle for longest gives way; while that is new, a little
+    // later, unless too many are open.
+    fn has_room(&mut self, all: u32, now: Instant) -> bool {
+        self.close_beyond(all.saturating_sub(1), now);
+        let most = if self.table.is_oldest_idle_new(now) {
+            all.saturating_add(NEW_CONNECTIONS)
+        } else {
+            all
+        };
+        if self.table.count() >= most
             && let Some(oldest) = self.table.oldest_idle()
         {
             self.close(oldest);
         }
-        self.table.count() < all
+        self.table.count() < most
+    }
+
+    /// While more are open than may be, those give way that have been idle for longest and are new no more.
+    pub(crate) fn close_surplus(&mut self, now: Instant) {
+        let all = self.service.connection_limits().all;
+        self.close_beyond(all, now);
+    }
+
+    fn close_beyond(&mut self, most: u32, now: Instant) {
+        for _ in 0..self.table.len() {
+            if self.table.count() <= most || self.table.is_oldest_idle_new(now) {
+                return;
+            }
+            match self.table.oldest_idle() {
+                Some(oldest) => self.close(oldest),
+                None => return,
+            }
+        }
     }
 
     // What workers have of a new connection.

@@ -115,6 +115,7 @@ impl<R: time::Clock + Wait + Copy + Drop> Reception<R> {
         let now = self.wait(self.longest_wait())?;
         self.attend_pending(now);
         let accepted = self.accept_some(now);
+        self.close_surplus(now);
         self.hand_on(now);
         self.limit_outboxes();
         accepted

@@ -4,7 +4,7 @@ use crate::address::address_of;
 use crate::answer_place::{Answer, AnswerPlace};
 use crate::limits::{
     START_MILLISECONDS, UPSTREAM_CONNECT_MILLISECONDS, UPSTREAM_CONNECT_TRIES,
-    UPSTREAM_FAILURE_MILLISECONDS, UPSTREAM_TRIES,
+    UPSTREAM_CROWDED_MILLISECONDS, UPSTREAM_FAILURE_MILLISECONDS, UPSTREAM_TRIES,
 };
 use crate::thread_starter::Job;
 use crate::time_limit::time_until;
@@ -118,9 +118,23 @@ impl<
         end: Instant,
     ) -> Result<Answer, AskError> {
         let asked = self.find(alloc, id_of(message), place, end)?;
+        let end = if asked.is_crowded {
+            self.soon(end)
+        } else {
+            end
+        };
         let answer = self.send(alloc, message, &asked, place, end);
         self.pool.tell_one();
         answer
+    }
+
+    // When the time of a question is over that others want the connection of.
+    fn soon(&self, end: Instant) -> Instant {
+        let most = Duration::from_millis(UPSTREAM_CROWDED_MILLISECONDS);
+        match Instant::now(&self.rt) {
+            Ok(now) => now.checked_add(most).map_or(end, |soon| soon.min(end)),
+            Err(_) => end,
+        }
     }
 
     // Sends the question, and waits for its answer.
@@ -257,19 +271,32 @@ impl<
         place: &Arc<AnswerPlace>,
         now: Instant,
     ) -> Result<Asked, AskError> {
-        let connection = Arc::try_clone(&reader.connection)?;
-        let Some(asked) = self
-            .pool
-            .add(&self.rt, opening, connection, id, place, now)?
-        else {
-            return Err(AskError::Failed);
-        };
+        let asked = self.add(&reader.connection, opening, id, place, now)?;
         let most = Duration::from_millis(START_MILLISECONDS);
         let job = Job::Upstream(reader);
         if self.jobs.send_timeout(&self.rt, job, most).is_err() {
             self.pool.close(&self.rt, &asked.connection);
         }
         Ok(asked)
+    }
+
+    // Gives a connection to the pool, with the question. It is apart from `start`, which has a reader to drop.
+    fn add(
+        &self,
+        connection: &Arc<UpstreamConnection>,
+        opening: OpeningPlace,
+        id: u16,
+        place: &Arc<AnswerPlace>,
+        now: Instant,
+    ) -> Result<Asked, AskError> {
+        let connection = Arc::try_clone(connection)?;
+        let added = self
+            .pool
+            .add(&self.rt, opening, connection, id, place, now)?;
+        match added {
+            Some(asked) => Ok(asked),
+            None => Err(AskError::Failed),
+        }
     }
 }
 

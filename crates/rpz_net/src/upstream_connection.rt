@@ -105,11 +105,6 @@ impl UpstreamConnection {
         self.questions.lock(rt).give_up(number, now);
     }
 
-    /// Something came.
-    pub(crate) fn hear<R: Wait>(&self, rt: &R, now: Instant) {
-        self.questions.lock(rt).hear(now);
-    }
-
     /// It takes no more questions.
     pub(crate) fn retire<R: Wait>(&self, rt: &R) {
         self.questions.lock(rt).retire();

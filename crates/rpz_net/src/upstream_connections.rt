@@ -19,6 +19,8 @@ pub(crate) struct Asked {
     pub(crate) connection: Arc<UpstreamConnection>,
     /// Its number there.
     pub(crate) number: u16,
+    /// No other question can have this connection, and half of those that there may be are taken.
+    pub(crate) is_crowded: bool,
 }
 
 /// The place of a connection that is being opened. It becomes free where this is dropped.
@@ -135,8 +137,13 @@ impl UpstreamConnections {
         }
     }
 
+    // How many are open or being opened.
+    fn taken(&self) -> u64 {
+        self.opening().saturating_add(self.open.len() as u64)
+    }
+
     fn is_full(&self) -> bool {
-        self.opening().saturating_add(self.open.len() as u64) >= UPSTREAM_ALL_CONNECTIONS
+        self.taken() >= UPSTREAM_ALL_CONNECTIONS
     }
 
     // One is being opened from now on.
@@ -191,7 +198,11 @@ impl UpstreamConnections {
         let connection = Arc::try_clone(connection)?;
         let place = Arc::try_clone(place)?;
         match connection.ask(rt, &mut self.numbers, id, place, now)? {
-            Some(number) => Ok(Choice::Asked(Asked { connection, number })),
+            Some(number) => Ok(Choice::Asked(Asked {
+                connection,
+                number,
+                is_crowded: false,
+            })),
             None => Ok(Choice::Again),
         }
     }
@@ -216,13 +227,15 @@ impl UpstreamConnections {
         let Some(number) = connection.ask(rt, &mut self.numbers, id, place, now)? else {
             return Ok(None);
         };
-        if self.manner.is_single(now) {
+        let is_single = self.manner.is_single(now);
+        if is_single {
             connection.retire(rt);
         }
         self.open.push(connection)?;
         Ok(Some(Asked {
             connection: again,
             number,
+            is_crowded: is_single && self.taken() > UPSTREAM_ALL_CONNECTIONS / 2,
         }))
     }
 

@@ -57,7 +57,7 @@ pub(crate) struct UpstreamQuestions {
     window: UpstreamWindow,
     // It was closed as `Closing` says.
     was_cut: bool,
-    // When something came last; or, where no answer was to come then, when the first question was asked since.
+    // When the last answer came, whole; or, where no other was to come then, when the first question was asked since.
     heard: Instant,
     // Since when nobody waits, where nobody does.
     idle_since: Instant,
@@ -88,13 +88,13 @@ impl UpstreamQuestions {
         }
     }
 
-    // Whether an answer is to come and nothing has come for too long.
+    // Whether an answer is to come and none has come for too long. An octet now and then is no answer.
     fn is_silent(&self, now: Instant) -> bool {
         !self.questions.is_empty() && is_past(self.heard, UPSTREAM_SILENCE_SECONDS, now)
     }
 
-    /// How many are not answered; `None` where no more questions are taken: it is closed or was retired, nothing came for too long, or
-    /// too many were given up.
+    /// How many are not answered; `None` where no more questions are taken: it is closed or was retired, no answer came for too long,
+    /// or too many were given up.
     pub(crate) fn load(&self, now: Instant) -> Option<Load> {
         let asked = self.questions.len();
         let abandoned = asked.saturating_sub(self.awaited);
@@ -179,6 +179,7 @@ impl UpstreamQuestions {
             asked_before,
             answered_before: _,
         } = self.questions.swap_remove(index);
+        self.heard = now;
         self.answered = self.answered.saturating_add(1);
         self.newest = self.newest.max(asked_before.saturating_add(1));
         self.window.note_answer();
@@ -212,11 +213,6 @@ impl UpstreamQuestions {
             let stood = self.in_turn();
             self.window.fall_behind(asked_before, self.asked, stood);
         }
-    }
-
-    /// Something came.
-    pub(crate) fn hear(&mut self, now: Instant) {
-        self.heard = now;
     }
 
     /// No more questions are taken.

@@ -90,7 +90,6 @@ impl<R: time::Clock + Wait + Copy + Drop> UpstreamReader<R> {
 
     // Hands on the answers that have come whole. One that nobody waits for is dropped.
     fn hand_on(&mut self, now: Instant) {
-        self.connection.hear(&self.rt, now);
         for _ in 0..u64::MAX {
             let Some(message) = self.frames.message() else {
                 return;
