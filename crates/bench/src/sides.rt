@@ -11,17 +11,35 @@ use zone_index::Zone;
 use zone_rows::{ApplyError, PlainZone, Transfer};
 
 /// A zone, and the plain list of its rows.
-#[derive(Drop)]
 pub struct Sides {
     pub zone: Zone,
     pub plain: PlainZone,
 }
 
+// Written out, as that of `Twice`, so that wherever one is dropped this is one call.
+impl Drop for Sides {
+    fn drop(self) {
+        let Sides { zone: _, plain: _ } = self;
+    }
+}
+
 /// A transfer, once for each side.
-#[derive(Drop)]
 pub struct Twice {
     pub zone: Transfer,
     pub plain: Transfer,
+}
+
+impl Drop for Twice {
+    fn drop(self) {
+        let Twice { zone: _, plain: _ } = self;
+    }
+}
+
+impl Twice {
+    fn into_parts(self) -> (Transfer, Transfer) {
+        let Twice { zone, plain } = self;
+        (zone, plain)
+    }
 }
 
 /// What a transfer comes to.
@@ -77,7 +95,7 @@ impl Sides {
 
     /// What both make of a transfer.
     pub fn apply(&self, alloc: Global, twice: Twice) -> Outcome {
-        let Twice { zone, plain } = twice;
+        let (zone, plain) = twice.into_parts();
         let plain = self.plain.apply(alloc, plain);
         match self.zone.apply(alloc, zone) {
             Ok(zone) => taken(zone, plain),
