@@ -15,6 +15,7 @@ import collections
 import os
 import pathlib
 import re
+import struct
 import subprocess
 import sys
 import tempfile
@@ -33,12 +34,19 @@ def small_zone(out, seed, count):
     out.flush()
 
 
-def run(program, library, path, number):
-    """What a run says on standard output and standard error that is refused the call of this number."""
+def run(program, library, path, number, counts=None):
+    """What a run says on standard output and standard error that is refused the call of this number. The file `counts` gets how many
+    calls of each kind it made."""
+    more = {"LD_PRELOAD": library, "REFUSE": str(number)} | ({"COUNT_FILE": counts} if counts else {})
     with open(path, "rb") as given:
-        done = subprocess.run([program, "edits"], stdin=given, capture_output=True, text=True, check=False,
-                              env={**os.environ, "LD_PRELOAD": library, "REFUSE": str(number)})
+        done = subprocess.run([program, "edits"], stdin=given, capture_output=True, text=True, check=False, env={**os.environ, **more})
     return done.returncode, done.stdout, done.stderr
+
+
+def calls_for_memory(counts):
+    """How many there were by that file, whose last number is that of calls that give memory back."""
+    with open(counts, "rb") as numbers:
+        return sum(struct.unpack("=6Q", numbers.read(48))[:-1])
 
 
 def outcome(status, told, errors):
@@ -47,7 +55,7 @@ def outcome(status, told, errors):
         return "transfer", int(found[1]), int(found[2])
     if status == 0 and told.startswith("transfers "):
         return "end", 0, 0
-    if status == 1 and errors.startswith(("OutOfMemory", "Frame(OutOfMemory)", "Transfer(OutOfMemory)", "Origin(OutOfMemory)")):
+    if status == 1 and re.match(r"(Error: )?(\w+\()*OutOfMemory\b", errors):
         return "elsewhere", 0, 0
     sys.exit(f"status {status}: {told}{errors}")
 
@@ -62,8 +70,8 @@ def main():
         subprocess.run(["cc", "-O2", "-shared", "-fPIC", "-o", library, ROOT / "count_allocations.c"], check=True)
         with open(path, "wb") as stream:
             small_zone(stream, seed, count)
-        _, told, counted = run(sys.argv[1], library, path, 0)
-        calls = sum(map(int, re.findall(r"(?:alloc|memalign) (\d+)", counted)))
+        _, told, _ = run(sys.argv[1], library, path, 0, f"{folder}/counts")
+        calls = calls_for_memory(f"{folder}/counts")
         print(f"{calls} calls for memory: {told}", end="", flush=True)
         sums = collections.Counter()
         for number in range(1, calls + 1):
