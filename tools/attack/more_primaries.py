@@ -86,7 +86,7 @@ def deaf_primaries(it):
         with repeated(lambda number: notify(it.port, f"deaf{number % 8}.example"), 0.06):
             yield lambda: said.append(changes_meanwhile(it, 8))
         lines = [lines_of(it, zone) for zone in range(2, 10)]
-    fail_if(any(len(of_one) < 3 or set(of_one) != {"refused FetchFault"} for of_one in lines), f"lines {lines}")
+    fail_if(any(len(of_one) < 2 or set(of_one) != {"refused FetchFault"} for of_one in lines), f"lines {lines}")
     return f"{''.join(said)}; {sum(map(len, lines))} lines FetchFault"
 
 
