@@ -159,9 +159,15 @@ def numbers_of_closed_streams(program, port, workers):
 SIGNALS = [signal.SIGHUP, signal.SIGUSR1, signal.SIGTERM, signal.SIGINT]
 
 
+def heed_signals():
+    """For `preexec_fn`: a shell that starts this in the background, or `nohup`, has it ignore some of them."""
+    for number in SIGNALS:
+        signal.signal(number, signal.SIG_DFL)
+
+
 def ended_by(program, port, workers, number):
     """Sends the signal while queries hang; the seconds until the server has ended."""
-    it = Scene(program, port, workers)
+    it = Scene(program, port, workers, preexec_fn=heed_signals)
     with contextlib.ExitStack() as stack:
         stack.callback(it.end)
         sock = stack.enter_context(connect(port))
