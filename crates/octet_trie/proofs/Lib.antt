@@ -10,6 +10,7 @@ pub mod Commons
 pub mod Putting
 pub mod Taking
 pub mod Walking
+pub mod Joining
 pub mod Tries
 pub mod Copying
 pub mod Collecting

@@ -22,7 +22,6 @@ use Rattle.trie_keys.specs.Beginning.{further}
 use Rattle.trie_keys.specs.Entries.{all_first, all_second, all_map}
 use Rattle.trie_keys.specs.Keys.{Under, Begins}
 use Rattle.trie_keys.specs.Scan.{own, last_where, option_else, last_append, last_none, else_none, else_assoc}
-use Rattle.trie_keys.specs.declared.marked.Marked.{Marked}
 
 abbrev found_at : {V : Type 0} → List ℕ → List (List ℕ × V) → Option V
 found_at key es = lookup (is_at (octet_keys.order key)) es
@@ -138,62 +137,63 @@ chained result below own after before whole e f w = e ∙ ap (option_else below)
 pub settled : {X : Type 0} (result own before whole : Option X) → result ≡ option_else own before → whole ≡ own → result ≡ option_else whole before
 settled result own before whole e w = e ∙ ap (λ o. option_else o before) (sym w)
 
-not_both : {M : Type 0} (acts : M → Bool) (b : Bool) (m : M) → b ≡ false → (b && acts m) ≡ false
-not_both acts b m e = ap (λ x. x && acts m) e
+not_both : {V : Type 0} (acts : V → Bool) (b : Bool) (v : V) → b ≡ false → (b && acts v) ≡ false
+not_both acts b v e = ap (λ x. x && acts v) e
 
-module _ {N M : Type 0} (acts : M → Bool) where
-  abbrev test : List ℕ → List ℕ × Marked N M → Bool
-  test octets e = fits octets e.0 && acts e.1.mark
+-- those that act, by a test of their values
+module _ {V : Type 0} (acts : V → Bool) where
+  abbrev test : List ℕ → List ℕ × V → Bool
+  test octets e = fits octets e.0 && acts e.1
 
-  abbrev scan : List ℕ → List (List ℕ × Marked N M) → Option (List ℕ × Marked N M)
+  abbrev scan : List ℕ → List (List ℕ × V) → Option (List ℕ × V)
   scan octets es = last_where (test octets) es
 
-  own_fits : (octets key : List ℕ) (v : Option (Marked N M)) → fits octets key ≡ true → scan octets (own key v) ≡ acting acts key v
+  own_fits : (octets key : List ℕ) (v : Option V) → fits octets key ≡ true → scan octets (own key v) ≡ acting acts key v
   own_fits octets key None e = refl
-  own_fits octets key (Some v) e = ap (λ b. cond (b && acts v.mark) (Some (key, v)) None) e
+  own_fits octets key (Some v) e = ap (λ b. cond (b && acts v) (Some (key, v)) None) e
 
-  own_not : (octets key : List ℕ) (v : Option (Marked N M)) → fits octets key ≡ false → scan octets (own key v) ≡ None
+  own_not : (octets key : List ℕ) (v : Option V) → fits octets key ≡ false → scan octets (own key v) ≡ None
   own_not octets key None e = refl
-  own_not octets key (Some v) e = ap (λ b. cond (b && acts v.mark) (Some (key, v)) None) e
+  own_not octets key (Some v) e = ap (λ b. cond (b && acts v) (Some (key, v)) None) e
 
-  three : (octets : List ℕ) (xs ys zs : List (List ℕ × Marked N M)) → scan octets (xs ++ (ys ++ zs)) ≡ option_else (option_else (scan octets zs) (scan octets ys)) (scan octets xs)
+  three : (octets : List ℕ) (xs ys zs : List (List ℕ × V)) → scan octets (xs ++ (ys ++ zs)) ≡ option_else (option_else (scan octets zs) (scan octets ys)) (scan octets xs)
   three octets xs ys zs = last_append (test octets) xs (ys ++ zs) ∙ ap (λ o. option_else o (scan octets xs)) (last_append (test octets) ys zs)
 
   -- none of what is under some nodes
-  none_under : (name octets q : List ℕ) (ks : List (Sub (Marked N M))) → octets ≡ name ++ q → AllByRecursion (λ k. IsKid (symbols name) k) ks → AllByRecursion (λ k. (xs : List ℕ) → fits q ((k.symbol + 2) ∷ xs) ≡ false) ks → scan octets (joined ks) ≡ None
+  none_under : (name octets q : List ℕ) (ks : List (Sub V)) → octets ≡ name ++ q → AllByRecursion (λ k. IsKid (symbols name) k) ks → AllByRecursion (λ k. (xs : List ℕ) → fits q ((k.symbol + 2) ∷ xs) ≡ false) ks → scan octets (joined ks) ≡ None
   none_under name octets q [] e kids all = refl
   none_under name octets q (k ∷ ks) e kids all =
       last_append (test octets) k.list (joined ks)
       ∙ (λ i. option_else (none_under name octets q ks e kids.1 all.1 i)
       (last_none (test octets) k.list (all_map (λ x. Under octet_keys (symbols name) (k.symbol + 2) x.0) (λ x. test octets x ≡ false) k.list
-      (λ x u. not_both acts (fits octets x.0) x.1.mark (ap (λ xs. fits xs x.0) e ∙ fits_under name q x.0 (k.symbol + 2) u ∙ all.0 (drop (length (symbols name) + 1) x.0))) kids.0.list) i))
+      (λ x u. not_both acts (fits octets x.0) x.1 (ap (λ xs. fits xs x.0) e ∙ fits_under name q x.0 (k.symbol + 2) u ∙ all.0 (drop (length (symbols name) + 1) x.0))) kids.0.list) i))
 
-  all_past : (ks : List (Sub (Marked N M))) → AllByRecursion (λ k. (xs : List ℕ) → fits [] ((k.symbol + 2) ∷ xs) ≡ false) ks
+  all_past : (ks : List (Sub V)) → AllByRecursion (λ k. (xs : List ℕ) → fits [] ((k.symbol + 2) ∷ xs) ≡ false) ks
   all_past [] = tt
   all_past (k ∷ ks) = (λ xs. fits_past k.symbol xs, all_past ks)
 
-  all_less : (o : ℕ) (q : List ℕ) (ks : List (Sub (Marked N M))) → AllBelow o ks → AllByRecursion (λ k. (xs : List ℕ) → fits (o ∷ q) ((k.symbol + 2) ∷ xs) ≡ false) ks
+  all_less : (o : ℕ) (q : List ℕ) (ks : List (Sub V)) → AllBelow o ks → AllByRecursion (λ k. (xs : List ℕ) → fits (o ∷ q) ((k.symbol + 2) ∷ xs) ≡ false) ks
   all_less o q [] all = tt
   all_less o q (k ∷ ks) all = (λ xs. fits_other o k.symbol q xs (λ e. omega (arith, e, all.0)), all_less o q ks all.1)
 
-  all_more : (o : ℕ) (q : List ℕ) (ks : List (Sub (Marked N M))) → AllAbove o ks → AllByRecursion (λ k. (xs : List ℕ) → fits (o ∷ q) ((k.symbol + 2) ∷ xs) ≡ false) ks
+  all_more : (o : ℕ) (q : List ℕ) (ks : List (Sub V)) → AllAbove o ks → AllByRecursion (λ k. (xs : List ℕ) → fits (o ∷ q) ((k.symbol + 2) ∷ xs) ≡ false) ks
   all_more o q [] all = tt
   all_more o q (k ∷ ks) all = (λ xs. fits_other o k.symbol q xs (λ e. omega (arith, e, all.0)), all_more o q ks all.1)
 
   -- ---- at a node
 
-  pub best_apart : (s : Stored (Marked N M)) (n : PlainNode (Marked N M)) (octets : List ℕ) (same : ℕ) (o : Option (List ℕ × Marked N M)) → IsNode s n → IsCommon (name_of s.octets n) octets same → same < n.len → o ≡ option_else (scan octets (stands s n).list) o
+  pub best_apart : (s : Stored V) (n : PlainNode V) (octets : List ℕ) (same : ℕ) (o : Option (List ℕ × V)) → IsNode s n → IsCommon (name_of s.octets n) octets same → same < n.len → o ≡ option_else (scan octets (stands s n).list) o
   best_apart s n octets same o node c lt =
       let name = name_of s.octets n in
       let len = name_length s n node in
       let u : Under octet_keys (symbols (take same name)) (get_or name same 0 + 2) (symbols name) = under_front name same (omega (arith, len)) (omega (arith, len, node.short)) in
       let none : scan octets (stands s n).list ≡ None =
       last_none (test octets) (stands s n).list (all_map (λ e. Begins octet_keys (key_of s.octets n) e.0) (λ e. test octets e ≡ false) (stands s n).list
-      (λ e b. not_both acts (fits octets e.0) e.1.mark (fits_apart name octets e.0 same c (omega (arith, len)) (further octet_keys (list_laws 255) (symbols (take same name)) (symbols name) e.0 (get_or name same 0 + 2) u b)))
+      (λ e b. not_both acts (fits octets e.0) e.1 (fits_apart name octets e.0 same c (omega (arith, len)) (further octet_keys (list_laws 255) (symbols (take same name)) (symbols name) e.0 (get_or name same 0 + 2) u b)))
       (begins_at s n node)) in
       ap (λ x. option_else x o) (sym none)
 
-  pub best_here : (s : Stored (Marked N M)) (n : PlainNode (Marked N M)) (octets : List ℕ) → IsNode s n → name_of s.octets n ≡ octets → scan octets (stands s n).list ≡ acting acts (entry_key (name_of s.octets n) false) n.exact
+  pub best_here : (s : Stored V) (n : PlainNode V) (octets : List ℕ) → IsNode s n → name_of s.octets n ≡ octets → scan octets (stands s n).list ≡ acting acts (entry_key (name_of s.octets n) false) n.exact
   best_here s n octets node e =
       let name = name_of s.octets n in
       let top = key_of s.octets n in
@@ -205,7 +205,7 @@ module _ {N M : Type 0} (acts : M → Bool) where
       ∙ (λ i. option_else (option_else (none_under name octets [] ks whole (each_under s n node) (all_past ks) i) (own_not octets (top ++ 1 ∷ []) n.wild wild i)) (own_fits octets (top ++ 0 ∷ []) n.exact exact i))
 
   -- the two values where octets go on
-  best_two : (name octets q : List ℕ) (o : ℕ) (e w : Option (Marked N M)) (ks : List (Sub (Marked N M))) → octets ≡ name ++ (o ∷ q) → scan octets (list_of (symbols name) e w ks) ≡ option_else (scan octets (joined ks)) (acting acts (entry_key name true) w)
+  best_two : (name octets q : List ℕ) (o : ℕ) (e w : Option V) (ks : List (Sub V)) → octets ≡ name ++ (o ∷ q) → scan octets (list_of (symbols name) e w ks) ≡ option_else (scan octets (joined ks)) (acting acts (entry_key name true) w)
   best_two name octets q o e w ks whole =
       let top = symbols name in
       let exact : fits octets (top ++ 0 ∷ []) ≡ false = ap (λ xs. fits xs (top ++ 0 ∷ [])) whole ∙ fits_along name (o ∷ q) (0 ∷ []) ∙ fits_exact_below o q in
@@ -214,14 +214,14 @@ module _ {N M : Type 0} (acts : M → Bool) where
       ∙ (λ i. option_else (option_else (scan octets (joined ks)) (own_fits octets (top ++ 1 ∷ []) w wild i)) (own_not octets (top ++ 0 ∷ []) e exact i))
       ∙ else_none (option_else (scan octets (joined ks)) (acting acts (entry_key name true) w))
 
-  joined_scan : (octets : List ℕ) (xs mid ys : List (Sub (Marked N M))) → scan octets (joined xs) ≡ None → scan octets (joined ys) ≡ None → scan octets (joined (xs ++ (mid ++ ys))) ≡ scan octets (joined mid)
+  joined_scan : (octets : List ℕ) (xs mid ys : List (Sub V)) → scan octets (joined xs) ≡ None → scan octets (joined ys) ≡ None → scan octets (joined (xs ++ (mid ++ ys))) ≡ scan octets (joined mid)
   joined_scan octets xs mid ys ex ey =
-      ap (scan octets) (flat_append (λ (x : Sub (Marked N M)). x.list) xs (mid ++ ys) ∙ ap (λ es. joined xs ++ es) (flat_append (λ (x : Sub (Marked N M)). x.list) mid ys))
+      ap (scan octets) (flat_append (λ (x : Sub V). x.list) xs (mid ++ ys) ∙ ap (λ es. joined xs ++ es) (flat_append (λ (x : Sub V). x.list) mid ys))
       ∙ three octets (joined xs) (joined mid) (joined ys)
       ∙ (λ i. option_else (option_else (ey i) (scan octets (joined mid))) (ex i))
       ∙ else_none (scan octets (joined mid))
 
-  pub best_gap : (s : Stored (Marked N M)) (n : PlainNode (Marked N M)) (octets : List ℕ) (place : ℕ) → IsNode s n → GoesOn (name_of s.octets n) octets → GapAt (kids_of s.subs n) (get_or octets (length (name_of s.octets n)) 0) place
+  pub best_gap : (s : Stored V) (n : PlainNode V) (octets : List ℕ) (place : ℕ) → IsNode s n → GoesOn (name_of s.octets n) octets → GapAt (kids_of s.subs n) (get_or octets (length (name_of s.octets n)) 0) place
       → scan octets (stands s n).list ≡ acting acts (entry_key (name_of s.octets n) true) n.wild
   best_gap s n octets place node goes gap =
       let name = name_of s.octets n in
@@ -238,7 +238,7 @@ module _ {N M : Type 0} (acts : M → Bool) where
       ∙ joined_scan octets xs [] ys (none_under name octets (o ∷ q) xs goes (all_first (λ k. IsKid top k) xs ys each) (all_less o q xs gap.below)) (none_under name octets (o ∷ q) ys goes (all_second (λ k. IsKid top k) xs ys each) (all_more o q ys gap.above)) in
       best_two name octets q o n.exact n.wild ks goes ∙ ap (λ x. option_else x (acting acts (entry_key name true) n.wild)) none
 
-  pub best_below : (s : Stored (Marked N M)) (n k : PlainNode (Marked N M)) (octets : List ℕ) (place : ℕ) → IsNode s n → GoesOn (name_of s.octets n) octets → KidAt (kids_of s.subs n) (get_or octets (length (name_of s.octets n)) 0) place → IsAt s (n.kids + place) k
+  pub best_below : (s : Stored V) (n k : PlainNode V) (octets : List ℕ) (place : ℕ) → IsNode s n → GoesOn (name_of s.octets n) octets → KidAt (kids_of s.subs n) (get_or octets (length (name_of s.octets n)) 0) place → IsAt s (n.kids + place) k
       → scan octets (stands s n).list ≡ option_else (scan octets (stands s k).list) (acting acts (entry_key (name_of s.octets n) true) n.wild)
   best_below s n k octets place node goes kid at =
       let name = name_of s.octets n in

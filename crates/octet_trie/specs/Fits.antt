@@ -15,12 +15,17 @@ fits [] (s ∷ ss) = s == 0 && is_last ss
 fits (o ∷ octets) [] = false
 fits (o ∷ octets) (s ∷ ss) = cond (s == 1) (is_last ss) (s == o + 2 && fits octets ss)
 
-module _ {N M : Type 0} where
+module _ {V : Type 0} where
   -- the entry at a key, if it is there and acts
-  abbrev pub acting : (M → Bool) → List ℕ → Option (Marked N M) → Option (List ℕ × Marked N M)
+  abbrev pub acting : (V → Bool) → List ℕ → Option V → Option (List ℕ × V)
   acting acts key None = None
-  acting acts key (Some v) = cond (acts v.mark) (Some (key, v)) None
+  acting acts key (Some v) = cond (acts v) (Some (key, v)) None
 
-  -- the entry that a hit stands for
-  abbrev pub entry_of : List ℕ → Hit N M → List ℕ × Marked N M
-  entry_of octets h = (entry_key (take h.len (drop h.key octets)) h.wild, h.value)
+  -- whether there is a value, and it passes
+  abbrev pub some_passes : (V → Bool) → Option V → Bool
+  some_passes test None = false
+  some_passes test (Some v) = test v
+
+-- the entry that a hit stands for
+abbrev pub entry_of : {N M : Type 0} → List ℕ → Hit N M → List ℕ × Marked N M
+entry_of octets h = (entry_key (take h.len (drop h.key octets)) h.wild, h.value)

@@ -1,8 +1,9 @@
 //! A trie.
 
-ghost use Rattle.std.specs.Prelude.{◌≡◌, ◌+◌, ◌≤◌, ◌&&◌, [], true, length, map, IfOk, IfSome};
+ghost use Rattle.std.specs.Prelude.{◌≡◌, ℕ, ◌+◌, ◌≤◌, ◌&&◌, [], true, length, map, IfOk, IfSome};
 ghost use Rattle.std.specs.BTreeMap.{insert_entry, is_at};
 ghost use Rattle.std.specs.Cmp.Lexicographic.{slice_cmp};
+ghost use Rattle.std.specs.List.{list_any};
 ghost use Rattle.std.specs.Map.{lookup, remove_entry};
 ghost use Rattle.std.specs.Option.{option_map};
 ghost use Rattle.std.specs.Ordering.{nat_cmp};
@@ -26,7 +27,7 @@ use crate::walk;
 use std::alloc::{AllocError, Global};
 use std::marker::Model;
 use std::sync::ledger::Ledger;
-use trie_keys::{Mark, Marked, Steps};
+use trie_keys::{Mark, Marked, NumberSet, Steps};
 
 // How many nodes more than twice those that were in use may stand before they are copied.
 const SPARE: u32 = 2048;
@@ -295,5 +296,17 @@ impl<N: Copy + Drop, M: Mark> OctetTrie<N, M> {
         let mut entries = Vec::new(self.alloc);
         collect(&self.store, &self.root, &mut entries)?;
         Ok(entries)
+    }
+}
+
+impl<N: NumberSet, M: Mark> OctetTrie<N, M> {
+    /// The union of the sets at all keys that answer a question for the octets: the exact one of the octets, and the wild one of each
+    /// shorter key that begins them, whether they act or not. It takes no memory, and as many steps as there are nodes on the way.
+    pub fn joined<L: Ledger>(&self, octets: &[u8], steps: &mut Steps<L>) -> N
+        ensures found { (n : ℕ) → N.has result n
+            ≡ list_any (λ e. fits octets.now e.0 && N.has e.1.value n) self.now }
+        ensures cost { steps.new ≤ steps.old + 256 }
+    {
+        walk::joined(&self.store, &self.root, octets, 0, N::none(), steps)
     }
 }

@@ -1,10 +1,11 @@
 //! Look-ups.
 
-ghost use Rattle.std.specs.Prelude.{◌≡◌, ◌+◌, ◌<◌, ◌≤◌, ◌&&◌, length, take, IfSome};
+ghost use Rattle.std.specs.Prelude.{◌≡◌, ℕ, ◌+◌, ◌<◌, ◌≤◌, ◌&&◌, ◌||◌, length, take, IfSome};
 ghost use Rattle.std.specs.BTreeMap.{is_at};
+ghost use Rattle.std.specs.List.{list_any};
 ghost use Rattle.std.specs.Map.{lookup};
 ghost use Rattle.std.specs.Option.{option_map};
-ghost use Rattle.octet_trie.specs.Fits.{acting, entry_of, fits};
+ghost use Rattle.octet_trie.specs.Fits.{acting, entry_of, fits, some_passes};
 ghost use Rattle.octet_trie.specs.ListKeys.{entry_key, octet_keys};
 ghost use Rattle.octet_trie.specs.Nodes.{IsNode, name_of, stands, value_of};
 ghost use Rattle.octet_trie.specs.Plain.{plain};
@@ -15,7 +16,7 @@ use crate::find::{common, find_kid};
 use crate::node::Node;
 use crate::store::Store;
 use std::sync::ledger::Ledger;
-use trie_keys::{Mark, Marked, Steps};
+use trie_keys::{Mark, Marked, NumberSet, Steps};
 
 // An entry that was found, by where the octets of its key stand.
 #[derive(Clone, Copy, Drop)]
@@ -64,7 +65,8 @@ fn own_or<N: Copy + Drop, M: Mark>(
     requires node { IsNode store.now (plain M.present node.now) }
     requires whole { IfSome found (λ h. StandsWhole store.now.octets h.key h.len) }
     ensures found { option_map (entry_of store.now.octets) result ≡ option_else
-        (acting M.acts (entry_key (name_of store.now.octets (plain M.present node.now)) wild)
+        (acting (λ v. M.acts v.mark)
+        (entry_key (name_of store.now.octets (plain M.present node.now)) wild)
         (value_of (plain M.present node.now) wild)) (option_map (entry_of store.now.octets) found) }
     ensures whole { IfSome result (λ h. StandsWhole store.now.octets h.key h.len) }
 {
@@ -122,5 +124,55 @@ pub(crate) fn best<N: Copy + Drop, M: Mark, L: Ledger>(
         }
     } else {
         own_or(store, node, false, found)
+    }
+}
+
+// The numbers of the set of the node's own entry, with those that were found before.
+fn own_and<N: NumberSet, M: Mark>(node: &Node<N, M>, wild: bool, found: N) -> N
+    ensures { (n : ℕ) → N.has result n
+        ≡ (some_passes (λ v. N.has v.value n) (value_of (plain M.present node.now) wild)
+        || N.has found n) }
+{
+    match node.value(wild) {
+        Some(own) => own.value.union(found),
+        None => found,
+    }
+}
+
+// The union of the sets of all entries that answer the question for the octets, among those for which the node stands, and of what
+// was found before.
+pub(crate) fn joined<N: NumberSet, M: Mark, L: Ledger>(
+    store: &Store<N, M>,
+    node: &Node<N, M>,
+    octets: &[u8],
+    from: usize,
+    found: N,
+    steps: &mut Steps<L>,
+) -> N
+    requires node { IsNode store.now (plain M.present node.now) }
+    requires here { from ≤ node.now.len }
+    requires there { from ≤ length octets.now }
+    requires same { take from (name_of store.now.octets (plain M.present node.now)) ≡ take from
+        octets.now }
+    ensures found { (n : ℕ) → N.has result n
+        ≡ (list_any (λ e. fits octets.now e.0 && N.has e.1.value n)
+        (stands store.now (plain M.present node.now)).list || N.has found n) }
+    ensures cost { steps.new + node.now.len ≤ steps.old + 255 }
+{
+    steps.tick();
+    let same = common(store.name(node), octets, from);
+    if same < node.len as usize {
+        found
+    } else if same < octets.len() {
+        let found = own_and(node, true, found);
+        match find_kid(store, node, octets[same]) {
+            Ok(place) => {
+                let kid = store.kid(node, place);
+                joined(store, &kid, octets, same + 1, found, steps)
+            }
+            Err(_) => found,
+        }
+    } else {
+        own_and(node, false, found)
     }
 }

@@ -13,6 +13,7 @@ pub mod Same
 pub mod Last
 pub mod Ranking
 pub mod Finding
+pub mod Joining
 pub mod Growing
 pub mod Permuting
 pub mod Making

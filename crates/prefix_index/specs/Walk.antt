@@ -1,5 +1,6 @@
 -- What a walk through the nodes looks for, and how deep nodes stand.
-use Rattle.std.specs.Prelude.{◌≡◌, ◌<◌, ℕ, Bool, ◌&&◌, cond, Option, Some, None, List}
+use Rattle.std.specs.Prelude.{◌≡◌, ◌<◌, ℕ, Bool, false, ◌&&◌, cond, Option, Some, None, List}
+use Rattle.std.specs.List.{list_any}
 use Rattle.trie_keys.specs.declared.marked.Marked.{Marked}
 use Rattle.trie_keys.specs.Keys.{Keys, begins}
 use Rattle.trie_keys.specs.Scan.{last_where}
@@ -33,3 +34,16 @@ last_hit keys acts key entries = last_where (is_hit keys acts key) entries
 abbrev pub own_hit : {K V : Type 0} → (V → Bool) → K → Option V → Option (K × V)
 own_hit acts key None = None
 own_hit acts key (Some v) = cond (acts v) (Some (key, v)) None
+
+-- whether the number is in the set that is the value
+abbrev pub has_at : {N M : Type 0} → (N → ℕ → Bool) → ℕ → Marked N M → Bool
+has_at has number v = has v.value number
+
+-- whether a node has a value, and the number is in its set
+abbrev pub own_has : {N M : Type 0} → (N → ℕ → Bool) → ℕ → Option (Marked N M) → Bool
+own_has has number None = false
+own_has has number (Some v) = has v.value number
+
+-- whether the number is in the set at one of the keys with which the key begins
+abbrev pub any_has : {K N M : Type 0} → Keys K → (N → ℕ → Bool) → K → ℕ → List (K × Marked N M) → Bool
+any_has keys has key number entries = list_any (is_hit keys (has_at has number) key) entries

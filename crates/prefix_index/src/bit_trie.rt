@@ -1,12 +1,12 @@
 //! A trie.
 
-ghost use Rattle.std.specs.Prelude.{◌≡◌, ◌+◌, ◌≤◌, [], true, IfOk, IfSome};
+ghost use Rattle.std.specs.Prelude.{◌≡◌, ℕ, ◌+◌, ◌≤◌, [], true, IfOk, IfSome};
 ghost use Rattle.std.specs.BTreeMap.{insert_entry, is_at};
 ghost use Rattle.std.specs.Map.{lookup, remove_entry};
 ghost use Rattle.trie_keys.specs.Sorting.{AreEntries};
 ghost use Rattle.prefix_index.specs.Made.{IsMadeOf};
 ghost use Rattle.prefix_index.specs.Trie.{ArePresent};
-ghost use Rattle.prefix_index.specs.Walk.{acts_at, last_hit};
+ghost use Rattle.prefix_index.specs.Walk.{acts_at, any_has, last_hit};
 
 use crate::build::build;
 use crate::copy::copy;
@@ -21,7 +21,7 @@ use shared_list::{Share, SharedList};
 use std::alloc::{AllocError, Global};
 use std::marker::Model;
 use std::sync::ledger::Ledger;
-use trie_keys::{Mark, Marked, Steps};
+use trie_keys::{Mark, Marked, NumberSet, Steps};
 
 // A map from strings of bits. Contracts see its entries in the order of their keys. An edit gives a new version, and the two share
 // what is the same in both.
@@ -196,5 +196,16 @@ impl<K: Key, N: Copy + Drop, M: Mark> BitTrie<K, N, M> {
         let mut entries = Vec::new(alloc);
         walk::collect(&self.nodes, self.root, &mut entries)?;
         Ok(entries)
+    }
+}
+
+impl<K: Key, N: NumberSet, M: Mark> BitTrie<K, N, M> {
+    // The union of the sets at all keys with which the key begins. It takes no memory.
+    pub(crate) fn joined<L: Ledger>(&self, key: &K, steps: &mut Steps<L>) -> N
+        ensures found { (n : ℕ) → N.has result n ≡ any_has K.keys N.has key.now n self.now }
+        ensures cost { steps.new ≤ steps.old + (K.keys.width + 1) }
+        ensures entries { AreEntries K.keys self.now }
+    {
+        walk::joined(&self.nodes, self.root, key, steps)
     }
 }

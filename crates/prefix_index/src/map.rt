@@ -1,9 +1,11 @@
 //! A map from prefixes.
 
-ghost use Rattle.std.specs.Prelude.{◌≡◌, ◌+◌, ◌≤◌, [], true, IfOk, IfSome};
+ghost use Rattle.std.specs.Prelude.{◌≡◌, ℕ, ◌+◌, ◌≤◌, ◌&&◌, [], true, IfOk, IfSome};
 ghost use Rattle.std.specs.BTreeMap.{insert_entry, is_at};
-ghost use Rattle.std.specs.Map.{lookup, remove_entry};
-ghost use Rattle.ip_prefix.specs.Prefix.{prefix_order};
+ghost use Rattle.std.specs.List.{list_any};
+ghost use Rattle.std.specs.List.Sorted.{IsStrictlySortedBy};
+ghost use Rattle.std.specs.Map.{keys_of, lookup, remove_entry};
+ghost use Rattle.ip_prefix.specs.Prefix.{contains, prefix_order};
 ghost use Rattle.prefix_index.specs.Longest.{longest_acting};
 ghost use Rattle.prefix_index.specs.Ranked.{with_all};
 ghost use Rattle.prefix_index.specs.Trie.{ArePresent};
@@ -17,14 +19,20 @@ use ip_prefix::{Addr, Prefix};
 use std::alloc::{AllocError, Global};
 use std::marker::Model;
 use std::sync::ledger::Ledger;
-use trie_keys::{Mark, Marked, Steps};
+use trie_keys::{Mark, Marked, NumberSet, Steps};
 
 /// A map from prefixes to plain values with their marks. Contracts see the list of its entries in the order of precedence of their
 /// prefixes, each prefix once. An edit gives a new version, and the two share what is the same in both.
-#[derive(Drop)]
 pub struct PrefixTrie<N, M: Mark> {
     four: BitTrie<Short, N, M>,
     six: BitTrie<Long, N, M>,
+}
+
+// Written out, so that wherever one is dropped this is one call.
+impl<N: Drop, M: Mark> Drop for PrefixTrie<N, M> {
+    fn drop(self) {
+        let PrefixTrie { four: _, six: _ } = self;
+    }
 }
 
 impl<N, M: Mark> Model for PrefixTrie<N, M> {
@@ -165,6 +173,13 @@ impl<N: Copy + Drop, M: Mark> PrefixTrie<N, M> {
         Ok(entries)
     }
 
+    /// Called for its clause: the entries stand in order of precedence.
+    pub fn in_order(&self)
+        ensures { IsStrictlySortedBy prefix_order (keys_of self.now) }
+    {
+        let _four = &self.four;
+    }
+
     /// The value at exactly this prefix, whether it acts or not. It takes no memory.
     pub fn get(&self, prefix: &Prefix) -> Option<Marked<N, M>>
         ensures { result ≡ lookup (is_at (prefix_order prefix.now)) self.now }
@@ -194,6 +209,21 @@ impl<N: Copy + Drop, M: Mark> PrefixTrie<N, M> {
                 Some(found) => Some((found.0.prefix(), found.1)),
                 None => None,
             },
+        }
+    }
+}
+
+impl<N: NumberSet, M: Mark> PrefixTrie<N, M> {
+    /// The union of the sets at all prefixes that contain the address, whether they act or not. It takes no memory, and looks at no
+    /// more than 129 nodes.
+    pub fn joined<L: Ledger>(&self, addr: Addr, steps: &mut Steps<L>) -> N
+        ensures found { (n : ℕ) → N.has result n
+            ≡ list_any (λ e. contains e.0 addr && N.has e.1.value n) self.now }
+        ensures cost { steps.new ≤ steps.old + 129 }
+    {
+        match addr {
+            Addr::V4(number) => self.four.joined(&Short::new(number, 32), steps),
+            Addr::V6(number) => self.six.joined(&Long::new(number, 128), steps),
         }
     }
 }

@@ -1,19 +1,19 @@
 //! Look-ups.
 
-ghost use Rattle.std.specs.Prelude.{◌≡◌, ◌+◌, ◌≤◌, ◌++◌, length, true, IfOk};
+ghost use Rattle.std.specs.Prelude.{◌≡◌, ℕ, ◌+◌, ◌≤◌, ◌||◌, ◌++◌, length, true, IfOk};
 ghost use Rattle.std.specs.BTreeMap.{is_at};
 ghost use Rattle.std.specs.Map.{lookup};
 ghost use Rattle.trie_keys.specs.Scan.{option_else, own};
 ghost use Rattle.prefix_index.specs.Nodes.{AreWell, stands};
 ghost use Rattle.prefix_index.specs.PlainNode.{plain_nodes, value_of};
-ghost use Rattle.prefix_index.specs.Walk.{acts_at, depth, last_hit, own_hit};
+ghost use Rattle.prefix_index.specs.Walk.{acts_at, any_has, depth, last_hit, own_has, own_hit};
 
 use crate::key::Key;
 use crate::node::{Node, node_at};
 use shared_list::SharedList;
 use std::alloc::AllocError;
 use std::sync::ledger::Ledger;
-use trie_keys::{Mark, Marked, Steps};
+use trie_keys::{Mark, Marked, NumberSet, Steps};
 
 // The value of the node itself.
 fn own_value<K: Key, N: Copy + Drop, M: Mark>(node: &Node<K, N, M>) -> Option<Marked<N, M>>
@@ -112,6 +112,60 @@ pub(crate) fn longest<K: Key, N: Copy + Drop, M: Mark, L: Ledger>(
         }
     } else {
         own_hit(node)
+    }
+}
+
+// The set of the node itself, with no numbers where the node has no value.
+fn own_set<K: Key, N: NumberSet, M: Mark>(node: &Node<K, N, M>) -> N
+    ensures { let own = value_of M.present node.now.value in
+        (n : ℕ) → N.has result n ≡ own_has N.has n own }
+{
+    if node.value.mark.is_present() {
+        node.value.value
+    } else {
+        N::none()
+    }
+}
+
+// The numbers of the set, and those of the node itself.
+fn with_own<K: Key, N: NumberSet, M: Mark>(set: N, node: &Node<K, N, M>) -> N
+    ensures { let own = value_of M.present node.now.value in
+        (n : ℕ) → N.has result n ≡ (N.has set n || own_has N.has n own) }
+{
+    set.union(own_set(node))
+}
+
+// The union of the sets at all keys with which the key begins, of those for which the number stands.
+pub(crate) fn joined<K: Key, N: NumberSet, M: Mark, L: Ledger>(
+    nodes: &SharedList<Node<K, N, M>>,
+    at: u32,
+    key: &K,
+    steps: &mut Steps<L>,
+) -> N
+    requires well { AreWell K.keys (plain_nodes M.present nodes.now) }
+    requires within { at ≤ length (plain_nodes M.present nodes.now) }
+    ensures found { let entries = (stands K.keys (plain_nodes M.present nodes.now) at).list in
+        (n : ℕ) → N.has result n ≡ any_has K.keys N.has key.now n entries }
+    ensures none { at ≡ 0 → steps.new ≡ steps.old }
+    ensures cost { let sub = stands K.keys (plain_nodes M.present nodes.now) at in
+        steps.new + depth K.keys sub ≤ steps.old + (K.keys.width + 1) }
+{
+    if at == 0 {
+        return N::none();
+    }
+    steps.tick();
+    let node = node_at(nodes, at);
+    let common = node.key.common(key);
+    if common < node.key.len() {
+        N::none()
+    } else if common < key.len() {
+        if key.bit(common) {
+            with_own(joined(nodes, node.one, key, steps), node)
+        } else {
+            with_own(joined(nodes, node.zero, key, steps), node)
+        }
+    } else {
+        own_set(node)
     }
 }
 

@@ -1,11 +1,11 @@
 -- What a look-up by octets gives, as the entry of a pattern.
-use Rattle.std.proofs.Common.{◌≡◌, ℕ, ◌&&◌, Bool, Option, Some, None, List, sym, ap, ◌∙◌}
-use Rattle.std.specs.List.{find}
+use Rattle.std.proofs.Common.{◌≡◌, ℕ, ◌&&◌, ◌||◌, cond, Bool, true, false, Option, Some, None, List, [], ◌∷◌, is_some, refl, sym, ap, ◌∙◌}
+use Rattle.std.specs.List.{find, list_any}
 use Rattle.std.specs.Option.{option_map}
 use Rattle.dns_name.specs.Alike.{PlainPattern, matches}
 use Rattle.dns_name.specs.Labels.{Name, lowered}
 use Rattle.octet_trie.specs.Fits.{fits}
-use Rattle.trie_keys.specs.Scan.{last_where}
+use Rattle.trie_keys.specs.Scan.{any_last, last_where}
 use Rattle.qname_index.specs.Key.{name_key}
 use Rattle.qname_index.specs.Patterns.{pattern_in}
 use Rattle.qname_index.specs.Ranked.{IsPatternKey, ranked_patterns}
@@ -13,6 +13,19 @@ use Rattle.qname_index.specs.Trie.{IsNameTrie}
 use Rattle.qname_index.proofs.Finding.{best_found}
 use Rattle.qname_index.proofs.Last.{last_all}
 use Rattle.qname_index.proofs.Longer.{AreAlike, AreWithin}
+
+or_first : {X : Type 0} (b : Bool) (x : X) (o : Option X) (rest : Bool) → rest ≡ is_some o → (b || rest) ≡ is_some (cond b (Some x) o)
+or_first true x o rest h = refl
+or_first false x o rest h = h
+
+-- some entry passes where there is a first one that does
+any_find : {X : Type 0} (test : X → Bool) (es : List X) → list_any test es ≡ is_some (find test es)
+any_find test [] = refl
+any_find test (e ∷ es) = or_first (test e) e (find test es) (list_any test es) (any_find test es)
+
+some_mapped : {X Y : Type 0} (f : X → Y) (o : Option X) → is_some o ≡ is_some (option_map f o)
+some_mapped f None = refl
+some_mapped f (Some x) = refl
 
 -- the octets that are looked up are the key of the name
 module _ {V : Type 0} (acts : V → Bool) (name : Name) (octets : List ℕ) (key : octets ≡ name_key name) where
@@ -41,3 +54,10 @@ module _ {V : Type 0} (acts : V → Bool) (name : Name) (octets : List ℕ) (key
       → IsNameTrie es → ranked_patterns es ≡ entries → None ≡ last_where hit es → None ≡ best_in entries
   none_found es entries lower alike within trie view h =
       ap (option_map as_pattern) h ∙ by_octets es lower alike within trie ∙ ap best_in view
+
+  -- whether any entry answers by octets, and whether any matches
+  pub any_found : (es : List (List ℕ × V)) (entries : List (PlainPattern × V)) (found : Bool) → lowered name ≡ name → AreAlike → AreWithin
+      → IsNameTrie es → ranked_patterns es ≡ entries → found ≡ list_any hit es → found ≡ list_any (λ e. matches e.0 name && acts e.1) entries
+  any_found es entries found lower alike within trie view h =
+      h ∙ any_last hit es ∙ some_mapped as_pattern (last_where hit es)
+      ∙ ap is_some (by_octets es lower alike within trie ∙ ap best_in view) ∙ sym (any_find (λ e. matches e.0 name && acts e.1) entries)

@@ -78,6 +78,11 @@ module _ {V : Type 0} where
   same_lists es fs s t same =
       same_entries pattern_total (λ _. Unit {0}) (λ p q _ _ h. same_pattern p q h) es fs s t (any_pattern es) (any_pattern fs) (λ q _. same q)
 
+  -- the patterns are of names in lower case
+  pub keys_of_patterns : (es : List (List ℕ × V)) → ArePatternKeys es → AllByRecursion (λ e. IsKey e.0) (patterns es)
+  keys_of_patterns [] are = tt
+  keys_of_patterns (e ∷ es) are = (are.0.pattern, keys_of_patterns es are.1)
+
   -- ---- edits
 
   pub keys_with : (p : PlainPattern) (v : V) (es : List (List ℕ × V)) → IsKey p → ArePatternKeys es → ArePatternKeys (insert_entry key_order es (pattern_key p) v)

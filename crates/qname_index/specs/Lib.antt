@@ -2,6 +2,7 @@ pub mod Best
 pub mod Index
 pub mod Rank
 pub mod Key
+pub mod Lookup
 pub mod Patterns
 pub mod Ranked
 pub mod Trie

@@ -4,10 +4,12 @@
 mod key;
 pub mod laws;
 mod listing;
+mod lookup_name;
 mod map;
 mod order;
 mod pattern_ref;
 
 pub use key::Key;
+pub use lookup_name::LookupName;
 pub use map::{Found, NameTrie};
 pub use pattern_ref::PatternRef;

@@ -1,6 +1,6 @@
 -- Scans over entries.
-use Rattle.std.proofs.Common.{◌≡◌, Bool, false, cond, List, [], ◌∷◌, ◌++◌, Option, Some, None, refl, sym, ap, ◌∙◌}
-use Rattle.std.specs.List.{AllByRecursion}
+use Rattle.std.proofs.Common.{◌≡◌, Bool, true, false, cond, ◌||◌, List, [], ◌∷◌, ◌++◌, Option, Some, None, is_some, refl, sym, ap, ◌∙◌}
+use Rattle.std.specs.List.{AllByRecursion, list_any}
 
 -- the first of two that is there
 abbrev pub option_else : {X : Type 0} → Option X → Option X → Option X
@@ -26,6 +26,16 @@ module _ {X : Type 0} where
   else_assoc None b c = refl
   else_assoc (Some x) b c = refl
 
+  pub some_else : (a b : Option X) → is_some (option_else a b) ≡ (is_some a || is_some b)
+  some_else None b = refl
+  some_else (Some x) b = refl
+
+  or_later : (b : Bool) (o : Option X) (e : X) (rest : Bool) → rest ≡ is_some o → (b || rest) ≡ is_some (option_else o (cond b (Some e) None))
+  or_later true None e rest h = refl
+  or_later true (Some x) e rest h = refl
+  or_later false None e rest h = h
+  or_later false (Some x) e rest h = h
+
 module _ {X : Type 0} (test : X → Bool) where
   pub last_append : (xs ys : List X) → last_where test (xs ++ ys) ≡ option_else (last_where test ys) (last_where test xs)
   last_append [] ys = sym (else_none (last_where test ys))
@@ -36,3 +46,8 @@ module _ {X : Type 0} (test : X → Bool) where
   pub last_none : (es : List X) → AllByRecursion (λ e. test e ≡ false) es → last_where test es ≡ None
   last_none [] all = refl
   last_none (e ∷ es) all = ap (λ o. option_else o (cond (test e) (Some e) None)) (last_none es all.1) ∙ ap (λ b. cond b (Some e) None) all.0
+
+  -- some entry passes where there is a last one that does
+  pub any_last : (es : List X) → list_any test es ≡ is_some (last_where test es)
+  any_last [] = refl
+  any_last (e ∷ es) = or_later (test e) (last_where test es) e (list_any test es) (any_last es)

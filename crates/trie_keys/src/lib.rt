@@ -4,8 +4,10 @@
 
 mod mark;
 mod marked;
+mod number_set;
 mod steps;
 
 pub use mark::Mark;
 pub use marked::Marked;
+pub use number_set::NumberSet;
 pub use steps::Steps;

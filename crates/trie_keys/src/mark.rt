@@ -23,3 +23,22 @@ pub trait Mark: Copy + Drop {
     fn does_act(&self) -> bool
         ensures { result ≡ acts self.now };
 }
+
+/// A mark that says no more than whether there is a value: look-ups stop at each.
+impl Mark for bool {
+    ghost present = { λ b. b };
+
+    ghost acts = { λ b. b };
+
+    fn absent() -> Self {
+        false
+    }
+
+    fn is_present(&self) -> bool {
+        *self
+    }
+
+    fn does_act(&self) -> bool {
+        *self
+    }
+}

@@ -8,4 +8,5 @@ pub mod looking;
 mod names;
 #[cfg(test)]
 mod prefixes;
+mod sets;
 pub mod sign;

@@ -3,6 +3,7 @@
 #![tactic(auto)]
 
 mod address;
+mod by_kind;
 mod canonical;
 mod decode;
 mod digits;
@@ -13,6 +14,7 @@ mod runs;
 mod spelling;
 mod trigger;
 
+pub use by_kind::ByKind;
 pub use canonical::owner_of;
 pub use decode::trigger_of;
 pub use inert::{Inert, TriggerError};

@@ -31,12 +31,11 @@ returns-then-same-node-clause-found g t c =
     let s = c.args.store.now in
     let n = plain p c.args.node.now in
     let common = common_with s n c.name.result.now c.args.octets.now c.common-same.result c.name.ensures c.common-same.ensures in
-    best_apart g.M.Mark.acts s n c.args.octets.now c.common-same.result (option_map (entry_of s.octets) c.args.found) c.requires.node common c.if-same-node.true
+    best_apart (λ v. g.M.Mark.acts v.mark) s n c.args.octets.now c.common-same.result (option_map (entry_of s.octets) c.args.found) c.requires.node common c.if-same-node.true
 
 pub returns-in-Ok-clause-found : goal.returns-in-Ok-clause-found
 returns-in-Ok-clause-found g t c =
     let p = g.M.Mark.present in
-    let a = g.M.Mark.acts in
     let s = c.args.store.now in
     let n = plain p c.args.node.now in
     let k = plain p c.kid-kid.result in
@@ -45,7 +44,7 @@ returns-in-Ok-clause-found g t c =
     let len = same_len s n octets c.common-same.result c.requires.node common c.if-same-node.false in
     let goes = key_goes s n octets c.common-same.result c.requires.node common c.if-same-node.false c.if-same-octets.true in
     let kid = subst (λ x. KidAt (kids_of s.subs n) (get_or octets x 0) c.in-Ok.place) (len ∙ sym (name_length s n c.requires.node)) c.in-Ok.ensures in
-    let below = best_below a s n k octets c.in-Ok.place c.requires.node goes kid c.kid-kid.ensures in
+    let below = best_below (λ v. g.M.Mark.acts v.mark) s n k octets c.in-Ok.place c.requires.node goes kid c.kid-kid.ensures in
     chained _ _ _ _ _ _ c.best.ensures.found c.own_or-found.ensures.found below
 
 pub returns-in-Ok-clause-cost : goal.returns-in-Ok-clause-cost
@@ -57,7 +56,6 @@ returns-in-Ok-clause-cost g t c =
 pub returns-in-Err-clause-found : goal.returns-in-Err-clause-found
 returns-in-Err-clause-found g t c =
     let p = g.M.Mark.present in
-    let a = g.M.Mark.acts in
     let s = c.args.store.now in
     let n = plain p c.args.node.now in
     let octets = c.args.octets.now in
@@ -65,15 +63,14 @@ returns-in-Err-clause-found g t c =
     let len = same_len s n octets c.common-same.result c.requires.node common c.if-same-node.false in
     let goes = key_goes s n octets c.common-same.result c.requires.node common c.if-same-node.false c.if-same-octets.true in
     let gap = subst (λ x. GapAt (kids_of s.subs n) (get_or octets x 0) c.in-Err.field-0) (len ∙ sym (name_length s n c.requires.node)) c.in-Err.ensures in
-    settled _ _ _ _ c.own_or-found.ensures.found (best_gap a s n octets c.in-Err.field-0 c.requires.node goes gap)
+    settled _ _ _ _ c.own_or-found.ensures.found (best_gap (λ v. g.M.Mark.acts v.mark) s n octets c.in-Err.field-0 c.requires.node goes gap)
 
 pub returns-else-same-octets-clause-found : goal.returns-else-same-octets-clause-found
 returns-else-same-octets-clause-found g t c =
     let p = g.M.Mark.present in
-    let a = g.M.Mark.acts in
     let s = c.args.store.now in
     let n = plain p c.args.node.now in
     let octets = c.args.octets.now in
     let common = common_with s n c.name.result.now octets c.common-same.result c.name.ensures c.common-same.ensures in
     let same = same_key s n octets c.common-same.result c.requires.node common c.if-same-node.false c.if-same-octets.false in
-    settled _ _ _ _ c.own_or.ensures.found (best_here a s n octets c.requires.node same)
+    settled _ _ _ _ c.own_or.ensures.found (best_here (λ v. g.M.Mark.acts v.mark) s n octets c.requires.node same)
