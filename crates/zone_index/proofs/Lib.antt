@@ -32,3 +32,6 @@ pub mod Shown
 pub mod Stepped
 pub mod Ties
 pub mod Zones
+pub mod Staying
+pub mod Changed
+pub mod Acted

@@ -7,7 +7,7 @@ use Rattle.trigger_codec.specs.declared.trigger.Kind.TheVariants as kinds
 use Rattle.dns_record.specs.Row.{PlainRow}
 use Rattle.action_codec.specs.declared.action.Action.{Action}
 use Rattle.zone_index.specs.Addresses.{has_some}
-use Rattle.zone_index.specs.declared.by_kind.ByKind.{ByKind}
+use Rattle.trigger_codec.specs.declared.by_kind.ByKind.{ByKind}
 
 -- rows
 abbrev pub PlainGroups : Type 0

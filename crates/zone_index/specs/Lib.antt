@@ -16,3 +16,5 @@ pub mod PlaceOctets
 pub mod Made
 pub mod Gathering
 pub mod Indexed
+pub mod ActingEntries
+pub mod Changes

@@ -16,7 +16,7 @@ use Rattle.trigger_codec.specs.declared.trigger.Trigger.{Trigger}
 use Rattle.trigger_codec.specs.declared.trigger.Trigger.TheVariants.{ClientIp, Qname, ResponseIp, NsDname, NsIp}
 use Rattle.zone_index.specs.Does.{acts}
 use Rattle.zone_index.specs.Entry.{PlainEntry}
-use Rattle.zone_index.specs.declared.by_kind.ByKind.{ByKind}
+use Rattle.trigger_codec.specs.declared.by_kind.ByKind.{ByKind}
 use Rattle.zone_index.specs.declared.place.Place.{Place}
 use Rattle.zone_index.specs.declared.place.Place.TheVariants.{Rule, Other}
 use Rattle.zone_index.specs.declared.places.Places.{Places}

@@ -1,8 +1,9 @@
 //! A policy zone with its rules, found by trigger.
 #![tactic(auto)]
 
+mod acting_entries;
 mod addresses;
-mod by_kind;
+mod changes;
 mod does;
 mod edit_error;
 mod editing;
@@ -38,6 +39,6 @@ mod trigger_index;
 mod usage;
 mod zone;
 
-pub use by_kind::ByKind;
+pub use changes::Changes;
 pub use rules::Rules;
 pub use zone::{Index, Zone};

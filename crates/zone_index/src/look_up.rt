@@ -2,7 +2,6 @@
 
 ghost use Rattle.std.specs.Prelude.{◌≡◌};
 ghost use Rattle.std.specs.Option.{option_map};
-ghost use Rattle.dns_name.specs.Labels.{lowered};
 ghost use Rattle.zone_index.specs.Entry.{entry_seen};
 ghost use Rattle.zone_index.specs.Groups.{AreWell, entries_in};
 ghost use Rattle.zone_index.specs.Places.{best_rule, longest_rule};
@@ -11,9 +10,8 @@ use crate::entry::EntryRef;
 use crate::group::{Group, lend};
 use crate::patterns::Patterns;
 use crate::prefixes::Prefixes;
-use dns_name::Name;
 use ip_prefix::{Addr, Prefix};
-use qname_index::{Found, PatternRef};
+use qname_index::{Found, LookupName, PatternRef};
 use shared_list::{Held, SharedTable};
 
 /// The rule that comes first of those whose prefix contains the address.
@@ -36,10 +34,9 @@ pub(crate) fn longest<'a>(
 pub(crate) fn best<'a>(
     groups: &'a SharedTable<Held<Group>>,
     patterns: &'a Patterns,
-    name: &Name,
+    name: &LookupName<'_>,
 ) -> Option<(PatternRef<'a>, EntryRef<'a>)>
-    requires well { AreWell groups.now patterns.now }
-    requires lower { lowered name.now ≡ name.now }
+    requires { AreWell groups.now patterns.now }
     ensures { option_map (λ e. (e.0, entry_seen e.1)) result
         ≡ best_rule name.now (entries_in groups.now patterns.now) }
 {

@@ -1,25 +1,27 @@
 //! Values by pattern of names.
 
-ghost use Rattle.std.specs.Prelude.{◌≡◌, ◌<◌, ◌+◌, [], true, IfOk};
+ghost use Rattle.std.specs.Prelude.{◌≡◌, ◌<◌, ◌+◌, [], true, map, IfOk};
 ghost use Rattle.std.specs.BTreeMap.{insert_entry, is_at};
 ghost use Rattle.std.specs.List.{AllByRecursion};
 ghost use Rattle.std.specs.List.Sorted.{IsStrictlySortedBy};
 ghost use Rattle.std.specs.Map.{keys_of, lookup, remove_entry};
 ghost use Rattle.std.specs.Option.{option_map};
-ghost use Rattle.dns_name.specs.Labels.{lowered};
+ghost use Rattle.octet_trie.specs.Trie.{found_entry};
 ghost use Rattle.qname_index.specs.Best.{pattern_order};
 ghost use Rattle.qname_index.specs.Found.{found_pattern};
-ghost use Rattle.qname_index.specs.Trie.{best_acting};
+ghost use Rattle.qname_index.specs.Trie.{IsNameTrie, best_acting};
 ghost use Rattle.trigger_codec.specs.Bases.{IsPattern};
+ghost use Rattle.zone_index.specs.ActingEntries.{StandsByKey, at_pattern, marked_if_kept};
 ghost use Rattle.zone_index.specs.Counted.{some_kept};
 ghost use Rattle.zone_index.specs.Kept.{is_kept, kept_acts};
 ghost use Rattle.zone_index.specs.Made.{AreFoundPatterns, patterns_of};
 
+use crate::acting_entries::acting_keys;
 use crate::kept::Kept;
 use crate::tally::{tally, tally_without};
-use dns_name::{Name, Pattern};
+use dns_name::Pattern;
 use octet_trie::OctetFound;
-use qname_index::{Found, NameTrie};
+use qname_index::{Found, LookupName, NameTrie};
 use std::alloc::{AllocError, Global};
 use std::marker::{Brand, Model};
 use std::sync::ledger::{Blank, Ledger};
@@ -129,9 +131,23 @@ impl Patterns {
         Ok(Patterns { trie, acting })
     }
 
-    // The first entry in order of precedence whose pattern matches the name, of those that act. The name is in lower case.
-    pub(crate) fn best(&self, name: &Name) -> Option<Found<'_, u32, Kept>>
-        requires { lowered name.now ≡ name.now }
+    // The keys of the patterns whose entries act, in the order of their octets, each with this value.
+    pub(crate) fn acting_keys<N: Copy + Drop>(
+        &self,
+        alloc: Global,
+        value: N,
+    ) -> Result<Vec<OctetFound<'_, N, bool>>, AllocError>
+        ensures keys { IfOk result (λ entries. IsNameTrie (map found_entry entries.items)) }
+        ensures found { IfOk result (λ entries.
+            StandsByKey (λ p. marked_if_kept value (at_pattern self.now p)) (map found_entry entries.items)) }
+    {
+        let found = self.trie.by_key()?;
+        let entries = acting_keys(alloc, &found, self.acting, value)?;
+        Ok(entries)
+    }
+
+    // The first entry in order of precedence whose pattern matches the name, of those that act.
+    pub(crate) fn best(&self, name: &LookupName<'_>) -> Option<Found<'_, u32, Kept>>
         ensures { option_map found_pattern result ≡ best_acting kept_acts name.now self.now }
     {
         best_from::<Brand>(Blank::new(1), &self.trie, name)
@@ -142,12 +158,11 @@ impl Patterns {
 fn best_from<'a, L: Ledger>(
     blank: Blank,
     trie: &'a NameTrie<u32, Kept>,
-    name: &Name,
+    name: &LookupName<'_>,
 ) -> Option<Found<'a, u32, Kept>>
     requires name { blank.name ≡ L.name }
     requires parts { blank.parts ≡ L.parts }
     requires some { 0 < blank.parts }
-    requires lower { lowered name.now ≡ name.now }
     ensures { option_map found_pattern result ≡ best_acting kept_acts name.now trie.now }
 {
     let mut steps = Steps::<L>::start(blank);

@@ -6,7 +6,6 @@ ghost use Rattle.zone_index.specs.Made.{IsKeyBetween};
 ghost use Rattle.zone_index.specs.PlaceOctets.{place_octets};
 ghost use Rattle.zone_index.specs.Places.{entry_at, nothing_at, with_entry};
 
-use crate::by_kind::ByKind;
 use crate::kept::Kept;
 use crate::pattern_entries::PatternEntries;
 use crate::patterns::Patterns;
@@ -16,7 +15,7 @@ use crate::prefix_entries::PrefixEntries;
 use crate::prefixes::Prefixes;
 use std::alloc::{AllocError, Global};
 use trie_keys::Marked;
-use trigger_codec::Trigger;
+use trigger_codec::{ByKind, Trigger};
 
 /// No entries.
 pub(crate) fn empty<'a>(alloc: Global) -> Places<PrefixEntries, PatternEntries<'a>>

@@ -1,6 +1,6 @@
 //! One value for each kind of place.
 
-use crate::by_kind::ByKind;
+use trigger_codec::ByKind;
 
 /// What there is at all places: for the rules of each kind of trigger, and for the other rows by owner.
 #[derive(Drop)]

@@ -6,10 +6,12 @@ ghost use Rattle.std.specs.List.Sorted.{IsStrictlySortedBy};
 ghost use Rattle.std.specs.Map.{keys_of, lookup, remove_entry};
 ghost use Rattle.ip_prefix.specs.Prefix.{prefix_order};
 ghost use Rattle.prefix_index.specs.Longest.{longest_acting};
+ghost use Rattle.zone_index.specs.ActingEntries.{StandsAt, at_prefix, marked_if_kept};
 ghost use Rattle.zone_index.specs.Counted.{some_kept};
 ghost use Rattle.zone_index.specs.Kept.{is_kept, kept_acts};
 ghost use Rattle.zone_index.specs.Made.{AreFoundPrefixes, prefixes_of};
 
+use crate::acting_entries::acting_prefixes;
 use crate::kept::Kept;
 use crate::tally::{tally, tally_without};
 use ip_prefix::{Addr, Prefix};
@@ -118,6 +120,21 @@ impl Prefixes {
         let acting = tally_without(acting, old);
         let trie = trie.removed(prefix)?;
         Ok(Prefixes { trie, acting })
+    }
+
+    // The prefixes whose entries act, in order of precedence, each with this value.
+    pub(crate) fn acting_prefixes<N: Copy + Drop>(
+        &self,
+        alloc: Global,
+        value: N,
+    ) -> Result<Vec<(Prefix, Marked<N, bool>)>, AllocError>
+        ensures sorted { IfOk result (λ entries. IsStrictlySortedBy prefix_order (keys_of entries.items)) }
+        ensures found { IfOk result
+            (λ entries. StandsAt (λ p. marked_if_kept value (at_prefix self.now p)) entries.items) }
+    {
+        let found = self.trie.entries(alloc)?;
+        let entries = acting_prefixes(alloc, &found, self.acting, value)?;
+        Ok(entries)
     }
 
     // The entry of the longest prefix that contains the address, of those that act.

@@ -1,19 +1,26 @@
 //! The tries of all places.
 
-ghost use Rattle.std.specs.Prelude.{◌≡◌, [], true, IfOk};
+ghost use Rattle.std.specs.Prelude.{◌≡◌, [], true, map, IfOk};
+ghost use Rattle.std.specs.List.Sorted.{IsStrictlySortedBy};
+ghost use Rattle.std.specs.Map.{keys_of};
+ghost use Rattle.ip_prefix.specs.Prefix.{prefix_order};
+ghost use Rattle.octet_trie.specs.Trie.{found_entry};
+ghost use Rattle.qname_index.specs.Trie.{IsNameTrie};
+ghost use Rattle.zone_index.specs.ActingEntries.{StandsAt, StandsByKey, at_pattern, at_prefix, marked_if_kept, pattern_values, prefix_values};
 ghost use Rattle.zone_index.specs.Counted.{has_kept};
 ghost use Rattle.zone_index.specs.Kept.{is_kept};
 ghost use Rattle.zone_index.specs.Places.{AreLower, AreRanked, entry_at, nothing_at, rule_at, with_entry, with_rule, without_entry, without_rule};
 
-use crate::by_kind::ByKind;
 use crate::kept::Kept;
 use crate::patterns::Patterns;
 use crate::place::Place;
 use crate::places::Places;
 use crate::prefixes::Prefixes;
+use ip_prefix::Prefix;
+use octet_trie::OctetFound;
 use std::alloc::{AllocError, Global};
 use trie_keys::Marked;
-use trigger_codec::{Kind, Trigger};
+use trigger_codec::{ByKind, Kind, Trigger};
 
 /// No values.
 pub(crate) fn empty(alloc: Global) -> Places<Prefixes, Patterns>
@@ -242,6 +249,43 @@ pub(crate) fn has(rules: &ByKind<Prefixes, Patterns>, kind: Kind) -> bool
         Kind::ResponseIp => rules.response_ip.has(),
         Kind::NsDname => rules.nsdname.has(),
         Kind::NsIp => rules.nsip.has(),
+    }
+}
+
+/// The keys of the patterns of the kind whose values act, in the order of their octets, each with this value in place of its own.
+pub(crate) fn acting_keys<N: Copy + Drop>(
+    alloc: Global,
+    rules: &ByKind<Prefixes, Patterns>,
+    kind: Kind,
+    value: N,
+) -> Result<Vec<OctetFound<'_, N, bool>>, AllocError>
+    ensures keys { IfOk result (λ entries. IsNameTrie (map found_entry entries.items)) }
+    ensures found { IfOk result (λ entries.
+        StandsByKey (λ p. marked_if_kept value (at_pattern (pattern_values rules.now kind) p)) (map found_entry entries.items)) }
+{
+    match kind {
+        Kind::Qname => rules.qname.acting_keys(alloc, value),
+        Kind::NsDname => rules.nsdname.acting_keys(alloc, value),
+        Kind::ClientIp | Kind::ResponseIp | Kind::NsIp => Ok(Vec::new(alloc)),
+    }
+}
+
+/// The prefixes of the kind whose values act, in order of precedence, each with this value in place of its own.
+pub(crate) fn acting_prefixes<N: Copy + Drop>(
+    alloc: Global,
+    rules: &ByKind<Prefixes, Patterns>,
+    kind: Kind,
+    value: N,
+) -> Result<Vec<(Prefix, Marked<N, bool>)>, AllocError>
+    ensures sorted { IfOk result (λ entries. IsStrictlySortedBy prefix_order (keys_of entries.items)) }
+    ensures found { IfOk result (λ entries.
+        StandsAt (λ p. marked_if_kept value (at_prefix (prefix_values rules.now kind) p)) entries.items) }
+{
+    match kind {
+        Kind::ClientIp => rules.client_ip.acting_prefixes(alloc, value),
+        Kind::ResponseIp => rules.response_ip.acting_prefixes(alloc, value),
+        Kind::NsIp => rules.nsip.acting_prefixes(alloc, value),
+        Kind::Qname | Kind::NsDname => Ok(Vec::new(alloc)),
     }
 }
 

@@ -1,8 +1,13 @@
 //! What stands at each trigger.
 
-ghost use Rattle.std.specs.Prelude.{◌≡◌, ◌≤◌, length, IfOk};
+ghost use Rattle.std.specs.Prelude.{◌≡◌, ◌≤◌, length, map, IfOk};
+ghost use Rattle.std.specs.List.Sorted.{IsStrictlySortedBy};
+ghost use Rattle.std.specs.Map.{keys_of};
 ghost use Rattle.std.specs.Option.{option_map};
-ghost use Rattle.dns_name.specs.Labels.{lowered};
+ghost use Rattle.ip_prefix.specs.Prefix.{prefix_order};
+ghost use Rattle.octet_trie.specs.Trie.{found_entry};
+ghost use Rattle.qname_index.specs.Trie.{IsNameTrie};
+ghost use Rattle.zone_index.specs.ActingEntries.{StandsAt, StandsByKey, at_pattern, at_prefix, marked_if_entry, pattern_values, prefix_values};
 ghost use Rattle.zone_index.specs.Entry.{entry_seen};
 ghost use Rattle.zone_index.specs.Groups.{AreAllWell, places_in};
 ghost use Rattle.zone_index.specs.Places.{AreLower, AreRanked, best_rule, entry_at, has_rule, longest_rule, no_places, rule_at, with_entry, without_entry};
@@ -17,12 +22,13 @@ use crate::places::Places;
 use crate::prefixes::Prefixes;
 use crate::tries;
 use crate::usage::Usage;
-use dns_name::Name;
 use ip_prefix::{Addr, Prefix};
-use qname_index::PatternRef;
+use octet_trie::OctetFound;
+use qname_index::{LookupName, PatternRef};
 use shared_list::{Held, Share, SharedTable};
 use std::alloc::{AllocError, Global};
 use std::marker::Model;
+use trie_keys::Marked;
 use trigger_codec::{Kind, Trigger};
 
 /// What stands at the places of a zone. Contracts see the entries of each kind of trigger in order of precedence, and those of the
@@ -187,6 +193,34 @@ impl TriggerIndex {
         tries::has(&self.places.rules, kind)
     }
 
+    /// The keys of the patterns of the kind at which something acts, in the order of their octets, each with this value.
+    pub fn patterns_by_key<N: Copy + Drop>(
+        &self,
+        alloc: Global,
+        kind: Kind,
+        value: N,
+    ) -> Result<Vec<OctetFound<'_, N, bool>>, AllocError>
+        ensures keys { IfOk result (λ entries. IsNameTrie (map found_entry entries.items)) }
+        ensures found { IfOk result (λ entries. StandsByKey
+            (λ p. marked_if_entry value (at_pattern (pattern_values self.now.rules kind) p)) (map found_entry entries.items)) }
+    {
+        tries::acting_keys(alloc, &self.places.rules, kind, value)
+    }
+
+    /// The prefixes of the kind at which something acts, in order of precedence, each with this value.
+    pub fn prefixes<N: Copy + Drop>(
+        &self,
+        alloc: Global,
+        kind: Kind,
+        value: N,
+    ) -> Result<Vec<(Prefix, Marked<N, bool>)>, AllocError>
+        ensures sorted { IfOk result (λ entries. IsStrictlySortedBy prefix_order (keys_of entries.items)) }
+        ensures found { IfOk result (λ entries. StandsAt
+            (λ p. marked_if_entry value (at_prefix (prefix_values self.now.rules kind) p)) entries.items) }
+    {
+        tries::acting_prefixes(alloc, &self.places.rules, kind, value)
+    }
+
     /// Called for its clauses: triggers and owners stand in order of precedence, each once, and their names are in lower case.
     pub fn in_order(&self)
         ensures ranked { AreRanked self.now }
@@ -203,9 +237,8 @@ impl TriggerIndex {
         longest(&self.groups, &self.places.rules.client_ip, addr)
     }
 
-    /// The rule that comes first of those about a query for the name, which is in lower case.
-    pub fn qname(&self, name: &Name) -> Option<(PatternRef<'_>, EntryRef<'_>)>
-        requires { lowered name.now ≡ name.now }
+    /// The rule that comes first of those about a query for the name.
+    pub fn qname(&self, name: &LookupName<'_>) -> Option<(PatternRef<'_>, EntryRef<'_>)>
         ensures { option_map (λ e. (e.0, entry_seen e.1)) result
             ≡ best_rule name.now self.now.rules.qname }
     {
@@ -220,9 +253,8 @@ impl TriggerIndex {
         longest(&self.groups, &self.places.rules.response_ip, addr)
     }
 
-    /// The rule that comes first of those about a name server of this name, which is in lower case.
-    pub fn nsdname(&self, name: &Name) -> Option<(PatternRef<'_>, EntryRef<'_>)>
-        requires { lowered name.now ≡ name.now }
+    /// The rule that comes first of those about a name server of this name.
+    pub fn nsdname(&self, name: &LookupName<'_>) -> Option<(PatternRef<'_>, EntryRef<'_>)>
         ensures { option_map (λ e. (e.0, entry_seen e.1)) result
             ≡ best_rule name.now self.now.rules.nsdname }
     {

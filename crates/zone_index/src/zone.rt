@@ -1,29 +1,42 @@
 //! A policy zone with its rules.
 
-ghost use Rattle.std.specs.Prelude.{◌≡◌, option_copied, option_map};
+ghost use Rattle.std.specs.Prelude.{◌≡◌, IfOk, option_copied, option_map};
 ghost use Rattle.action_codec.specs.Seen.{action_seen};
 ghost use Rattle.zone_rows.specs.Content.{content_count, content_serial, unloaded};
 ghost use Rattle.zone_rows.specs.Distinct.{HasDistinctRows};
 ghost use Rattle.zone_rows.specs.Zone.{Gives, apply_outcome};
+ghost use Rattle.zone_index.specs.Changes.{AreChangesBy, ListsTriggersOf, GivesChanged};
 ghost use Rattle.zone_index.specs.Indexed.{GivesLoaded, HasRows, content_after, content_rule, index_of};
 
+use crate::changes::{Changes, changed_by_steps, changed_by_whole, held_count};
 use crate::indexed::copied_name;
 use crate::loaded::{Loaded, stepped, whole};
 use crate::rules::Rules;
 use action_codec::ActionRef;
 use dns_name::Name;
+use dns_name::laws::{case_does_not_matter, names_of_equal_octets_are_equal};
+use dns_record::laws::rows_of_one_identity_differ_in_the_ttl_alone;
 use dns_record::{Record, Soa};
-use std::alloc::Global;
+use std::alloc::{AllocError, Global};
 use std::marker::Model;
 use trigger_codec::Trigger;
 use zone_rows::{ApplyError, Transfer};
 
 /// A policy zone: its origin, and what it holds once a transfer was taken. Contracts see these, and not the index.
-#[derive(Drop)]
 pub struct Zone {
     origin: Name,
     // `None` where nothing is loaded.
     loaded: Option<Loaded>,
+}
+
+// Written out, so that wherever one is dropped this is one call.
+impl Drop for Zone {
+    fn drop(self) {
+        let Zone {
+            origin: _,
+            loaded: _,
+        } = self;
+    }
 }
 
 /// The index of a loaded zone, lent: the SOA record that replies by its rules carry, and its rules.
@@ -136,6 +149,50 @@ impl Zone {
                 origin: copied_name(&self.origin)?,
                 loaded: Some(loaded),
             }),
+        }
+    }
+
+    /// The zone after a transfer, as [`apply`](Self::apply) gives it, and which of its rules may not be those of this zone. Where steps
+    /// name more rows than `most`, or a whole transfer has more or takes the place of more, these are all; then none is listed.
+    pub fn apply_changes(
+        &self,
+        alloc: Global,
+        transfer: Transfer,
+        most: usize,
+    ) -> Result<(Zone, Changes), ApplyError>
+        ensures changed { GivesChanged self.now result (apply_outcome self.now transfer) }
+        ensures listed { IfOk result (λ changed. ListsTriggersOf most self.now transfer changed.1) }
+    {
+        let changes = self.changes_by(alloc, &transfer, most)?;
+        match self.apply(alloc, transfer) {
+            Err(error) => Err(error),
+            Ok(zone) => Ok((zone, changes)),
+        }
+    }
+
+    // Which rules may not be the same after a transfer.
+    fn changes_by(
+        &self,
+        alloc: Global,
+        transfer: &Transfer,
+        most: usize,
+    ) -> Result<Changes, AllocError>
+        ensures changes { IfOk result (AreChangesBy self.now transfer.now) }
+        ensures listed { IfOk result (ListsTriggersOf most self.now transfer.now) }
+    {
+        names_of_equal_octets_are_equal();
+        case_does_not_matter();
+        rows_of_one_identity_differ_in_the_ttl_alone();
+        let loaded = self.loaded.as_ref();
+        // called for its clause: what is loaded are rows
+        let _count = held_count(loaded);
+        match transfer {
+            Transfer::Whole { soa: _, rows } => {
+                changed_by_whole(alloc, &self.origin, loaded, rows, most)
+            }
+            Transfer::Steps(steps) => {
+                changed_by_steps(alloc, &self.origin, steps.as_slice(), most)
+            }
         }
     }
 

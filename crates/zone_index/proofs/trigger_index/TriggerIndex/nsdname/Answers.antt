@@ -3,7 +3,7 @@ use Rattle.zone_index.specs.Places.{PlainPlaces, best_rule}
 use Rattle.zone_index.proofs.trigger_index.TriggerIndex.nsdname.Goals as goal
 
 pub best-requires : goal.best-requires
-best-requires c = record { well = c.self.invariant.nsdname; lower = c.requires }
+best-requires c = c.self.invariant.nsdname
 
 pub returns : goal.returns
 returns c = c.best.ensures ∙ ap (λ (p : PlainPlaces). best_rule c.args.name.now p.rules.nsdname) c.self.view_is
