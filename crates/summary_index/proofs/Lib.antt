@@ -1,0 +1,10 @@
+pub mod Bits
+pub mod Looking
+pub mod Putting
+pub mod Merges
+pub mod Keys
+pub mod MergeLoop
+pub mod MergedZones
+pub mod Patterns
+pub mod Listing
+pub mod WithoutZone

@@ -1,0 +1,5 @@
+pub mod Zones
+pub mod Summary
+pub mod Entries
+pub mod Merged
+pub mod Knowing
