@@ -4,6 +4,7 @@ use crate::row_samples::{SERVER, first_soa, row, rows, zone_name};
 use action_codec::{Action, ActionRef, action_of};
 use dns_name::laws::case_does_not_matter;
 use dns_name::{Name, Pattern};
+use qname_index::LookupName;
 use std::alloc::Global;
 use std::process::Abort;
 use trigger_codec::Trigger;
@@ -31,7 +32,7 @@ fn a_server_meets_its_rule(rt: HostRuntime) {
     match zone.index() {
         None => panic!(rt; "an index"),
         Some(index) => {
-            let found = index.rules().nsdname(&name);
+            let found = index.rules().nsdname(&LookupName::of(&name));
             assert!(rt; matches!(found, Some((_, ActionRef::NoData))));
         }
     }

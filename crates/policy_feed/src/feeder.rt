@@ -91,6 +91,8 @@ impl<N: StoreName> Feeder<N> {
         ensures { IfOk result (λ feeder.
             feeder ≡ first_feeder origins.items primaries.items publisher now) }
     {
+        // called for its clause: there are at most 32 zones
+        let _count = publisher.zone_count();
         match first_tables(alloc, &publisher, &primaries, now) {
             Ok(
                 FirstTables {

@@ -1,6 +1,8 @@
 -- Beginnings of one list.
 use Rattle.std.proofs.Common.{◌≡◌, ◌≤◌, List, [], ◌∷◌, ◌++◌, length, refl, ap, sym, ◌∙◌, arith, append_assoc}
+use Rattle.std.proofs.lemmas.List.{append-nil}
 use mathlib.Core.List.{IsPrefix}
+use Rattle.policy_publish.specs.Lists.{GoesOn, Known}
 
 pub prefix_trans : {A : Type 0} (xs ys zs : List A) → IsPrefix xs ys → IsPrefix ys zs → IsPrefix xs zs
 prefix_trans xs ys zs p q = (p.0 ++ q.0, sym (append_assoc xs p.0 q.0) ∙ (ap (λ w. w ++ q.0) p.1 ∙ q.1))
@@ -22,3 +24,11 @@ prefix_whole [] (y ∷ ys) p le = absurd (omega arith)
 prefix_whole (x ∷ xs) [] p le = absurd (cc (p.1))
 prefix_whole (x ∷ xs) (y ∷ ys) p le =
     let rest = prefix_whole xs ys (p.0, cc (p.1)) (omega arith) in cc (p.1, rest)
+
+-- what a reader has seen goes on from itself, where it begins with what the reader was told
+pub goes_on_seen : (known : Known) → IsPrefix known.told known.seen → GoesOn known known.seen
+goes_on_seen known all = (([], append-nil known.seen), λ told was. prefix_trans told known.told known.seen was all)
+
+-- what a list goes on from begins with what the reader was told
+pub told_goes_on : (known : Known) (list : _) → GoesOn known list → IsPrefix known.told list
+told_goes_on known list goes = goes.1 known.told ([], append-nil known.told)

@@ -3,3 +3,4 @@ pub mod Adding
 pub mod Taking
 pub mod Opening
 pub mod Publications
+pub mod Queued

@@ -124,3 +124,12 @@ module _ (number : ℕ) (transfer : Transfer) (old : PlainSnapshot) where
       → (Stands old entries → Stands new (entries ++ record { zone = number; transfer = transfer } ∷ [])) → StandsFor origins old entries
       → StandsFor origins new (entries ++ record { zone = number; transfer = transfer } ∷ [])
   stands_ok new origins entries some h goes stands = stands_if (zone_at old.zones number) origins new entries refl some h goes stands
+
+-- ---- behind handles
+
+-- the same of the versions as handles on them are seen
+pub takes_as_seen : (number : ℕ) (transfer : Transfer) (size : Publication) (old seen new shown : PlainSnapshot) → old ≡ seen → shown ≡ new → IfSome (zone_at old.zones number) (λ zone. Takes number zone transfer size old new)
+    → IfSome (zone_at seen.zones number) (λ zone. Takes number zone transfer size seen shown)
+takes_as_seen number transfer size old seen new shown before after takes =
+    subst (λ (s : PlainSnapshot). IfSome (zone_at seen.zones number) (λ zone. Takes number zone transfer size seen s)) (sym after)
+    (subst (λ (s : PlainSnapshot). IfSome (zone_at s.zones number) (λ zone. Takes number zone transfer size s new)) before takes)

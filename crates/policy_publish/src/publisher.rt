@@ -135,12 +135,19 @@ impl<N: StoreName> Publisher<N> {
     {
         let before = self.latest.version.hold(number)?;
         self.replaced.reserve(1)?;
+        let prepared = prepare::<N>(self.alloc, &self.latest, &self.log_writer, number, transfer);
         let Prepared {
             shown,
             again,
             twice,
             size,
-        } = prepare::<N>(self.alloc, &self.latest, &self.log_writer, number, transfer)?;
+        } = match prepared {
+            Ok(prepared) => prepared,
+            Err(error) => {
+                drop(before);
+                return Err(error);
+            }
+        };
         swap_in(rt, &mut self.writer, again);
         // so that the copy that readers don't see has no version before this one
         swap_in(rt, &mut self.writer, twice);

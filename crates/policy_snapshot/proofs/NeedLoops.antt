@@ -20,10 +20,6 @@ module _ {Y : Type 0} (g : Y → PlainZone) (kind : Kind) (hit : Option PlainHit
       → zones_need kind 1 hit (map g ys) ≡ (needs_here (n + 1) (g y) || zones_need kind (n + 1 + 1) hit (drop (k + 1) (map g ys)))
   need_step ys n k y lt is s = s.same ∙ ap (zones_need kind (n + 1) hit) (left_at g ys k y lt is)
 
-  -- what code looks at, of the zone that it sees
-  pub needs_at : (n : ℕ) (zone : PlainZone) (y : Y) (b : Bool) → zone ≡ g y → (has_kind_in kind zone.origin zone.content && kind_could_decide kind n hit) ≡ b → needs_here n (g y) ≡ b
-  needs_at n zone y b is e = sym (ap (needs_here n) is) ∙ e
-
   pub need_later : (ys : List Y) (n k : ℕ) (y : Y) → k < length ys → y ≡ get_or ys k y → SameNeed kind n k hit (map g ys) → needs_here (n + 1) (g y) ≡ false → SameNeed kind (n + 1) (k + 1) hit (map g ys)
   need_later ys n k y lt is s e = record {
     count = ap (λ (m : ℕ). m + 1) s.count;

@@ -1,12 +1,14 @@
 -- A snapshot after one more transfer stands for a list with one entry more.
 use Rattle.std.proofs.Common.{◌≡◌, ℕ, zero, suc, ◌+◌, ◌-◌, ◌==◌, Bool, true, false, Option, Some, None, Result, Ok, Err, List, [], ◌∷◌, ◌++◌, length, map, refl, sym, ap, subst, ◌∙◌, arith, length-append, get_or, true≢false}
-use Rattle.std.specs.Prelude.{IfSome, IsSome, fold, slice_set, slice_get, if◌then◌else◌}
+use Rattle.std.specs.Prelude.{IfSome, IsErrAnd, IsSome, fold, slice_set, slice_get, if◌then◌else◌}
 use Rattle.std.proofs.lemmas.Bool.Decides.{nat_tests}
 use Rattle.std.proofs.lemmas.List.{length-map, length-set}
 use Rattle.std.proofs.lemmas.List.Sums.{fold_push}
 use Rattle.dns_record.specs.declared.soa.Soa.{Soa}
 use Rattle.dns_record.specs.Row.{PlainRow}
 use Rattle.dns_name.specs.Reading.{◌>>=◌}
+use Rattle.zone_rows.specs.declared.fault.ApplyError.{ApplyError}
+use Rattle.zone_rows.specs.declared.fault.ApplyError.TheVariants as errors
 use Rattle.zone_rows.specs.declared.fault.ApplyFault.{ApplyFault}
 use Rattle.zone_rows.specs.declared.transfer.Transfer.{Transfer}
 use Rattle.zone_rows.specs.declared.transfer.Transfer.TheVariants.{Whole, Steps}
@@ -16,7 +18,7 @@ use Rattle.zone_rows.specs.declared.zone.TheConstants.{ROW_LIMIT}
 use Rattle.zone_rows.specs.Content.{unloaded}
 use Rattle.zone_rows.specs.Repeats.{without_repeats}
 use Rattle.zone_rows.specs.Steps.{steps_outcome}
-use Rattle.zone_rows.specs.Zone.{newer_soa, fewer_rows, apply_outcome, apply_outcome_within}
+use Rattle.zone_rows.specs.Zone.{Fails, Gives, newer_soa, fewer_rows, apply_outcome, apply_outcome_within}
 use Rattle.zone_index.specs.Indexed.{HasRows}
 use Rattle.policy_snapshot.specs.declared.entry.Entry.{Entry}
 use Rattle.policy_snapshot.specs.Policy.{AreAccepted, AreTaken, TakesTransfer, PlainPolicy, zone_at, zone_by, zone_after, with_zone_after, policy_with, policy_after}
@@ -141,6 +143,12 @@ module _ {Y : Type 0} (g : Y → PlainZone) where
   get_if (x ∷ ys) zero y is some = ap (λ (z : Y). Some (g z)) (sym is)
   get_if (x ∷ ys) (suc k) y is some = get_if ys k y is some
 
+  -- the zone of a number, which code looked at
+  pub seen_there : (zones : List PlainZone) (items : List Y) (number : ℕ) (item : Y) (seen : PlainZone) → map g items ≡ zones → IsSome (zone_at zones number) → item ≡ get_or items (number - 1) item → seen ≡ g item → zone_at zones number ≡ Some seen
+  seen_there zones items number item seen are some is_item is_seen =
+      let found = at_if (number == 0) (slice_get (map g items) (number - 1)) (g item) (subst (λ (z : List PlainZone). IsSome (zone_at z number)) (sym are) some) (get_if items (number - 1) item is_item) in
+      ap (λ (z : List PlainZone). zone_at z number) (sym are) ∙ found ∙ ap Some (sym is_seen)
+
   -- the zones and the count are those of the snapshot with the next zone
   pub record IsNext (old : PlainSnapshot) (items made : List Y) (accepted count number : ℕ) (transfer : Transfer) (item : Y) (seen next : PlainZone) : Type 0 where
     pub view : record { zones = map g items; accepted = accepted } ≡ old
@@ -156,9 +164,7 @@ module _ {Y : Type 0} (g : Y → PlainZone) where
     zones_are = ap (λ (s : PlainSnapshot). s.zones) is.view
 
     seen_at : zone_at old.zones number ≡ Some seen
-    seen_at =
-        let found = at_if (number == 0) (slice_get (map g items) (number - 1)) (g item) (subst (λ (z : List PlainZone). IsSome (zone_at z number)) (sym zones_are) is.some) (get_if items (number - 1) item is.is_item) in
-        ap (λ (z : List PlainZone). zone_at z number) (sym zones_are) ∙ found ∙ ap Some (sym is.is_seen)
+    seen_at = seen_there old.zones items number item seen zones_are is.some is.is_item is.is_seen
 
     abbrev set_next : PlainSnapshot
     set_next = record { zones = slice_set old.zones (number - 1) next; accepted = next_count old.accepted }
@@ -181,3 +187,17 @@ module _ {Y : Type 0} (g : Y → PlainZone) where
     exact_after =
         subst (λ (found : Option PlainZone). IfSome found (λ zone. with_zone old number (apply_outcome zone transfer) ≡ Ok made_next)) (sym seen_at)
         (ap (with_zone old number) is.applied ∙ ap Ok same_next)
+
+-- ---- a transfer that the zone can't take
+
+fails_with : (e : ApplyError) (old : PlainSnapshot) (number : ℕ) (outcome : Result PlainZone ApplyFault) → Fails e outcome → Fails e (with_zone old number outcome)
+fails_with errors.OutOfMemory old number outcome fails = tt
+fails_with (errors.Fault f) old number outcome fails = ap (with_zone old number) fails
+
+-- the error is told
+pub fault_told : (old : PlainSnapshot) (number : ℕ) (zone : PlainZone) (transfer : Transfer) (r : Result PlainSnapshot ApplyError) (e : ApplyError) → IsErrAnd r (λ x. x ≡ e) → zone_at old.zones number ≡ Some zone → Fails e (apply_outcome zone transfer)
+    → IfSome (zone_at old.zones number) (λ z. Gives r (with_zone old number (apply_outcome z transfer)))
+fault_told old number zone transfer (Ok next) e same at fails = absurd same
+fault_told old number zone transfer (Err x) e same at fails =
+    subst (λ (found : Option PlainZone). IfSome found (λ z. Fails x (with_zone old number (apply_outcome z transfer)))) (sym at)
+    (subst (λ (y : ApplyError). Fails y (with_zone old number (apply_outcome zone transfer))) (sym same) (fails_with e old number (apply_outcome zone transfer) fails))

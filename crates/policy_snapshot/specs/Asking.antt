@@ -1,5 +1,5 @@
 -- How code finds what must be asked about the addresses of servers.
-use Rattle.std.specs.Prelude.{ℕ, Bool, true, not, List, fold, if◌then◌else◌, Option, Some, None}
+use Rattle.std.specs.Prelude.{Bool, true, not, List, fold, if◌then◌else◌, Option, Some, None}
 use Rattle.std.specs.List.{find}
 use Rattle.std.specs.Ordering.{is_lt}
 use Rattle.dns_name.specs.Labels.{Name}

@@ -7,3 +7,6 @@ pub mod Settled
 pub mod Sight
 pub mod Lookup
 pub mod Asking
+pub mod Summed
+pub mod Knowing
+pub mod Listing

@@ -16,15 +16,18 @@ ghost use Rattle.policy_snapshot.specs.Rules.{rules};
 ghost use Rattle.policy_snapshot.specs.Settled.{IsSettled};
 ghost use Rattle.policy_snapshot.specs.Sight.{sight_seen};
 
+use crate::candidates::{a_zone_that_is_no_candidate_has_no_hit, candidates};
 use crate::laws::nothing_unasked_could_matter;
-use crate::lookup::zone_hit;
+use crate::lookup::hit_if;
 use crate::questions::{is_known, unknown_address, unknown_owner};
 use crate::sight::Sight;
 use crate::snapshot::Snapshot;
+use crate::summaries::having;
 use dns_message::{Query, Question};
 use dns_name::Name;
 use dns_name::laws::case_does_not_matter;
 use ip_prefix::Addr;
+use qname_index::LookupName;
 use rpz_precedence::laws::{
     an_index_is_in_order_of_precedence, the_best_hit_is_the_one_that_nothing_precedes,
     the_order_of_ranks_is_total,
@@ -33,13 +36,13 @@ use rpz_precedence::{Hit, kind_place};
 use std::alloc::{AllocError, Global};
 use trigger_codec::Kind;
 use upstream_link::{Facts, ServerLists, known_servers, main_question, server_addresses};
-use zone_index::Zone;
 use zone_index::laws::{a_rule_does_what_its_rows_do, an_index_has_the_rules_of_its_zone};
 
 impl Snapshot {
     /// The hit that no other hit precedes at a position of the chain of aliases, where this name stands, by what is known. Its
-    /// time is that of some look-ups in each zone up to that of the hit; where some zone has rules about name servers, also that
-    /// of looking at the known NS records of the name and those above it, and at the addresses of their targets.
+    /// time is that of some look-ups in what is known of all zones together, and in each zone up to that of the hit that may have
+    /// one; where some zone has rules about name servers, also that of looking at the known NS records of the name and those above
+    /// it, and at the addresses of their targets.
     pub fn best(
         &self,
         alloc: Global,
@@ -66,7 +69,7 @@ impl Snapshot {
             position,
             client: query.client,
             name,
-            lower: &lower,
+            lower: &LookupName::of(&lower),
             records: facts.records(&query.question.name, query.question.qtype),
             servers: servers.as_slice(),
             addresses: addresses.as_slice(),
@@ -232,10 +235,19 @@ impl Snapshot {
         ensures { option_map hit_seen result
             ≡ form.zones_hit 1 (sight_seen sight.now) self.now.zones }
     {
+        a_zone_that_is_no_candidate_has_no_hit();
+        let summaries = self.summaries();
+        summaries.qname.in_order();
+        summaries.nsdname.in_order();
+        let all = self.zones();
+        let zones = candidates(summaries, sight);
+        if zones.is_empty() {
+            return None;
+        }
         let mut number = 0;
-        for zone in self.zones() {
+        for zone in all {
             number += 1;
-            let hit = zone_hit(number, zone, sight);
+            let hit = hit_if(zones, number, zone, sight);
             if hit.is_some() {
                 return hit;
             }
@@ -247,10 +259,15 @@ impl Snapshot {
     fn needs(&self, kind: Kind, hit: &Option<Hit<'_>>) -> bool
         ensures { result ≡ form.zones_need kind 1 (option_map hit_seen hit.now) self.now.zones }
     {
+        let all = self.zones();
+        let zones = having(self.summaries(), kind);
+        if zones.is_empty() {
+            return false;
+        }
         let mut number = 0;
-        for zone in self.zones() {
+        for _zone in all {
             number += 1;
-            if has_kind(zone, kind) && could_decide(kind, number, hit) {
+            if zones.has(number) && could_decide(kind, number, hit) {
                 return true;
             }
         }
@@ -280,15 +297,5 @@ fn place_of(kind: Kind) -> u8
         Kind::ResponseIp => 2,
         Kind::NsDname => 3,
         Kind::NsIp => 4,
-    }
-}
-
-// Whether the zone has rules of this kind.
-fn has_kind(zone: &Zone, kind: Kind) -> bool
-    ensures { result ≡ form.has_kind_in kind zone.now.origin zone.now.content }
-{
-    match zone.index() {
-        None => false,
-        Some(index) => index.rules().has(kind),
     }
 }

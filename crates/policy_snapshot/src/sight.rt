@@ -3,6 +3,7 @@
 use dns_message::RecordRefs;
 use dns_name::Name;
 use ip_prefix::Addr;
+use qname_index::LookupName;
 use upstream_link::Names;
 
 /// What rules are looked up by at a position of the chain of aliases.
@@ -12,8 +13,8 @@ pub(crate) struct Sight<'a> {
     pub(crate) client: Addr,
     /// The name at the position.
     pub(crate) name: &'a Name,
-    /// That name in lower case.
-    pub(crate) lower: &'a Name,
+    /// That name in lower case, as rules are looked up by it.
+    pub(crate) lower: &'a LookupName<'a>,
     /// The records of the answer to the query.
     pub(crate) records: RecordRefs<'a>,
     /// The servers of the name.

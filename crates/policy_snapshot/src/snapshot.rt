@@ -1,36 +1,56 @@
 //! A policy at one time.
 
-ghost use Rattle.std.specs.Prelude.{◌≡◌, ◌≤◌, ◌<◌, ◌∷◌, [], ◌++◌, List, length, map, slice_set, option_copied, IfOk, IfSome, IsSome};
+ghost use Rattle.std.specs.Prelude.{◌≡◌, ◌≤◌, ◌<◌, ◌-◌, ◌∷◌, [], ◌++◌, List, length, map, slice_set, option_copied};
+ghost use Rattle.std.specs.Prelude.{IfOk, IfSome, IsSome};
 ghost use Rattle.std.specs.Arc.{arc_value};
 ghost use Rattle.zone_rows.specs.declared.zone.TheConstants.{ZONE_LIMIT};
 ghost use Rattle.zone_rows.specs.Content.{unloaded};
 ghost use Rattle.zone_rows.specs.Zone.{Gives, apply_outcome};
+ghost use Rattle.zone_index.specs.Changes.{AreChanges};
 ghost use Rattle.policy_snapshot.specs.declared.entry.Entry.{Entry};
+ghost use Rattle.policy_snapshot.specs.Knowing.{KnowsAll};
 ghost use Rattle.policy_snapshot.specs.Policy.{zone_at};
 ghost use Rattle.policy_snapshot.specs.Stands.{HaveRows, Stands, new_snapshot, with_zone};
 
+use crate::new_zone::NewZone;
 use crate::old_zone::OldZone;
+use crate::summaries::{most_rows, no_summaries, shared_summaries, summaries_after};
 use dns_name::Name;
 use std::alloc::{AllocError, Global};
 use std::marker::Model;
 use std::sync::Arc;
-use zone_index::Zone;
+use summary_index::{NameSummary, PrefixSummary};
+use trigger_codec::ByKind;
+use zone_index::{Changes, Zone};
 use zone_rows::{ApplyError, Transfer};
 
 /// The ordered zones of a policy as they are after a list of accepted transfers, each taken as a whole. Nothing changes it: a
 /// transfer makes a new snapshot, which shares the zones that the transfer doesn't change. Contracts see the zones as plain
 /// ones, and how many transfers were accepted, up to 2^64 - 1.
-#[derive(Drop)]
 pub struct Snapshot {
     // The first of them is zone 1.
     zones: Vec<Arc<Zone, Global>>,
+    // What is known of their rules together.
+    summaries: Arc<ByKind<PrefixSummary, NameSummary>, Global>,
     accepted: u64,
+}
+
+// Written out, so that wherever one is dropped this is one call.
+impl Drop for Snapshot {
+    fn drop(self) {
+        let Snapshot {
+            zones: _,
+            summaries: _,
+            accepted: _,
+        } = self;
+    }
 }
 
 impl Model for Snapshot {
     ghost use Rattle.std.specs.Prelude.{◌≤◌, length, map};
     ghost use Rattle.std.specs.Arc.{arc_value};
     ghost use Rattle.zone_rows.specs.declared.zone.TheConstants.{ZONE_LIMIT};
+    ghost use Rattle.policy_snapshot.specs.Knowing.{KnowsAll};
     ghost use Rattle.policy_snapshot.specs.Stands.{HaveRows, PlainSnapshot};
 
     ghost Value = { PlainSnapshot };
@@ -38,7 +58,8 @@ impl Model for Snapshot {
     ghost view = { λ s. record { zones = map arc_value s.zones.items; accepted = s.accepted } };
 
     ghost invariant = { λ s. (length s.zones.items ≤ ZONE_LIMIT)
-        × HaveRows (map arc_value s.zones.items) };
+        × (HaveRows (map arc_value s.zones.items)
+        × KnowsAll (map arc_value s.zones.items) (arc_value s.summaries)) };
 }
 
 impl Snapshot {
@@ -51,7 +72,12 @@ impl Snapshot {
         for origin in origins {
             zones.push(empty_zone(alloc, origin)?)?;
         }
-        Ok(Snapshot { zones, accepted: 0 })
+        let summaries = shared_summaries(alloc, no_summaries(alloc))?;
+        Ok(Snapshot {
+            zones,
+            summaries,
+            accepted: 0,
+        })
     }
 
     /// How many zones the policy has, at most 32. Its clauses also say that the rows of each zone are rows.
@@ -75,8 +101,11 @@ impl Snapshot {
     pub fn again(&self, alloc: Global) -> Result<Snapshot, AllocError>
         ensures { IfOk result (λ copy. copy ≡ self.now) }
     {
+        let summaries = Arc::try_clone(&self.summaries)?;
+        let zones = shared(alloc, &self.zones)?;
         Ok(Snapshot {
-            zones: shared(alloc, &self.zones)?,
+            zones,
+            summaries,
             accepted: self.accepted,
         })
     }
@@ -88,6 +117,13 @@ impl Snapshot {
         ensures rows { HaveRows self.now.zones }
     {
         self.zones.as_slice()
+    }
+
+    /// What is known of the rules of all zones together.
+    pub(crate) fn summaries(&self) -> &ByKind<PrefixSummary, NameSummary>
+        ensures { KnowsAll self.now.zones result.now }
+    {
+        &self.summaries
     }
 
     /// The zone of a number, where there is one; the first is zone 1.
@@ -103,15 +139,18 @@ impl Snapshot {
         }
     }
 
-    /// One more handle on the zone of a number, where there is one. It takes no memory, and answers an error only where there are
-    /// 2^63 handles.
+    /// One more handle on the zone of a number, where there is one, and on what is known of all zones together. It takes no memory, and
+    /// answers an error only where there are 2^63 handles.
     pub fn hold(&self, number: u32) -> Result<Option<OldZone>, AllocError> {
         if number == 0 {
             return Ok(None);
         }
         match self.zones.get(number as usize - 1) {
             None => Ok(None),
-            Some(zone) => Ok(Some(OldZone::of(Arc::try_clone(zone)?))),
+            Some(zone) => {
+                let summaries = Arc::try_clone(&self.summaries)?;
+                Ok(Some(OldZone::of(Arc::try_clone(zone)?, summaries)))
+            }
         }
     }
 
@@ -131,14 +170,39 @@ impl Snapshot {
     {
         let place = number as usize - 1;
         let old: &Zone = &self.zones[place];
-        let zone = old.apply(alloc, transfer)?;
+        let most = most_rows(self.summaries(), &self.zones);
+        let (zone, changes) = old.apply_changes(alloc, transfer, most)?;
         // called for its clause: the rows of the new zone are rows
         let _index = zone.index();
+        let summaries = self.summaries_with(alloc, number, &zone, &changes)?;
         let zones = with_zone_at(alloc, &self.zones, place, zone)?;
         Ok(Snapshot {
             zones,
+            summaries,
             accepted: self.accepted.saturating_add(1),
         })
+    }
+
+    // What is known of the rules of all zones, once the zone of this number is another, whose rules at other triggers than these are as
+    // before.
+    fn summaries_with(
+        &self,
+        alloc: Global,
+        number: u32,
+        zone: &Zone,
+        changes: &Changes,
+    ) -> Result<Arc<ByKind<PrefixSummary, NameSummary>, Global>, AllocError>
+        requires there { IsSome (zone_at self.now.zones number) }
+        requires changes { IfSome (zone_at self.now.zones number) (λ old. AreChanges old zone.now changes.now) }
+        ensures { IfOk result (λ summaries. KnowsAll (slice_set self.now.zones (number - 1) zone.now) (arc_value summaries)) }
+    {
+        let next = NewZone {
+            zones: &self.zones,
+            number,
+            zone,
+        };
+        let summaries = summaries_after(alloc, self.summaries(), &next, changes)?;
+        shared_summaries(alloc, summaries)
     }
 }
 

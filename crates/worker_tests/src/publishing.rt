@@ -164,10 +164,20 @@ pub fn publish<N: StoreName, R: Wait>(
     publisher: &mut Publisher<N>,
     transfer: Transfer,
 ) -> bool {
-    if !publisher.has_zone(1) {
+    publish_at(rt, publisher, 1, transfer)
+}
+
+/// Whether the zone of this number takes a transfer.
+pub fn publish_at<N: StoreName, R: Wait>(
+    rt: &R,
+    publisher: &mut Publisher<N>,
+    number: u32,
+    transfer: Transfer,
+) -> bool {
+    if !publisher.has_zone(number) {
         return false;
     }
-    publisher.publish(rt, 1, transfer).is_ok()
+    publisher.publish(rt, number, transfer).is_ok()
 }
 
 // Whether each reader is told of so many publications.

@@ -1,6 +1,7 @@
 //! A store with the zone `rpz.example`, and what is tried over it.
 
-ghost use Rattle.std.specs.Prelude.{◌≡◌};
+ghost use Rattle.std.specs.Prelude.{◌≡◌, ◌≤◌, length};
+ghost use Rattle.zone_rows.specs.declared.zone.TheConstants.{ZONE_LIMIT};
 
 use crate::answers::answer_all;
 use crate::faults::fail_all;
@@ -45,13 +46,23 @@ pub enum Trial {
     RequestThreads,
 }
 
+// The origins of the store that something is tried over: of two zones where one is to be published beside the other, else of one.
+fn origins_for<R: Abort>(rt: &R, alloc: Global, trial: &Trial) -> Vec<Name>
+    ensures { length result.items ≤ ZONE_LIMIT }
+{
+    let first = Name::from_text(alloc, b"rpz.example").expect(rt, "no error");
+    let second = Name::from_text(alloc, b"two.example").expect(rt, "no error");
+    match trial {
+        Trial::OldZones => vec![in alloc; first, second].expect(rt, "no error"),
+        _ => vec![in alloc; first].expect(rt, "no error"),
+    }
+}
+
 /// Tries something over a store of two readers, where nothing is published.
 pub fn attempt<
     R: Threads + Wait + Abort + Clock + RandomSource + Copy + Drop + Send + Sync + 'static,
 >(rt: R, alloc: Global, trial: Trial) {
-    let origins = vec![in alloc;
-        Name::from_text(alloc, b"rpz.example").expect(&rt, "no error"),
-    ].expect(&rt, "no error");
+    let origins = origins_for(&rt, alloc, &trial);
     open::<Brand, R>(rt, alloc, start_store(origins, 2), trial);
 }
 

@@ -1,11 +1,14 @@
 use Rattle.std.proofs.Common.{List}
 use Rattle.std.specs.Arc.{arc_value}
+use Rattle.policy_snapshot.specs.Knowing.{KnowsAll}
 use Rattle.policy_snapshot.specs.Stands.{HaveRows}
+use Rattle.policy_snapshot.specs.Summed.{PlainSummaries}
+use Rattle.policy_snapshot.proofs.KnownZones.{knows_none}
 use Rattle.policy_snapshot.proofs.ZoneLoops.{one_more, all_made, same_length}
 use Rattle.policy_snapshot.proofs.Standing.{rows_none}
 use Rattle.zone_rows.specs.Content.{unloaded}
 use Rattle.zone_rows.specs.declared.zone.PlainZone.{PlainZone}
-use Rattle.std.proofs.Common.{ap, sym, subst, arith}
+use Rattle.std.proofs.Common.{◌∙◌, ap, map, sym, subst, arith}
 use Rattle.policy_snapshot.proofs.snapshot.Snapshot.start.Goals as goal
 
 pub loop-origin-preserved : goal.loop-origin-preserved
@@ -14,8 +17,14 @@ loop-origin-preserved c =
 
 pub invariant_of-result : goal.invariant_of-result
 invariant_of-result c =
-    let made = all_made unloaded arc_value c.args.origins.now c.loop-origin.zones.items c.loop-origin.origin-index c.loop-origin-test.false c.loop-origin.invariant in
-    (omega (arith, same_length unloaded arc_value c.args.origins.now c.loop-origin.zones.items made, c.requires), subst HaveRows (sym made) (rows_none c.args.origins.now))
+    let made = all_made unloaded arc_value c.args.origins.now c.loop-origin.zones.items c.loop-origin.origin-index c.loop-origin-test.false c.loop-origin.invariant in (
+      omega (arith, same_length unloaded arc_value c.args.origins.now c.loop-origin.zones.items made, c.requires),
+      (
+        subst HaveRows (sym made) (rows_none c.args.origins.now),
+        subst (λ (zones : List PlainZone). KnowsAll zones (arc_value c.in_ok-summaries.summaries)) (sym made)
+            (subst (λ (s : PlainSummaries). KnowsAll (map unloaded c.args.origins.now) s) (sym (c.in_ok-summaries.ensures ∙ c.no_summaries.ensures)) (knows_none c.args.origins.now)),
+      ),
+    )
 
 pub returns : goal.returns
 returns c =
