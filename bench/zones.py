@@ -10,11 +10,12 @@ last zone, which alone has rules for these names; for names that each zone has, 
 zone has a rule for. Each is the best of some turns, in each of which all of them are run once; behind it stands how many times as long
 a query takes as over one zone in the same turns.
 
-The second table: two zones of N rules (1,000,000) about names that are asked for, and beside them two zones of which the other one has
-as many rules about names of servers, so that nothing is listed: the seconds until both are loaded, and the resident memory then. The
-difference is what the summary of 2N names costs.
+The second table: two zones of N rules (1,000,000), each alone and both together: the seconds until they are loaded, and the resident
+memory then. What both take more than each alone is what the summary of 2N names costs; each line is the best of some runs. What the
+allocator keeps of memory that was given up is returned to the system (MALLOC_TRIM_THRESHOLD_, MALLOC_MMAP_THRESHOLD_), which takes time
+of its own: so the seconds are those of runs without that.
 
-The third table is of `rpz replay`, by the difference of two scripts: a change of one rule in a zone of N rules, alone and beside a zone
+The third table is of `rpz replay`, whose lines are given one by one, with the pipe's time: a change of one rule in a zone of N rules, alone and beside a zone
 of 1,000 rules of the same kind, and a whole transfer of 1,000 rules beside N, of which one in a hundred differs, and of which all do.
 """
 
@@ -26,15 +27,20 @@ import sys
 import tempfile
 import time
 
-from queries import BENCH_QUERIES, MANY_RULES, bench_seconds, origin_of, rules, words_of, write_lines, write_transfer
-from stream import IXFR, ORIGIN, write_steps, write_zone
+from queries import BENCH_QUERIES, MANY_RULES, bench_seconds, rules, words_of, write_lines, write_transfer
+from stream import ORIGIN, label, write_steps, write_zone
 
 ZONES = (1, 8, 32)
 ROUNDS = 5
 LOADS = 3
 LINE_ROWS = 1_500  # rows of a line of a script
-CHANGES = (1_000, 11_000)
-TRANSFERS = (20, 220)
+CHANGES = 10_000
+TRANSFERS = 200
+
+
+def origin_of(zone):
+    """A name as long as that of the zone in the streams, so that pointers in them stay right."""
+    return label(f"z{zone:02}") + label("example") + b"\x00"
 
 
 def elsewhere(count):
@@ -71,7 +77,7 @@ CASES = {
 
 
 def origins(zones):
-    return [f"rp{zone}.example" for zone in range(1, zones + 1)]
+    return [f"z{zone:02}.example" for zone in range(1, zones + 1)]
 
 
 def query_table(program, before):
@@ -96,34 +102,42 @@ def query_table(program, before):
             print(f"  the time of the earlier program, zones: {', '.join(said)}", flush=True)
 
 
-def loaded(words, path, rows):
-    """The seconds until the zones are loaded, and the resident memory then in octets."""
+TRIMMED = {"MALLOC_TRIM_THRESHOLD_": "0", "MALLOC_MMAP_THRESHOLD_": "65536"}
+
+
+def loaded(words, path, rows, env):
+    """The seconds until the zones are loaded, and the resident memory then, and at its peak, in octets."""
     with open(path, "rb") as stream:
         start = time.perf_counter()
-        child = subprocess.Popen(words, stdin=stream, stdout=subprocess.PIPE, stderr=subprocess.PIPE)
+        child = subprocess.Popen(words, stdin=stream, stdout=subprocess.PIPE, stderr=subprocess.PIPE, env={**os.environ, **env})
         said = child.stderr.readline()
         seconds = time.perf_counter() - start
         with open(f"/proc/{child.pid}/status") as status:
-            memory = next(int(line.split()[1]) * 1024 for line in status if line.startswith("VmRSS"))
+            memory = {line.split()[0]: int(line.split()[1]) * 1024 for line in status if line.startswith(("VmRSS", "VmHWM"))}
         child.communicate()
     if said != f"rows {rows}\n".encode():
         sys.exit(f"not loaded: {said!r}")
-    return seconds, memory
+    return seconds, memory["VmRSS:"], memory["VmHWM:"]
 
 
 def load_table(program, count):
+    """Two zones, each alone and both together."""
+    first, second = rules(count), elsewhere(count)
     runs = {}
     with tempfile.TemporaryDirectory() as folder:
-        for title, second in (("of one kind", elsewhere(count)), ("of two kinds", servers(count))):
-            path = os.path.join(folder, title.replace(" ", "_"))
+        for title, zones in (("the first", [first]), ("the second", [second]), ("both", [first, second])):
+            path = os.path.join(folder, "input")
             with open(path, "wb") as out:
-                write_transfer(out, rules(count), origin_of(1))
-                write_transfer(out, second, origin_of(2))
-            measured = [loaded(words_of(program, *origins(2)), path, 2 * count) for _ in range(LOADS)]
-            runs[title] = min(run[0] for run in measured), min(run[1] for run in measured)
-            print(f"two zones of {count} rules {title}: {runs[title][0]:.2f} s, {runs[title][1] / count / 2:.0f} octets a rule", flush=True)
-    seconds, memory = (runs["of one kind"][place] - runs["of two kinds"][place] for place in range(2))
-    print(f"the summary: {seconds:.2f} s for {2 * count} names, {memory / count / 2:.0f} octets a name")
+                for number, rows in enumerate(zones):
+                    write_transfer(out, rows, origin_of(number + 1))
+            words = words_of(program, *origins(len(zones)))
+            seconds = min(loaded(words, path, len(zones) * count, {})[0] for _ in range(LOADS))
+            runs[title] = seconds, *loaded(words, path, len(zones) * count, TRIMMED)[1:]
+            seconds, memory, peak = runs[title]
+            each_rule = count * len(zones)
+            print(f"{title} of two zones of {count} rules: {seconds:.2f} s, {memory / each_rule:.0f} octets a rule, {peak / each_rule:.0f} at the peak", flush=True)
+    seconds, memory = (runs["both"][place] - runs["the first"][place] - runs["the second"][place] for place in range(2))
+    print(f"the summary: {seconds:.2f} s for {2 * count} names, {memory / count / 2:.0f} octets a name", flush=True)
 
 
 def xfer(number, octets):
@@ -146,41 +160,40 @@ def whole_line(zone, serial, rows):
     return xfer(zone, of_zone(stream.getvalue(), zone))
 
 
-def write_large(out, zone, count):
-    """A zone of so many rules, line by line; the serial that it has then."""
+def large(zone, count):
+    """A zone of so many rules, line by line."""
     rows = rules(count)
-    out.write(whole_line(zone, 1, rows[:LINE_ROWS]))
+    yield whole_line(zone, 1, rows[:LINE_ROWS])
+    for turn, at in enumerate(range(LINE_ROWS, count, LINE_ROWS)):
+        yield steps_line(zone, 1 + turn, [], rows[at : at + LINE_ROWS])
+
+
+def each(program, head, lines):
+    """The milliseconds of one line of the script behind its head, each answered before the next is given."""
+    child = subprocess.Popen([program, "replay"], stdin=subprocess.PIPE, stdout=subprocess.PIPE)
+    for origin in origins(2):
+        child.stdin.write(f"zone {origin}\n".encode())
     serial = 1
-    for at in range(LINE_ROWS, count, LINE_ROWS):
-        out.write(steps_line(zone, serial, [], rows[at : at + LINE_ROWS]))
-        serial += 1
-    return serial
+    for line in head:
+        serial = done(child, line)
+    times = []
+    for line in lines(serial):
+        start = time.perf_counter()
+        done(child, line)
+        times.append(time.perf_counter() - start)
+    child.communicate()
+    times.sort()
+    return 1000 * sum(times) / len(times), 1000 * times[len(times) // 2], 1000 * times[-1]
 
 
-def replay_seconds(program, path):
-    with open(path, "rb") as stream:
-        start = os.times()
-        done = subprocess.run([program, "replay"], stdin=stream, stdout=subprocess.PIPE)
-        end = os.times()
-    if done.returncode != 0 or b"refused" in done.stdout:
-        sys.exit(f"replay: {done.returncode}, {done.stdout[-200:]!r}")
-    return end.children_user + end.children_system - start.children_user - start.children_system
-
-
-def written(folder, head, lines):
-    path = os.path.join(folder, "script")
-    with open(path, "wb") as out:
-        out.write(b"".join(f"zone {origin}\n".encode() for origin in origins(2)))
-        serial = head(out)
-        for line in lines(serial):
-            out.write(line)
-    return path
-
-
-def each(program, folder, head, lines, counts):
-    """The milliseconds of one line, by scripts of fewer and of more of them."""
-    few, many = (min(replay_seconds(program, written(folder, head, lines(count))) for _ in range(2)) for count in counts)
-    return (many - few) / (counts[1] - counts[0]) * 1000
+def done(child, line):
+    """Has the line done; the serial that it was taken with."""
+    child.stdin.write(line)
+    child.stdin.flush()
+    said = child.stdout.readline().split()
+    if said[0] != b"taken":
+        sys.exit(f"not taken: {said!r}")
+    return int(said[2])
 
 
 def one_change(zone, count, times):
@@ -210,20 +223,18 @@ def transfers(zone, times, differ):
 
 
 def change_table(program, count):
-    with tempfile.TemporaryDirectory() as folder:
+    def said(title, head, lines):
+        mean, median, longest = each(program, head, lines)
+        print(f"{title}: {mean:.3f} ms, median {median:.3f}, longest {longest:.1f}", flush=True)
 
-        def alone(out):
-            return write_large(out, 1, count)
+    def beside():
+        yield whole_line(2, 1, elsewhere(1_000))
+        yield from large(1, count)
 
-        def beside(out):
-            out.write(whole_line(2, 1, elsewhere(1_000)))
-            return write_large(out, 1, count)
-
-        print(f"a change of one rule in {count}: {each(program, folder, alone, lambda n: one_change(1, count, n), CHANGES):.3f} ms", flush=True)
-        print(f"  beside a zone of 1000: {each(program, folder, beside, lambda n: one_change(1, count, n), CHANGES):.3f} ms", flush=True)
-        for differ in (10, 1_000):
-            took = each(program, folder, beside, lambda n: transfers(2, n, differ), TRANSFERS)
-            print(f"a whole transfer of 1000 rules beside {count}, {differ} differ: {took:.2f} ms", flush=True)
+    said(f"a change of one rule in {count}", large(1, count), one_change(1, count, CHANGES))
+    said("  beside a zone of 1000", beside(), one_change(1, count, CHANGES))
+    for differ in (10, 1_000):
+        said(f"a whole transfer of 1000 rules beside {count}, {differ} differ", beside(), transfers(2, TRANSFERS, differ))
 
 
 def main():
