@@ -1,6 +1,6 @@
 //! Which zones may have a rule that is hit.
 
-ghost use Rattle.std.specs.Prelude.{◌≡◌, ℕ, All, None, false, map};
+ghost use Rattle.std.specs.Prelude.{◌≡◌, ◌<◌, ℕ, All, None, false, map};
 ghost use Rattle.std.specs.List.{list_any};
 ghost use Rattle.dns_name.specs.Labels.{lowered};
 ghost use Rattle.summary_index.specs.Zones.{has_zone};
@@ -18,8 +18,10 @@ use dns_name::laws::case_does_not_matter;
 use dns_record::RecordRef;
 use ip_prefix::Addr;
 use qname_index::LookupName;
+use std::marker::Brand;
+use std::sync::ledger::{Blank, Ledger};
 use summary_index::{NameSummary, PrefixSummary, Zones};
-use trie_keys::NumberSet;
+use trie_keys::{NumberSet, Steps};
 use trigger_codec::ByKind;
 use upstream_link::Names;
 use zone_index::laws::{a_rule_does_what_its_rows_do, triggers_of_one_place_are_equal};
@@ -44,7 +46,7 @@ pub(crate) fn candidates(summaries: &ByKind<PrefixSummary, NameSummary>, sight: 
 {
     case_does_not_matter();
     let client = for_client(&summaries.client_ip, sight.position, sight.client);
-    let name = summaries.qname.zones_for_name(sight.lower);
+    let name = matching(&summaries.qname, sight.lower);
     let records = for_records(&summaries.response_ip, sight.name, &sight.records);
     let servers = for_lists(&summaries.nsdname, sight.servers);
     let addresses = for_addresses(&summaries.nsip, sight.addresses);
@@ -56,7 +58,7 @@ fn for_client(summary: &PrefixSummary, position: u32, client: Addr) -> Zones
     ensures { (n : ℕ) → has_zone result n ≡ may_be_client summary.now n position client }
 {
     if position == 0 {
-        summary.zones_for_addr(client)
+        containing(summary, client)
     } else {
         Zones::none()
     }
@@ -83,7 +85,7 @@ fn for_record(summary: &PrefixSummary, name: &Name, rr: RecordRef<'_>) -> Zones
     }
     match rr.address() {
         None => Zones::none(),
-        Some(addr) => summary.zones_for_addr(addr),
+        Some(addr) => containing(summary, addr),
     }
 }
 
@@ -107,7 +109,7 @@ fn for_servers(summary: &NameSummary, servers: &[Name]) -> Zones
 {
     let mut zones = Zones::none();
     for server in servers {
-        zones = zones.union(summary.zones_for_name(&LookupName::of(server)));
+        zones = zones.union(matching(summary, &LookupName::of(server)));
     }
     zones
 }
@@ -118,7 +120,43 @@ fn for_addresses(summary: &PrefixSummary, addresses: &[Addr]) -> Zones
 {
     let mut zones = Zones::none();
     for addr in addresses {
-        zones = zones.union(summary.zones_for_addr(*addr));
+        zones = zones.union(containing(summary, *addr));
     }
     zones
+}
+
+// The zones that may have a rule whose pattern matches the name.
+fn matching(summary: &NameSummary, name: &LookupName<'_>) -> Zones
+    ensures { (n : ℕ) → has_zone result n ≡ may_match summary.now n name.now }
+{
+    matching_from::<Brand>(Blank::new(1), summary, name)
+}
+
+// The same with a new ledger for the count of steps.
+fn matching_from<L: Ledger>(blank: Blank, summary: &NameSummary, name: &LookupName<'_>) -> Zones
+    requires name { blank.name ≡ L.name }
+    requires parts { blank.parts ≡ L.parts }
+    requires some { 0 < blank.parts }
+    ensures { (n : ℕ) → has_zone result n ≡ may_match summary.now n name.now }
+{
+    let mut steps = Steps::<L>::start(blank);
+    summary.zones_for_name(name, &mut steps)
+}
+
+// The zones that may have a rule whose prefix contains the address.
+fn containing(summary: &PrefixSummary, addr: Addr) -> Zones
+    ensures { (n : ℕ) → has_zone result n ≡ may_contain summary.now n addr }
+{
+    containing_from::<Brand>(Blank::new(1), summary, addr)
+}
+
+// The same with a new ledger for the count of steps.
+fn containing_from<L: Ledger>(blank: Blank, summary: &PrefixSummary, addr: Addr) -> Zones
+    requires name { blank.name ≡ L.name }
+    requires parts { blank.parts ≡ L.parts }
+    requires some { 0 < blank.parts }
+    ensures { (n : ℕ) → has_zone result n ≡ may_contain summary.now n addr }
+{
+    let mut steps = Steps::<L>::start(blank);
+    summary.zones_for_addr(addr, &mut steps)
 }

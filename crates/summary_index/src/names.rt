@@ -1,8 +1,8 @@
 //! What is known of all zones together, for a kind of trigger that is a pattern.
 
-ghost use Rattle.std.specs.Prelude.{◌≡◌, ℕ, ◌<◌, ◌≤◌, ◌==◌, ◌&&◌, [], true, false, map, not, IfOk};
+ghost use Rattle.std.specs.Prelude.{◌≡◌, ℕ, ◌+◌, ◌≤◌, ◌==◌, ◌&&◌, [], true, false, map, not, IfOk};
 ghost use Rattle.std.specs.BTreeMap.{is_at};
-ghost use Rattle.std.specs.List.{AllByRecursion, list_any};
+ghost use Rattle.std.specs.List.{AllByRecursion};
 ghost use Rattle.std.specs.List.Sorted.{IsStrictlySortedBy};
 ghost use Rattle.std.specs.Map.{keys_of};
 ghost use Rattle.dns_name.specs.Alike.{PlainPattern, matches};
@@ -22,8 +22,8 @@ use octet_trie::OctetFound;
 use qname_index::laws::keys_are_of_patterns;
 use qname_index::{LookupName, NameTrie};
 use std::alloc::{AllocError, Global};
-use std::marker::{Brand, Model};
-use std::sync::ledger::{Blank, Ledger};
+use std::marker::Model;
+use std::sync::ledger::Ledger;
 use trie_keys::{Marked, Steps};
 
 /// Which zones of a policy have rules of a kind whose triggers are patterns; and where the kind is listed, which have a rule of each
@@ -111,11 +111,12 @@ impl NameSummary {
 
     /// The zones that have a rule whose pattern matches the name; where the kind isn't listed, those that have rules of it. It takes no
     /// memory, and looks at no more than 256 nodes.
-    pub fn zones_for_name(&self, name: &LookupName<'_>) -> Zones
-        ensures { (n : ℕ) → has_zone result n ≡ may_fit (λ p. matches p name.now) self.now n }
+    pub fn zones_for_name<L: Ledger>(&self, name: &LookupName<'_>, steps: &mut Steps<L>) -> Zones
+        ensures zones { (n : ℕ) → has_zone result n ≡ may_fit (λ p. matches p name.now) self.now n }
+        ensures cost { steps.new ≤ steps.old + 256 }
     {
         if self.is_listed {
-            joined_from::<Brand>(Blank::new(1), &self.trie, name)
+            self.trie.joined(name, steps)
         } else {
             self.having
         }
@@ -227,22 +228,6 @@ impl NameSummary {
             trie,
         })
     }
-}
-
-// The union of the zones at all patterns that match the name, with a new ledger for the count of steps.
-fn joined_from<L: Ledger>(
-    blank: Blank,
-    trie: &NameTrie<Zones, bool>,
-    name: &LookupName<'_>,
-) -> Zones
-    requires name { blank.name ≡ L.name }
-    requires parts { blank.parts ≡ L.parts }
-    requires some { 0 < blank.parts }
-    ensures { (n : ℕ) → has_zone result n
-        ≡ list_any (λ e. matches e.0 name.now && has_zone e.1.value n) trie.now }
-{
-    let mut steps = Steps::<L>::start(blank);
-    trie.joined(name, &mut steps)
 }
 
 // With these zones at the pattern, in place of this version.

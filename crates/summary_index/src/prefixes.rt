@@ -1,8 +1,8 @@
 //! What is known of all zones together, for a kind of trigger that is a prefix.
 
-ghost use Rattle.std.specs.Prelude.{◌≡◌, ℕ, ◌<◌, ◌≤◌, ◌==◌, ◌&&◌, [], true, false, not, IfOk};
+ghost use Rattle.std.specs.Prelude.{◌≡◌, ℕ, ◌+◌, ◌≤◌, ◌==◌, ◌&&◌, [], true, false, not, IfOk};
 ghost use Rattle.std.specs.BTreeMap.{is_at};
-ghost use Rattle.std.specs.List.{AllByRecursion, list_any};
+ghost use Rattle.std.specs.List.{AllByRecursion};
 ghost use Rattle.std.specs.List.Sorted.{IsStrictlySortedBy};
 ghost use Rattle.std.specs.Map.{keys_of};
 ghost use Rattle.ip_prefix.specs.Prefix.{PlainPrefix, contains, prefix_order};
@@ -14,8 +14,8 @@ use crate::zones::Zones;
 use ip_prefix::{Addr, Prefix};
 use prefix_index::PrefixTrie;
 use std::alloc::{AllocError, Global};
-use std::marker::{Brand, Model};
-use std::sync::ledger::{Blank, Ledger};
+use std::marker::Model;
+use std::sync::ledger::Ledger;
 use trie_keys::{Marked, Steps};
 
 /// Which zones of a policy have rules of a kind whose triggers are prefixes; and where the kind is listed, which have a rule of each
@@ -102,11 +102,12 @@ impl PrefixSummary {
 
     /// The zones that have a rule whose prefix contains the address; where the kind isn't listed, those that have rules of it. It takes
     /// no memory, and looks at no more than 129 nodes.
-    pub fn zones_for_addr(&self, addr: Addr) -> Zones
-        ensures { (n : ℕ) → has_zone result n ≡ may_fit (λ p. contains p addr) self.now n }
+    pub fn zones_for_addr<L: Ledger>(&self, addr: Addr, steps: &mut Steps<L>) -> Zones
+        ensures zones { (n : ℕ) → has_zone result n ≡ may_fit (λ p. contains p addr) self.now n }
+        ensures cost { steps.new ≤ steps.old + 129 }
     {
         if self.is_listed {
-            joined_from::<Brand>(Blank::new(1), &self.trie, addr)
+            self.trie.joined(addr, steps)
         } else {
             self.having
         }
@@ -220,18 +221,6 @@ impl PrefixSummary {
             trie,
         })
     }
-}
-
-// The union of the zones at all prefixes that contain the address, with a new ledger for the count of steps.
-fn joined_from<L: Ledger>(blank: Blank, trie: &PrefixTrie<Zones, bool>, addr: Addr) -> Zones
-    requires name { blank.name ≡ L.name }
-    requires parts { blank.parts ≡ L.parts }
-    requires some { 0 < blank.parts }
-    ensures { (n : ℕ) → has_zone result n
-        ≡ list_any (λ e. contains e.0 addr && has_zone e.1.value n) trie.now }
-{
-    let mut steps = Steps::<L>::start(blank);
-    trie.joined(addr, &mut steps)
 }
 
 // With these zones at the prefix, in place of this version.

@@ -5,7 +5,7 @@ use Rattle.policy_snapshot.proofs.candidates.candidates.Goals as goal
 
 pub returns : goal.returns
 returns c = λ n.
-    let name = c.zones_for_name-name.ensures n
+    let name = c.matching-name.ensures n
     ∙ (λ i. may_fit (λ p. (ap (matches p) c.requires.name ∙ c.case_does_not_matter.ensures.pattern p c.args.sight.now.name.now) i) c.args.summaries.now.qname n) in
     let last = c.union.ensures.union n ∙ (λ i. c.for_lists-servers.ensures n i || c.for_addresses-addresses.ensures n i) in
     let more = c.union-2.ensures.union n ∙ (λ i. c.for_records-records.ensures n i || last i) in
