@@ -16,9 +16,10 @@ use crate::notifies::{
 };
 use crate::primaries::{a_silent_primary_holds_nobody, an_order_ends_where_nobody_is};
 use crate::upstreams::{
-    a_late_answer_ends_what_is_remembered, a_silent_upstream_costs_the_time_once,
-    an_answer_has_the_id_of_its_question, an_upstream_that_closes_gets_one_question_each,
-    answers_come_in_any_order, many_askers_share_few_connections,
+    a_late_answer_ends_what_is_remembered, a_question_waits_for_no_late_answer,
+    a_silent_upstream_costs_the_time_once, an_answer_has_the_id_of_its_question,
+    an_upstream_that_closes_gets_one_question_each, answers_come_in_any_order,
+    many_askers_share_few_connections,
 };
 use edge_io::Wires;
 use rpz_net::NetWires;
@@ -52,6 +53,7 @@ enum Trial {
     ALateAnswerEndsWhatIsRemembered,
     ASilentUpstreamCostsTheTimeOnce,
     AnswersComeInAnyOrder,
+    AQuestionWaitsForNoLateAnswer,
     AnAnswerHasTheIdOfItsQuestion,
 }
 
@@ -102,6 +104,9 @@ fn attempt_over<R: Host, W: Wires>(rt: &R, alloc: Global, wires: &mut W, trial: 
             rt, alloc, wires,
         ),
         Trial::AnswersComeInAnyOrder => answers_come_in_any_order(rt, alloc, wires),
+        Trial::AQuestionWaitsForNoLateAnswer => {
+            a_question_waits_for_no_late_answer(rt, alloc, wires)
+        }
         Trial::AnAnswerHasTheIdOfItsQuestion => an_answer_has_the_id_of_its_question(
             rt, alloc, wires,
         ),
@@ -205,6 +210,11 @@ fn a_late_answer_ends_what_is_remembered_over_sockets(rt: HostRuntime) {
 #[test]
 fn a_silent_upstream_costs_the_time_once_over_sockets(rt: HostRuntime) {
     attempt(rt, rt.alloc(), Trial::ASilentUpstreamCostsTheTimeOnce)
+}
+
+#[test]
+fn a_question_waits_for_no_late_answer_over_sockets(rt: HostRuntime) {
+    attempt(rt, rt.alloc(), Trial::AQuestionWaitsForNoLateAnswer)
 }
 
 #[test]

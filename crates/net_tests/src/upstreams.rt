@@ -3,7 +3,7 @@
 use crate::asserts::assert_same;
 use crate::loopback::{Host, at};
 use edge_io::{Deadline, Link, Wires};
-use rpz_net::limits::UPSTREAM_CONNECTIONS;
+use rpz_net::limits::{UPSTREAM_CONNECTIONS, UPSTREAM_LATE_MILLISECONDS};
 use rpz_net::{NetWires, address_of};
 use std::alloc::Global;
 use std::io::{Read, Write};
@@ -95,6 +95,56 @@ pub fn answers_come_in_any_order<R: Host, W: Wires>(rt: &R, alloc: Global, wires
         rt,
         || answer_swapped(&listener).is_ok(),
         || both_are_echoed(rt, alloc, &mut one, &mut other),
+    );
+    assert!(rt; served);
+    assert_same(rt, answers, (true, true));
+}
+
+// One question is answered only behind the next one, which comes on another connection.
+fn answer_the_next_first(listener: &TcpListener) -> io::Result<()> {
+    let (mut one, _) = listener.accept()?;
+    let (mut first, mut second) = ([0; 10], [0; 10]);
+    one.read_exact(&mut first)?;
+    let (mut other, _) = listener.accept()?;
+    other.read_exact(&mut second)?;
+    other.write_all(&second)?;
+    one.write_all(&first)
+}
+
+// Whether a question comes back that is asked once the answer to the one before is late.
+fn is_echoed_later<R: time::Clock>(rt: &R, alloc: Global, link: &mut impl Link) -> bool {
+    thread::sleep(rt, Duration::from_millis(UPSTREAM_LATE_MILLISECONDS + 200));
+    is_echoed(alloc, link, b"another!")
+}
+
+fn both_are_echoed_apart<R: Threads + time::Clock + Sync, L: Link + Send>(
+    rt: &R,
+    alloc: Global,
+    one: &mut L,
+    other: &mut L,
+) -> (bool, bool) {
+    thread::join(
+        rt,
+        || is_echoed(alloc, one, b"question"),
+        || is_echoed_later(rt, alloc, other),
+    )
+}
+
+/// A question goes round a connection on which an answer is late.
+pub fn a_question_waits_for_no_late_answer<R: Host, W: Wires>(
+    rt: &R,
+    alloc: Global,
+    wires: &mut W,
+) {
+    let listener = rt.bind(address_of(at(29195))).expect(rt, "no error");
+    let (mut one, mut other) = (
+        wires.link(at(29195)).expect(rt, "no error"),
+        wires.link(at(29195)).expect(rt, "no error"),
+    );
+    let (served, answers) = thread::join(
+        rt,
+        || answer_the_next_first(&listener).is_ok(),
+        || both_are_echoed_apart(rt, alloc, &mut one, &mut other),
     );
     assert!(rt; served);
     assert_same(rt, answers, (true, true));

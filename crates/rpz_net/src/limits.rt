@@ -182,6 +182,10 @@ pub const UPSTREAM_CUT_MILLISECONDS: u64 = 100;
 /// Seconds for which it gets one question on each connection then.
 pub const UPSTREAM_SINGLE_SECONDS: u64 = 60;
 
+/// A connection to the upstream on which an answer is to come, and none has come for so long, takes a question only where no other has
+/// room: what is asked there may stand behind a question that the upstream is busy with.
+pub const UPSTREAM_LATE_MILLISECONDS: u64 = 500;
+
 /// Milliseconds that a question has then, where half of `UPSTREAM_ALL_CONNECTIONS` are taken, so that names which are never answered
 /// leave connections to others. It is what a query has while half of the askers are busy.
 pub const UPSTREAM_CROWDED_MILLISECONDS: u64 = 500;

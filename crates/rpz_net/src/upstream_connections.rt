@@ -6,7 +6,7 @@ use crate::limits::{
 };
 use crate::upstream_connection::UpstreamConnection;
 use crate::upstream_manner::UpstreamManner;
-use crate::upstream_questions::Closing;
+use crate::upstream_questions::{Closing, Load};
 use crate::wire_numbers::WireNumbers;
 use std::alloc::{AllocError, Global};
 use std::sync::atomic::{AtomicU64, Ordering};
@@ -70,10 +70,10 @@ pub(crate) struct UpstreamConnections {
 // What there is for one more question, by places among the open connections.
 #[derive(Clone, Copy)]
 struct Room {
-    // The first with few questions.
+    // The first with few questions of which no answer is late.
     few: Option<usize>,
-    // That with the fewest, of those that take one more, and how many it has.
-    least: Option<(usize, usize)>,
+    // The best of those that take one more: that with the fewest questions, and with none that is late, if there is one.
+    least: Option<(usize, Load)>,
     // How many have not stopped taking questions.
     taking: usize,
 }
@@ -116,7 +116,7 @@ impl UpstreamConnections {
             if let Some(load) = connection.load(rt, now) {
                 room.taking = room.taking.saturating_add(1);
                 if load.has_room {
-                    room.add(place, load.asked);
+                    room.add(place, load);
                 }
             }
         }
@@ -280,13 +280,13 @@ impl UpstreamConnections {
 }
 
 impl Room {
-    // The connection at this place takes one more question, and so many are not answered on it.
-    fn add(&mut self, place: usize, asked: usize) {
-        if self.few.is_none() && asked < UPSTREAM_FEW_QUESTIONS {
+    // The connection at this place takes one more question, and has these.
+    fn add(&mut self, place: usize, load: Load) {
+        if self.few.is_none() && load.asked < UPSTREAM_FEW_QUESTIONS && !load.is_late {
             self.few = Some(place);
         }
-        if self.least.is_none_or(|(_, least)| asked < least) {
-            self.least = Some((place, asked));
+        if self.least.is_none_or(|(_, least)| load.is_better(&least)) {
+            self.least = Some((place, load));
         }
     }
 

@@ -2,8 +2,8 @@
 
 use crate::answer_place::{Answer, AnswerPlace};
 use crate::limits::{
-    UPSTREAM_ABANDONED, UPSTREAM_CUT_MILLISECONDS, UPSTREAM_IDLE_SECONDS, UPSTREAM_QUESTIONS,
-    UPSTREAM_SILENCE_SECONDS,
+    UPSTREAM_ABANDONED, UPSTREAM_CUT_MILLISECONDS, UPSTREAM_IDLE_SECONDS,
+    UPSTREAM_LATE_MILLISECONDS, UPSTREAM_QUESTIONS, UPSTREAM_SILENCE_SECONDS,
 };
 use crate::upstream_window::UpstreamWindow;
 use crate::wire_numbers::WireNumbers;
@@ -27,11 +27,24 @@ struct Question {
     answered_before: u64,
 }
 
-/// How many questions of a connection are not answered, and whether it takes one more now.
+/// How many questions of a connection are not answered, whether it takes one more now, and whether an answer is late.
 #[derive(Clone, Copy)]
 pub(crate) struct Load {
     pub(crate) asked: usize,
     pub(crate) has_room: bool,
+    /// An answer is to come, and none has come for `UPSTREAM_LATE_MILLISECONDS`.
+    pub(crate) is_late: bool,
+}
+
+impl Load {
+    /// Whether one more question is answered sooner here than there, as far as can be told.
+    pub(crate) fn is_better(&self, other: &Load) -> bool {
+        if self.is_late == other.is_late {
+            self.asked < other.asked
+        } else {
+            other.is_late
+        }
+    }
 }
 
 /// How a connection was closed.
@@ -93,6 +106,12 @@ impl UpstreamQuestions {
         !self.questions.is_empty() && is_past(self.heard, UPSTREAM_SILENCE_SECONDS, now)
     }
 
+    // Whether an answer is to come and none has come for a while.
+    fn is_late(&self, now: Instant) -> bool {
+        let since = now.saturating_duration_since(self.heard);
+        !self.questions.is_empty() && since >= Duration::from_millis(UPSTREAM_LATE_MILLISECONDS)
+    }
+
     /// How many are not answered; `None` where no more questions are taken: it is closed or was retired, no answer came for too long,
     /// or too many were given up.
     pub(crate) fn load(&self, now: Instant) -> Option<Load> {
@@ -106,7 +125,11 @@ impl UpstreamQuestions {
             return None;
         }
         let has_room = self.awaited < UPSTREAM_QUESTIONS && self.in_turn() < self.window.most();
-        Some(Load { asked, has_room })
+        Some(Load {
+            asked,
+            has_room,
+            is_late: self.is_late(now),
+        })
     }
 
     // How many stand behind the newest one that was answered.
