@@ -1,15 +1,17 @@
 #!/usr/bin/env python3
 """Runs a server under load for long, and says whether anything was lost, refused or grew.
 
-    python3 tools/soak.py PROGRAM [--seconds N] [--rate N] [--workers N] [--port N]
+    python3 tools/soak.py PROGRAM [--seconds N] [--rate N] [--rules N] [--changes N] [--workers N] [--port N]
 
-PROGRAM is `rpz`. For so many seconds (3,600) dnsperf asks so many queries a second (50,000), of which a tenth are misses; a primary makes
-ten changes a second, each with a NOTIFY and taken by an incremental transfer; and 100 connections come and go, each with a few queries.
-The upstream is an Unbound. A line is printed each minute: what was asked and lost so far (and how much of that the system dropped in front
-of the server; what else is missing was lost on its way back, or not answered within 5 seconds, as where the machine stood still), the
-resident memory, the descriptors, and the longest time for which a thread didn't run that wanted to. At the
-end: the same, how many transfers were taken and refused, and whether memory and descriptors stayed flat. The status is 0 where nothing
-was lost or refused and neither grew. Wanted: dnsperf and unbound (packages of Debian). Nothing else should run meanwhile.
+PROGRAM is `rpz`. For so many seconds (3,600) dnsperf asks so many queries a second (50,000), of which a tenth are misses; a primary with
+so many rules (1,000) makes so many changes a second (10), each with a NOTIFY and taken by an incremental transfer; and 100 connections
+come and go, each with a few queries. The upstream is an Unbound. A line is printed each minute, or each tenth of a shorter time: what was
+asked and lost so far (and how much of that the system dropped in front of the server; what else is missing was lost on its way back, or
+not answered within 5 seconds, as where the machine stood still), and the longest time for which a thread didn't run that wanted to; also
+the resident memory and the descriptors, while no connection of these is open. At the end: the same, how many transfers were taken and
+refused, and memory and descriptors behind the first tenth and at the end. The status is 0 where nothing was lost or refused, memory grew
+by less than 2 % or 1 MiB, and no descriptor more was open. Wanted: dnsperf and unbound (packages of Debian). Nothing else should run
+meanwhile.
 """
 
 import argparse
@@ -27,12 +29,11 @@ sys.path.insert(0, str(pathlib.Path(__file__).resolve().parent / "attack"))
 import peers
 import wire
 
-HITS, PASSES, RULES = 1_000, 4_000, 1_000
+HITS, PASSES = 1_000, 4_000
 CONNECTIONS = 100
-CHANGES_A_SECOND = 10
 KEPT_CHANGES = 200
-# what memory may grow by behind the first tenth of the time, and descriptors
-GROWS_BYTES, GROWS_DESCRIPTORS = 16 << 20, 150
+# what memory may grow by behind the first tenth of the time: a part of it, or so much
+GROWS_PART, GROWS_BYTES = 0.02, 1 << 20
 
 
 class ChangingPrimary(peers.Primary):
@@ -117,19 +118,33 @@ class Comers:
 
     def __init__(self, port):
         self.port, self.is_over = port, False
-        self.done = self.lost = 0
+        self.done = self.lost = self.open = 0
         self.lock = threading.Lock()
+        self.may_come = threading.Event()
+        self.may_come.set()
         self.threads = [threading.Thread(target=self.come_and_go, args=(n,), daemon=True) for n in range(CONNECTIONS)]
         for thread in self.threads:
             thread.start()
 
     def come_and_go(self, number):
         while not self.is_over:
+            self.may_come.wait()
+            with self.lock:
+                self.open += 1
             well = self.one(number)
             with self.lock:
+                self.open -= 1
                 self.done += 1
                 self.lost += not well
             time.sleep(0.5)
+
+    def pause(self):
+        """Lets no more come, and waits until all have gone."""
+        self.may_come.clear()
+        end = time.monotonic() + 20
+        while self.open and time.monotonic() < end:
+            time.sleep(0.05)
+        time.sleep(0.5)
 
     def one(self, number):
         try:
@@ -146,8 +161,8 @@ class Comers:
 
 
 class Changes:
-    def __init__(self, primary, port):
-        self.primary, self.port, self.is_over = primary, port, False
+    def __init__(self, primary, port, a_second):
+        self.primary, self.port, self.a_second, self.is_over = primary, port, a_second, False
         self.unanswered = 0
         self.thread = threading.Thread(target=self.change, daemon=True)
         self.thread.start()
@@ -160,7 +175,7 @@ class Changes:
                 self.primary.notify(self.port)
             except OSError:
                 self.unanswered += 1
-            time.sleep(max(0.0, begun + 1 / CHANGES_A_SECOND - time.monotonic()))
+            time.sleep(max(0.0, begun + 1 / self.a_second - time.monotonic()))
 
 
 def dnsperf(path, port, seconds, rate):
@@ -200,15 +215,17 @@ class Pauses:
         return longest
 
 
-def watch(server, options, path):
-    """Asks in parts of a minute; what was sent, lost and seen of memory and descriptors."""
+def watch(server, options, path, comers):
+    """Asks in parts of a minute, or of a tenth of the time; what was sent, lost and seen of memory and descriptors."""
     sent = lost = 0
     seen, pauses = [], Pauses()
     end = time.monotonic() + options.seconds
     while (left := end - time.monotonic()) >= 1:
-        text = dnsperf(path, options.port, int(min(60, left)), options.rate)
+        text = dnsperf(path, options.port, max(1, int(min(60, options.seconds / 10, left))), options.rate)
         sent, lost = sent + figure(text, "Queries sent"), lost + figure(text, "Queries lost")
+        comers.pause()
         seen.append((server.resident(), server.descriptors()))
+        comers.may_come.set()
         print(f"{sent:>12,} asked, {lost} lost ({dropped(options.port)} before the server read them), {seen[-1][0] >> 20} MiB resident, "
               f"{seen[-1][1]} descriptors, longest pause of the machine {1000 * pauses.take():.0f} ms", flush=True)
     return sent, lost, seen
@@ -219,6 +236,8 @@ def main():
     parser.add_argument("program")
     parser.add_argument("--seconds", type=int, default=3600)
     parser.add_argument("--rate", type=int, default=50_000)
+    parser.add_argument("--rules", type=int, default=1_000)
+    parser.add_argument("--changes", type=float, default=10)
     parser.add_argument("--workers", type=int, default=4)
     parser.add_argument("--port", type=int, default=24000)
     options = parser.parse_args()
@@ -228,13 +247,13 @@ def main():
         write_files(folder, port + 1)
         path = os.environ["PATH"] + ":/usr/sbin"
         unbound = subprocess.Popen(["unbound", "-d", "-c", str(folder / "unbound.conf")], env={**os.environ, "PATH": path})
-        primary = ChangingPrimary(port + 2, [f"h{n}.example" for n in range(RULES)])
+        primary = ChangingPrimary(port + 2, [f"h{n}.example" for n in range(options.rules)])
         server = peers.Server(options.program, port, port + 1, [(peers.ZONE, port + 2)], options.workers)
         try:
             server.wait_for("h0.example")
             dnsperf(folder / "queries", port, 5, options.rate)
-            changes, comers = Changes(primary, port), Comers(port)
-            sent, lost, seen = watch(server, options, folder / "queries")
+            changes, comers = Changes(primary, port, options.changes), Comers(port)
+            sent, lost, seen = watch(server, options, folder / "queries", comers)
             changes.is_over = comers.is_over = True
             changes.thread.join(10)
             for thread in comers.threads:
@@ -250,11 +269,12 @@ def main():
     taken = sum(line.startswith("taken") for line in lines)
     refused = [line for line in lines if line.startswith("refused")]
     first, last = seen[len(seen) // 10], seen[-1]
-    grew = last[0] - first[0] > GROWS_BYTES or last[1] - first[1] > GROWS_DESCRIPTORS
+    grew = last[0] - first[0] > max(GROWS_BYTES, GROWS_PART * first[0]) or last[1] > first[1]
     print(f"{sent:,} queries over UDP, {lost} lost; {comers.done:,} connections, {comers.lost} without all their replies; "
           f"{primary.serial - 1:,} changes, {changes.unanswered} NOTIFYs without a reply; {taken:,} transfers taken "
           f"({primary.in_steps:,} in steps, {primary.whole} whole), {len(refused)} refused; the last change was in force; memory "
-          f"{first[0] >> 20} to {last[0] >> 20} MiB, descriptors {first[1]} to {last[1]}")
+          f"{first[0] / 2 ** 20:.1f} to {last[0] / 2 ** 20:.1f} MiB ({100 * (last[0] / first[0] - 1):+.1f} %), descriptors {first[1]} to "
+          f"{last[1]}")
     for line in refused[:5]:
         print("  ", line)
     os._exit(1 if lost or comers.lost or refused or changes.unanswered or grew else 0)
