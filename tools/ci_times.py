@@ -3,8 +3,8 @@
 
 Start it beside `rt ci`, which the process of the number PID is or has started; it looks at that run's processes until PID has ended,
 or it is told to end (SIGTERM), and then prints a table in the form of docs/MEASUREMENTS.md: for each crate the minutes of processor
-time of its proofs, of its tests and of its must-fail edits, and the sums; or with --steps how long it took and the N dearest of
-these. What a process used between the last look and its end is missed, so the numbers are a little low.
+time of its proofs, of its tests and of its must-fail edits, and the sums; with --steps the N dearest of these, too; and how long it
+took. What a process used between the last look and its end is missed, so the numbers are a little low.
 """
 import argparse
 import collections
@@ -96,11 +96,11 @@ def dearest(seen, count):
 def main():
     reader = argparse.ArgumentParser(description=__doc__.split("\n\n")[0])
     reader.add_argument("--every", type=float, default=0.5, metavar="SECONDS")
-    reader.add_argument("--steps", type=int, metavar="N")
+    reader.add_argument("--steps", type=int, default=0, metavar="N")
     reader.add_argument("run", metavar="PID", help="the process of `rt ci`, or one that has started it")
     words = reader.parse_args()
     seen, passed = watch(words.every, words.run)
-    print(*(dearest(seen, words.steps) if words.steps else table(seen)), sep="\n")
+    print(*table(seen), *dearest(seen, words.steps), sep="\n")
     used = sum(seconds for _, _, seconds in seen) / 60
     print(f"{passed / 60:.1f} minutes on {os.cpu_count()} processors, {used:.1f} minutes of processor time", flush=True)
 
