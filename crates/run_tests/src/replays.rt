@@ -19,11 +19,19 @@ const SCRIPT: &[u8] = b"query 0 udp 192.0.2.7 -\nquery 1 udp 192.0.2.7 abcd11000
 // Their outputs: lines of 9 and 33 bytes.
 const OUTPUT: &[u8] = b"silent 0\nreply 1 abcd91840000000000000000\n";
 
-// The status and the output of the script, read 10 bytes and written 5 bytes at a time, where these reads and writes fail.
-fn run_failing<
+// A zone with one rule, and a query for the name that it denies, in 420 bytes.
+const RULE_SCRIPT: &[u8] =
+    b"zone rpz.example\nxfer 1 009b0000840000010003000000000372707a076578616d706c650000fc00010372707a076578616d706c6500000600010000003c001600000000000100000e1000000258000151800000003c03626164076578616d706c650372707a076578616d706c6500000500010000003c0001000372707a076578616d706c6500000600010000003c001600000000000100000e1000000258000151800000003c\nquery 0 udp 192.0.2.7 12340100000100000000000003424144076578616d706c650000010001\n";
+
+// Their outputs, in 169 bytes.
+const RULE_OUTPUT: &[u8] =
+    b"taken 1 1 1\nreply 0 12348183000100000000000103424144076578616d706c6500000100010372707a076578616d706c6500000600010000003c001600000000000100000e1000000258000151800000003c\n";
+
+// The status and the output of a script, read 10 bytes and written 5 bytes at a time, where these reads and writes fail.
+fn run_script<
     R: Abort + Threads + Wait + Clock + RandomSource + Copy + Drop + Send + Sync + 'static,
->(rt: R, alloc: Global, reads: Vec<u64>, writes: Vec<u64>) -> (Status, Vec<u8>) {
-    let mut source = ListSource::new(SCRIPT.to_vec(alloc).expect(&rt, "no error"), 10, reads);
+>(rt: R, alloc: Global, script: &[u8], reads: Vec<u64>, writes: Vec<u64>) -> (Status, Vec<u8>) {
+    let mut source = ListSource::new(script.to_vec(alloc).expect(&rt, "no error"), 10, reads);
     let mut sink = ListSink::new(Vec::new(alloc), 5, writes);
     let status = run_alone(
         rt,
@@ -34,6 +42,13 @@ fn run_failing<
     )
     .expect(&rt, "no error");
     (status, sink.bytes)
+}
+
+// The same of the script without a zone.
+fn run_failing<
+    R: Abort + Threads + Wait + Clock + RandomSource + Copy + Drop + Send + Sync + 'static,
+>(rt: R, alloc: Global, reads: Vec<u64>, writes: Vec<u64>) -> (Status, Vec<u8>) {
+    run_script(rt, alloc, SCRIPT, reads, writes)
 }
 
 // Each read fails in turn, that at the end too: the lines whose line feed was read are answered.
@@ -60,6 +75,39 @@ fn each_write_fails(rt: HostRuntime) {
     }
 }
 
+// Whether what was written of the script with a zone begins its outputs.
+fn begins_the_outputs(out: &[u8]) -> bool {
+    RULE_OUTPUT.get(..out.len()) == Some(out)
+}
+
+// Each of the 43 reads of the script with a zone fails in turn.
+#[test]
+fn each_read_over_a_zone_fails(rt: HostRuntime) {
+    let alloc = rt.alloc();
+    for call in 0..43u64 {
+        let failing = vec![in alloc; call].expect(&rt, "no error");
+        let (status, out) = run_script(rt, alloc, RULE_SCRIPT, failing, Vec::new(alloc));
+        assert!(rt;
+            status == Status::ReadFault && begins_the_outputs(&out),
+            "at {call}"
+        );
+    }
+}
+
+// Each of its 35 writes.
+#[test]
+fn each_write_over_a_zone_fails(rt: HostRuntime) {
+    let alloc = rt.alloc();
+    for call in 0..35u64 {
+        let failing = vec![in alloc; call].expect(&rt, "no error");
+        let (status, out) = run_script(rt, alloc, RULE_SCRIPT, Vec::new(alloc), failing);
+        assert!(rt;
+            status == Status::WriteFault && begins_the_outputs(&out),
+            "at {call}"
+        );
+    }
+}
+
 #[test]
 fn a_script_in_memory_is_replayed(rt: HostRuntime) {
     // a law of its lines, which does nothing
@@ -68,6 +116,9 @@ fn a_script_in_memory_is_replayed(rt: HostRuntime) {
     let (status, out) = run_failing(rt, alloc, Vec::new(alloc), Vec::new(alloc));
     assert_same(&rt, status, Status::Done);
     assert_same(&rt, out.as_slice(), OUTPUT);
+    let (status, out) = run_script(rt, alloc, RULE_SCRIPT, Vec::new(alloc), Vec::new(alloc));
+    assert_same(&rt, status, Status::Done);
+    assert_same(&rt, out.as_slice(), RULE_OUTPUT);
     let got = replayed(alloc, SCRIPT.to_vec(alloc).expect(&rt, "no error"))
         .ok()
         .expect(&rt, "a transcript");
