@@ -6,7 +6,7 @@
 
    With COUNT_FILE=NAME in the environment the numbers stand in that file, six of eight bytes each in the order of the line at the end, all
    the while that the program runs; a program that ends without the C library says nothing at its end. With REFUSE=N the call of this
-   number, from 1 on, gets no memory.
+   number, from 1 on, gets no memory, and with REFUSE_RUN=K beside it so many from that one on.
 
    Each call is counted, whether it gets memory or not, but for free of no memory. The memory is that of the GNU C library,
    by the names that it keeps for this. */
@@ -32,20 +32,32 @@ static atomic_ulong own[KINDS];
 static atomic_ulong *calls = own;
 static atomic_ulong asked; /* for memory, where one call is to be refused */
 static unsigned long refused; /* the number of that call, or 0 */
+static unsigned long run = 1; /* so many are refused from it on */
 
-/* Counts a call, and says whether it is the one that is refused. */
+/* Counts a call, and says whether it is one that is refused. */
 static int count(int kind)
 {
+    unsigned long number;
+
     atomic_fetch_add_explicit(&calls[kind], 1, memory_order_relaxed);
-    return refused != 0 && kind != frees && atomic_fetch_add_explicit(&asked, 1, memory_order_relaxed) + 1 == refused;
+    if (refused == 0 || kind == frees)
+        return 0;
+    number = atomic_fetch_add_explicit(&asked, 1, memory_order_relaxed) + 1;
+    if (number < refused || number - refused >= run)
+        return 0;
+    errno = ENOMEM; /* as the C library does, which looks for it itself */
+    return 1;
 }
 
 __attribute__((constructor)) static void refuse(void)
 {
     const char *number = getenv("REFUSE");
+    const char *more = getenv("REFUSE_RUN");
 
     if (number != NULL)
         refused = strtoul(number, NULL, 10);
+    if (more != NULL)
+        run = strtoul(more, NULL, 10);
 }
 
 __attribute__((constructor)) static void share(void)

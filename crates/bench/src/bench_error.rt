@@ -3,12 +3,14 @@
 use crate::difference::Difference;
 use axfr_apply::TransferError;
 use dns_message::MessageError;
-use dns_name::TextError;
+use dns_name::{JoinError, NameError, TextError};
+use dns_record::RecordError;
 use edge_io::{FrameError, SinkError};
 use rpz_core::CoreError;
-use script_codec::UnnumberedError;
+use script_codec::{LineError, UnnumberedError};
 use std::alloc::{AllocError, AllocFailed};
 use std::io;
+use trigger_codec::TriggerError;
 use zone_rows::ApplyError;
 
 /// Why a bench ended early.
@@ -44,6 +46,13 @@ pub enum BenchError {
     /// A message is too long to be written behind its length.
     Long,
     Write(SinkError),
+    Name(NameError),
+    Join(JoinError),
+    Record(RecordError),
+    Trigger(TriggerError),
+    Numbered(LineError),
+    /// There was no memory to show what a call made of the value that it changes.
+    NotShown,
     /// A thread could not be made, a line not be written, or no seed be drawn.
     System,
 }
@@ -111,5 +120,58 @@ impl From<SinkError> for BenchError {
 impl From<io::Error> for BenchError {
     fn from(_error: io::Error) -> Self {
         BenchError::System
+    }
+}
+
+impl From<NameError> for BenchError {
+    fn from(error: NameError) -> Self {
+        BenchError::Name(error)
+    }
+}
+
+impl From<JoinError> for BenchError {
+    fn from(error: JoinError) -> Self {
+        BenchError::Join(error)
+    }
+}
+
+impl From<RecordError> for BenchError {
+    fn from(error: RecordError) -> Self {
+        BenchError::Record(error)
+    }
+}
+
+impl From<TriggerError> for BenchError {
+    fn from(error: TriggerError) -> Self {
+        BenchError::Trigger(error)
+    }
+}
+
+impl From<LineError> for BenchError {
+    fn from(error: LineError) -> Self {
+        BenchError::Numbered(error)
+    }
+}
+
+impl BenchError {
+    /// Whether an allocation failed.
+    pub fn is_out_of_memory(&self) -> bool {
+        match self {
+            BenchError::OutOfMemory => true,
+            BenchError::Origin(error) => *error == TextError::OutOfMemory,
+            BenchError::Frame(error) => *error == FrameError::OutOfMemory,
+            BenchError::Transfer(error) => *error == TransferError::OutOfMemory,
+            BenchError::Apply(error) => *error == ApplyError::OutOfMemory,
+            BenchError::Line(error) => *error == UnnumberedError::OutOfMemory,
+            BenchError::Core(error) => *error == CoreError::OutOfMemory,
+            BenchError::Message(error) => *error == MessageError::OutOfMemory,
+            BenchError::Write(error) => *error == SinkError::OutOfMemory,
+            BenchError::Name(error) => *error == NameError::OutOfMemory,
+            BenchError::Join(error) => *error == JoinError::OutOfMemory,
+            BenchError::Record(error) => *error == RecordError::OutOfMemory,
+            BenchError::Trigger(error) => *error == TriggerError::OutOfMemory,
+            BenchError::Numbered(error) => *error == LineError::OutOfMemory,
+            _ => false,
+        }
     }
 }

@@ -17,6 +17,7 @@ pub struct Plan {
 pub enum Bench {
     Transfers,
     Edits,
+    Calls,
     Queries(Vec<Name>),
     Workers(Plan),
 }
@@ -59,6 +60,7 @@ pub fn read_words(alloc: Global, words: &[String]) -> Result<Bench, BenchError> 
     };
     match name.as_str() {
         "transfers" => Ok(Bench::Transfers),
+        "calls" => Ok(Bench::Calls),
         "edits" => Ok(Bench::Edits),
         "queries" => Ok(Bench::Queries(read_origins(alloc, others)?)),
         "workers" => Ok(Bench::Workers(read_plan(others)?)),

@@ -1,0 +1,54 @@
+//! Calls of a load run.
+
+use crate::bench_error::BenchError;
+use crate::sheet::Sheet;
+use load_gen::{Load, Summary, answer_all, make, write_summary};
+use std::alloc::Global;
+use std::thread::Threads;
+
+/// The names of these calls.
+pub const NAMES: &str = "load_gen::make\n\
+    load_gen::answer_all\n\
+    load_gen::write_summary\n";
+
+const SUMMARY: Summary = Summary {
+    rows: 1,
+    nxdomain: 2,
+    nodata: 3,
+    other: 4,
+    mark: 5,
+};
+
+// So few rules and queries that a run is short.
+fn make_load(alloc: Global) -> Result<Load, BenchError> {
+    Ok(make(alloc, 7, 12, 4)?)
+}
+
+fn once<R: Threads + Sync>(
+    rt: &R,
+    alloc: Global,
+    sheet: &mut Sheet,
+    call: &str,
+    load: &Load,
+) -> Result<(), BenchError> {
+    match call {
+        "load_gen::make" => sheet.show(&make_load(alloc)?),
+        "load_gen::answer_all" => sheet.show(&answer_all(rt, alloc, load, 1)?),
+        "load_gen::write_summary" => sheet.show(&write_summary(alloc, &SUMMARY)?),
+        _ => Err(BenchError::Words),
+    }
+}
+
+/// Does the call of this name twice.
+pub fn twice<R: Threads + Sync>(
+    rt: &R,
+    alloc: Global,
+    sheet: &mut Sheet,
+    call: &str,
+) -> Result<(), BenchError> {
+    let load = make_load(alloc)?;
+    let first = once(rt, alloc, sheet, call, &load);
+    sheet.settle(first)?;
+    let second = once(rt, alloc, sheet, call, &load);
+    sheet.settle(second)
+}

@@ -1,0 +1,129 @@
+//! Calls of zones that are plain lists of rows, of steps, and of sets of keys.
+
+ghost use Rattle.std.specs.Prelude.{◌≡◌, true, OnErr, OnOk};
+ghost use Rattle.dns_record.specs.Serial.{is_newer};
+ghost use Rattle.zone_rows.specs.Steps.{ends_at};
+
+use crate::bench_error::BenchError;
+use crate::samples::{DENIED, DROPPED, KINDS, origin, rows, soa, step, steps, whole};
+use crate::sheet::Sheet;
+use crate::shown::{show_rows, show_steps};
+use crate::tried::{Tried, changed_twice};
+use std::alloc::Global;
+use zone_rows::{Content, KeySet, PlainZone, Steps, Transfer};
+
+/// The names of these calls.
+pub const NAMES: &str = "zone_rows::PlainZone::apply::whole\n\
+    zone_rows::PlainZone::apply::steps\n\
+    zone_rows::Steps::push\n\
+    zone_rows::KeySet::insert\n";
+
+// The zone of the serial 1, with rows of all kinds.
+fn make_zone(alloc: Global) -> Result<PlainZone, BenchError> {
+    let origin = origin(alloc)?;
+    let soa = soa(alloc, 1)?;
+    let rows = rows(alloc, KINDS)?;
+    Ok(PlainZone {
+        origin,
+        content: Some(Content { soa, rows }),
+    })
+}
+
+// A transfer of which a row repeats, or steps.
+fn transfer(alloc: Global, call: &str) -> Result<Transfer, BenchError> {
+    match call {
+        "zone_rows::PlainZone::apply::whole" => whole(alloc, 2, &[DENIED, DROPPED, DENIED]),
+        "zone_rows::PlainZone::apply::steps" => steps(alloc),
+        _ => Err(BenchError::Words),
+    }
+}
+
+fn show_zone(sheet: &mut Sheet, zone: &PlainZone) -> Result<(), BenchError> {
+    sheet.show(&zone.origin)?;
+    match &zone.content {
+        Some(content) => {
+            sheet.show(&content.soa)?;
+            show_rows(sheet, &content.rows)
+        }
+        None => sheet.say("nothing"),
+    }
+}
+
+fn apply(alloc: Global, sheet: &mut Sheet, call: &str, zone: &PlainZone) -> Result<(), BenchError> {
+    let transfer = transfer(alloc, call)?;
+    let next = zone.apply(alloc, transfer)?;
+    show_zone(sheet, &next)
+}
+
+fn apply_twice(alloc: Global, sheet: &mut Sheet, call: &str) -> Result<(), BenchError> {
+    let zone = make_zone(alloc)?;
+    let first = apply(alloc, sheet, call, &zone);
+    sheet.settle(first)?;
+    let second = apply(alloc, sheet, call, &zone);
+    sheet.settle(second)
+}
+
+// Puts a step between these serials at the end.
+fn push(alloc: Global, steps: &mut Steps, from: u32, to: u32) -> Result<(), BenchError>
+    requires follows { ends_at steps.old from ≡ true }
+    requires newer { is_newer from to ≡ true }
+    ensures ok { OnOk result (ends_at steps.new to ≡ true) }
+    ensures err { OnErr result (steps.new ≡ steps.old) }
+{
+    let step = step(alloc, from, to)?;
+    if step.old.serial != from || step.new.serial != to {
+        return Err(BenchError::Empty);
+    }
+    steps.push(step)?;
+    Ok(())
+}
+
+// What the push that follows on a push came to.
+fn settle_second(
+    sheet: &mut Sheet,
+    steps: &Steps,
+    done: Result<(), BenchError>,
+) -> Result<(), BenchError> {
+    if done.is_ok() {
+        show_steps(sheet, steps)?;
+    }
+    sheet.settle(done)
+}
+
+// The second push goes on where the steps end: at the serial 2, or, where the first one was refused, at none.
+fn push_twice(alloc: Global, sheet: &mut Sheet) -> Result<(), BenchError> {
+    let mut steps = Steps::new(alloc);
+    let second = match push(alloc, &mut steps, 1, 2) {
+        Ok(()) => {
+            settle_second(sheet, &steps, Ok(()))?;
+            push(alloc, &mut steps, 2, 3)
+        }
+        Err(error) => {
+            sheet.settle(Err(error))?;
+            push(alloc, &mut steps, 1, 2)
+        }
+    };
+    settle_second(sheet, &steps, second)?;
+    sheet.changes()
+}
+
+// Whether the key is new, and whether it is there then.
+impl Tried for KeySet {
+    fn once(&mut self, alloc: Global, sheet: &mut Sheet, _call: &str) -> Result<(), BenchError> {
+        let is_new = self.insert(b"key".to_vec(alloc)?)?;
+        sheet.show(&is_new)?;
+        sheet.show(&self.contains(b"key"))
+    }
+}
+
+/// Does the call of this name twice.
+pub fn twice(alloc: Global, sheet: &mut Sheet, call: &str) -> Result<(), BenchError> {
+    match call {
+        "zone_rows::Steps::push" => push_twice(alloc, sheet),
+        "zone_rows::KeySet::insert" => {
+            let mut keys = KeySet::new(alloc);
+            changed_twice(alloc, sheet, call, &mut keys)
+        }
+        _ => apply_twice(alloc, sheet, call),
+    }
+}

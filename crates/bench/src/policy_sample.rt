@@ -1,0 +1,116 @@
+//! A policy of two zones with rules of the same kinds, and what of it is shown.
+
+use crate::bench_error::BenchError;
+use crate::facts_sample::facts;
+use crate::samples::{KINDS, LOCAL_QUERY, QUERY, name, origin, query, rows, soa, whole};
+use crate::sheet::Sheet;
+use crate::shown::show_zone;
+use dns_message::Query;
+use policy_snapshot::Snapshot;
+use rpz_precedence::Hit;
+use std::alloc::Global;
+use upstream_link::Facts;
+use zone_rows::Transfer;
+
+/// Rows of the zone `two.example`: `bad.example` CNAME `*.`, `gone.example` CNAME `.`, the client 198.51.100.7, and the name server
+/// `ns.test`.
+const OTHERS: &[&[u8]] = &[
+    b"\x03bad\x07example\x03two\x07example\0\0\x05\0\x01\0\0\0<\0\x03\x01*\0",
+    b"\x04gone\x07example\x03two\x07example\0\0\x05\0\x01\0\0\0<\0\x01\0",
+    b"\x0232\x017\x03100\x0251\x03198\x0drpz-client-ip\x03two\x07example\0\0\x05\0\x01\0\0\0<\0\x01\0",
+    b"\x02ns\x04test\x0brpz-nsdname\x03two\x07example\0\0\x05\0\x01\0\0\0\x01\0\x03\x01*\0",
+];
+
+/// The two zones, with nothing loaded.
+pub fn empty_policy(alloc: Global) -> Result<Snapshot, BenchError> {
+    let first = origin(alloc)?;
+    let second = name(alloc, b"two.example")?;
+    Ok(Snapshot::start(alloc, &[first, second])?)
+}
+
+/// The policy after a transfer of the zone of a number.
+pub fn applied(
+    alloc: Global,
+    policy: &Snapshot,
+    number: u32,
+    transfer: Transfer,
+) -> Result<Snapshot, BenchError> {
+    if policy.zone(number).is_none() {
+        return Err(BenchError::NotTaken);
+    }
+    Ok(policy.apply(alloc, number, transfer)?)
+}
+
+/// A whole transfer of the second zone.
+pub fn second_transfer(alloc: Global) -> Result<Transfer, BenchError> {
+    let rows = rows(alloc, OTHERS)?;
+    let soa = soa(alloc, 1)?;
+    Ok(Transfer::Whole { soa, rows })
+}
+
+/// The policy where the first zone is loaded, with rules of all kinds.
+pub fn policy(alloc: Global) -> Result<Snapshot, BenchError> {
+    let empty = empty_policy(alloc)?;
+    let transfer = whole(alloc, 1, KINDS)?;
+    applied(alloc, &empty, 1, transfer)
+}
+
+/// The zone and the action of a hit.
+pub fn show_hit(sheet: &mut Sheet, hit: &Option<Hit<'_>>) -> Result<(), BenchError> {
+    match hit {
+        None => sheet.say("none "),
+        Some(hit) => {
+            sheet.show(&hit.zone)?;
+            sheet.show(&hit.action)?;
+            sheet.show(&hit.soa)
+        }
+    }
+}
+
+// The best hit of a query by what is known.
+fn show_best(
+    alloc: Global,
+    sheet: &mut Sheet,
+    policy: &Snapshot,
+    query: &Query,
+    facts: &Facts,
+) -> Result<(), BenchError> {
+    let hit = policy.best(alloc, query, facts, 0, &query.question.name)?;
+    show_hit(sheet, &hit)
+}
+
+// The best hits of two queries by what is known.
+fn show_hits(
+    alloc: Global,
+    sheet: &mut Sheet,
+    policy: &Snapshot,
+    facts: &Facts,
+) -> Result<(), BenchError> {
+    for message in [LOCAL_QUERY, QUERY] {
+        let query = query(alloc, message)?;
+        show_best(alloc, sheet, policy, &query, facts)?;
+    }
+    Ok(())
+}
+
+// The zone of a number.
+fn show_one(
+    alloc: Global,
+    sheet: &mut Sheet,
+    policy: &Snapshot,
+    number: u32,
+) -> Result<(), BenchError> {
+    match policy.zone(number) {
+        Some(zone) => show_zone(alloc, sheet, zone),
+        None => Ok(()),
+    }
+}
+
+/// How many transfers the policy has taken, its zones, and the best hits of two queries.
+pub fn show_policy(alloc: Global, sheet: &mut Sheet, policy: &Snapshot) -> Result<(), BenchError> {
+    sheet.show(&policy.accepted())?;
+    show_one(alloc, sheet, policy, 1)?;
+    show_one(alloc, sheet, policy, 2)?;
+    let facts = facts(alloc)?;
+    show_hits(alloc, sheet, policy, &facts)
+}

@@ -1,0 +1,95 @@
+//! Calls of tries of prefixes.
+
+use crate::bench_error::BenchError;
+use crate::sheet::Sheet;
+use ip_prefix::{Addr, Prefix};
+use prefix_index::PrefixTrie;
+use std::alloc::{AllocError, Global};
+use trie_keys::Marked;
+
+/// The names of these calls.
+pub const NAMES: &str = "prefix_index::PrefixTrie::of\n\
+    prefix_index::PrefixTrie::inserted\n\
+    prefix_index::PrefixTrie::removed\n\
+    prefix_index::PrefixTrie::with\n\
+    prefix_index::PrefixTrie::without\n\
+    prefix_index::PrefixTrie::rebuilt\n\
+    prefix_index::PrefixTrie::share\n\
+    prefix_index::PrefixTrie::entries\n";
+
+/// A trie of numbers.
+type Trie = PrefixTrie<u32, bool>;
+
+const VALUE: Marked<u32, bool> = Marked {
+    value: 7,
+    mark: true,
+};
+
+// 192.0.2.0/24 and one address of it, 192.0.3.0/24, and 2001:db8::/32.
+fn near() -> Prefix {
+    Prefix::of(Addr::V4(0xc000_0200), 24)
+}
+
+fn inside() -> Prefix {
+    Prefix::of(Addr::V4(0xc000_0209), 32)
+}
+
+fn beside() -> Prefix {
+    Prefix::of(Addr::V4(0xc000_0300), 24)
+}
+
+fn long() -> Prefix {
+    Prefix::of(Addr::V6(0x2001_0db8_0000_0000_0000_0000_0000_0000), 32)
+}
+
+// Each entry of a trie, with its value.
+fn show_trie(alloc: Global, sheet: &mut Sheet, trie: &Trie) -> Result<(), BenchError> {
+    for entry in &trie.entries(alloc)? {
+        sheet.show(&entry.0)?;
+        sheet.show(&entry.1.value)?;
+        sheet.show(&entry.1.mark)?;
+    }
+    Ok(())
+}
+
+fn make_trie(alloc: Global) -> Result<Trie, AllocError> {
+    let trie = Trie::empty(alloc);
+    let trie = trie.inserted(&near(), VALUE)?;
+    let trie = trie.inserted(&inside(), VALUE)?;
+    trie.inserted(&long(), VALUE)
+}
+
+fn made(alloc: Global, call: &str, trie: &Trie) -> Result<Trie, BenchError> {
+    match call {
+        "prefix_index::PrefixTrie::of" => {
+            Ok(Trie::of(
+                alloc,
+                &[(near(), VALUE), (beside(), VALUE), (long(), VALUE)],
+            )?)
+        }
+        "prefix_index::PrefixTrie::inserted" => Ok(trie.share()?.inserted(&beside(), VALUE)?),
+        "prefix_index::PrefixTrie::removed" => Ok(trie.share()?.removed(&near())?),
+        "prefix_index::PrefixTrie::with" => Ok(trie.with(&beside(), VALUE)?),
+        "prefix_index::PrefixTrie::without" => Ok(trie.without(&long())?),
+        "prefix_index::PrefixTrie::rebuilt" => Ok(trie.rebuilt()?),
+        "prefix_index::PrefixTrie::share" => Ok(trie.share()?),
+        _ => Err(BenchError::Words),
+    }
+}
+
+fn once(alloc: Global, sheet: &mut Sheet, call: &str, trie: &Trie) -> Result<(), BenchError> {
+    if call == "prefix_index::PrefixTrie::entries" {
+        return show_trie(alloc, sheet, trie);
+    }
+    let other = made(alloc, call, trie)?;
+    show_trie(alloc, sheet, &other)
+}
+
+/// Does the call of this name twice.
+pub fn twice(alloc: Global, sheet: &mut Sheet, call: &str) -> Result<(), BenchError> {
+    let trie = make_trie(alloc)?;
+    let first = once(alloc, sheet, call, &trie);
+    sheet.settle(first)?;
+    let second = once(alloc, sheet, call, &trie);
+    sheet.settle(second)
+}

@@ -1,0 +1,220 @@
+//! A whole run of a server over wires in memory, with its workers in threads.
+//!
+//! The line says the status, `wrote` and the octets of the output, and for each reply `sent` and its octets, by the order of the queries.
+
+ghost use Rattle.std.specs.Prelude.{None};
+
+use crate::bench_error::BenchError;
+use crate::run_calls::{end_over, words_of};
+use crate::samples::{CLIENT_ADDR, DENIED_QUERY, QUERY, RESPONSE};
+use crate::sheet::Sheet;
+use crate::shown::show_written;
+use crate::transfer_calls::WHOLE;
+use crossbeam_channel::{Receiver, Sender, bounded};
+use dns_name::Octets;
+use edge_io::{
+    Arrival, Endpoint, ListLink, ListSink, ListSource, ListWires, Order, Replies, SendError,
+    StreamEnd, Wake, WireStage,
+};
+use ip_prefix::Transport;
+use rpz_program::status::Status;
+use std::alloc::{AllocError, Global};
+use std::collections::VecDeque;
+use std::hash::RandomState;
+use std::random::RandomSource;
+use std::sync::Wait;
+use std::thread::Threads;
+use std::time::Clock;
+
+/// The name of this call.
+pub const NAMES: &str = "rpz_program::run::serve\n";
+
+// A server of one zone that takes two arrivals, with a worker for datagrams and one that asks.
+const LINE: &str =
+    "serve --askers 1 --cache 16 127.0.0.1:5300 127.0.0.1:53 2 1 rpz.example@127.0.0.1:5301";
+
+// So many workers have a place for replies: that for datagrams, that which asks, and those for connections.
+const WORKERS: u32 = 4;
+
+// So many replies there is room for.
+const ROOM: usize = 16;
+
+// The IDs of the two queries.
+const IDS: [u16; 2] = [0x1233, 0x1235];
+
+type Stage = WireStage<ListSource, ListSink>;
+
+type Memory<R> = ListWires<ListSource, ListSink, ListLink, Posts<R>, R>;
+
+// Replies that a channel takes.
+#[derive(Drop)]
+struct Posts<R: Wait + Drop> {
+    rt: R,
+    alloc: Global,
+    sender: Sender<Octets>,
+}
+
+impl<R: Wait + Drop> Replies<ListSource, ListSink> for Posts<R> {
+    ghost sent = { λ _. None };
+
+    ghost closings = { λ _. None };
+
+    ghost faults = { λ _. 0 };
+
+    fn send(
+        &mut self,
+        _peer: Endpoint,
+        _transport: Transport,
+        bytes: &[u8],
+    ) -> Result<(), SendError> {
+        let reply = Octets::from_slice(self.alloc, bytes)?;
+        match self.sender.send(&self.rt, reply) {
+            Ok(()) => Ok(()),
+            Err(_) => Err(SendError::OutOfMemory),
+        }
+    }
+
+    fn close(&mut self, _source: ListSource, _sink: ListSink, _end: StreamEnd) {}
+}
+
+// A datagram of the client.
+fn datagram(alloc: Global, bytes: &[u8]) -> Result<Arrival<ListSource, ListSink>, AllocError> {
+    Ok(Arrival::Datagram {
+        peer: Endpoint {
+            addr: CLIENT_ADDR,
+            port: 53_000,
+        },
+        bytes: Octets::from_slice(alloc, bytes)?,
+    })
+}
+
+// The transfer comes first, and then the two queries.
+fn make_stages(alloc: Global) -> Result<VecDeque<Stage>, AllocError> {
+    let order = Order { number: 0 };
+    let bytes = Octets::from_slice(alloc, &WHOLE[2..])?;
+    let transfer = WireStage::new(alloc, Some(Wake::Frame { order, bytes }));
+    let mut queries = WireStage::new(alloc, Some(Wake::Due));
+    queries.datagrams.push(datagram(alloc, DENIED_QUERY)?)?;
+    queries.datagrams.push(datagram(alloc, QUERY)?)?;
+    let mut stages = VecDeque::new(alloc);
+    stages.push_back(transfer)?;
+    stages.push_back(queries)?;
+    Ok(stages)
+}
+
+// A link that gives the response.
+fn make_links(alloc: Global) -> Result<VecDeque<ListLink>, AllocError> {
+    let mut messages = Vec::new(alloc);
+    messages.push(Octets::from_slice(alloc, RESPONSE)?)?;
+    let mut links = VecDeque::new(alloc);
+    links.push_back(ListLink::new(messages, Vec::new(alloc)))?;
+    Ok(links)
+}
+
+fn make_backs<R: Wait + Copy + Drop>(
+    rt: &R,
+    alloc: Global,
+    sender: &Sender<Octets>,
+) -> Result<VecDeque<Posts<R>>, AllocError> {
+    let mut backs = VecDeque::new(alloc);
+    for _count in 0..WORKERS {
+        let posts = Posts {
+            rt: *rt,
+            alloc,
+            sender: sender.clone()?,
+        };
+        backs.push_back(posts)?;
+    }
+    Ok(backs)
+}
+
+fn make_wires<R: Wait + Copy + Drop + Send + 'static>(
+    rt: &R,
+    alloc: Global,
+    sender: &Sender<Octets>,
+) -> Result<Memory<R>, AllocError> {
+    let stages = make_stages(alloc)?;
+    let links = make_links(alloc)?;
+    let backs = make_backs(rt, alloc, sender)?;
+    let none = Vec::new(alloc);
+    ListWires::new(*rt, alloc, stages, links, backs, none, Vec::new(alloc))
+}
+
+// How the server ends, and what is written, 16 octets a call.
+fn served<R: Threads + Wait + Clock + Copy + Drop + Send + Sync + 'static>(
+    rt: &R,
+    alloc: Global,
+    words: &[String],
+    hashers: RandomState,
+    sender: &Sender<Octets>,
+) -> Result<(Status, Vec<u8>), AllocError> {
+    let mut wires = make_wires(rt, alloc, sender)?;
+    let mut script = ListSource::new(Vec::new(alloc), 1, Vec::new(alloc));
+    let mut out = ListSink::new(Vec::new(alloc), 16, Vec::new(alloc));
+    let status = end_over(rt, alloc, words, hashers, &mut wires, &mut script, &mut out);
+    Ok((status, out.bytes))
+}
+
+// The ID of a reply.
+fn id_of(reply: &Octets) -> Option<u16> {
+    match reply.as_slice() {
+        [high, low, ..] => Some(u16::from_be_bytes([*high, *low])),
+        _ => None,
+    }
+}
+
+// How many replies there are, and those of the two IDs.
+fn show_replies(sheet: &mut Sheet, replies: &[Octets]) -> Result<(), BenchError> {
+    sheet.show(&replies.len())?;
+    for id in IDS {
+        for reply in replies {
+            if id_of(reply) == Some(id) {
+                sheet.say("sent ")?;
+                sheet.show(&reply.as_slice())?;
+            }
+        }
+    }
+    Ok(())
+}
+
+// Takes what has come, for which there is room.
+fn take_all<R: Wait>(rt: &R, receiver: &Receiver<Octets>, replies: &mut Vec<Octets>) {
+    for _count in 0..ROOM {
+        match receiver.try_recv(rt) {
+            Ok(reply) => {
+                let _ = replies.push(reply);
+            }
+            Err(_) => break,
+        }
+    }
+}
+
+fn serve<R: Threads + Wait + Clock + Copy + Drop + Send + Sync + 'static>(
+    rt: &R,
+    alloc: Global,
+    sheet: &mut Sheet,
+    words: &[String],
+    hashers: RandomState,
+) -> Result<(), BenchError> {
+    let (sender, receiver) = bounded(alloc, ROOM)?;
+    let mut replies = Vec::with_capacity(alloc, ROOM)?;
+    let (status, octets) = served(rt, alloc, words, hashers, &sender)?;
+    take_all(rt, &receiver, &mut replies);
+    sheet.show(&status)?;
+    show_written(sheet, &octets)?;
+    show_replies(sheet, &replies)
+}
+
+/// Does the call of this name twice.
+pub fn twice<R: Threads + Wait + Clock + RandomSource + Copy + Drop + Send + Sync + 'static>(
+    rt: &R,
+    alloc: Global,
+    sheet: &mut Sheet,
+) -> Result<(), BenchError> {
+    let words = words_of(alloc, LINE)?;
+    let hashers = RandomState::new(rt)?;
+    let first = serve(rt, alloc, sheet, &words, hashers);
+    sheet.settle(first)?;
+    let second = serve(rt, alloc, sheet, &words, hashers);
+    sheet.settle(second)
+}

@@ -1,0 +1,172 @@
+//! Calls of lists whose copies share their blocks.
+
+use crate::bench_error::BenchError;
+use crate::sheet::Sheet;
+use crate::tried::{Tried, changed_twice};
+use shared_list::{Held, Share, SharedList, SharedOctets, SharedTable};
+use std::alloc::{AllocError, Global};
+
+/// The names of these calls.
+pub const NAMES: &str = "shared_list::SharedList::push\n\
+    shared_list::SharedList::push::full\n\
+    shared_list::SharedList::share\n\
+    shared_list::SharedOctets::push\n\
+    shared_list::SharedOctets::push::full\n\
+    shared_list::SharedOctets::share\n\
+    shared_list::SharedTable::push\n\
+    shared_list::SharedTable::push::full\n\
+    shared_list::SharedTable::set\n\
+    shared_list::SharedTable::share\n";
+
+/// A list of numbers, and a table of some that are held.
+type Numbers = SharedList<u32>;
+
+type Table = SharedTable<Held<u32>>;
+
+// So many items fill a block of a list, and a group of a table.
+const LIST_BLOCK: u32 = 1024;
+
+const TABLE_GROUP: u32 = 64;
+
+// So many of these strings fill a block of octets.
+const STRINGS: u32 = 256;
+
+const STRING: &[u8; 16] = b"0123456789abcdef";
+
+fn show_numbers(sheet: &mut Sheet, numbers: &Numbers) -> Result<(), BenchError> {
+    for place in 0..numbers.len() {
+        sheet.show(numbers.get(place))?;
+    }
+    Ok(())
+}
+
+fn show_table(sheet: &mut Sheet, table: &Table) -> Result<(), BenchError> {
+    for place in 0..table.len() {
+        sheet.show(table.get(place).get())?;
+    }
+    Ok(())
+}
+
+impl Tried for SharedList<u32> {
+    fn once(&mut self, _alloc: Global, sheet: &mut Sheet, call: &str) -> Result<(), BenchError> {
+        if call == "shared_list::SharedList::share" {
+            let other = self.share()?;
+            return show_numbers(sheet, &other);
+        }
+        self.push(7)?;
+        show_numbers(sheet, self)
+    }
+}
+
+// The place of the string that is put, and how many octets there are then.
+fn push_string(sheet: &mut Sheet, octets: &mut SharedOctets) -> Result<(), BenchError> {
+    let place = octets.push(STRING)?;
+    sheet.show(&place)?;
+    sheet.show(&octets.len())?;
+    sheet.show(&octets.get(place, STRING.len()))
+}
+
+impl Tried for SharedOctets {
+    fn once(&mut self, _alloc: Global, sheet: &mut Sheet, call: &str) -> Result<(), BenchError> {
+        if call == "shared_list::SharedOctets::share" {
+            let mut other = self.share()?;
+            return push_string(sheet, &mut other);
+        }
+        push_string(sheet, self)
+    }
+}
+
+// Adds one to the first number.
+fn set_first(alloc: Global, table: &mut Table) -> Result<(), BenchError> {
+    if table.len() == 0 {
+        return Err(BenchError::Empty);
+    }
+    let next = table.get(0).get().wrapping_add(1);
+    let held = Held::new(alloc, next)?;
+    table.set(0, held)?;
+    Ok(())
+}
+
+impl Tried for SharedTable<Held<u32>> {
+    fn once(&mut self, alloc: Global, sheet: &mut Sheet, call: &str) -> Result<(), BenchError> {
+        match call {
+            "shared_list::SharedTable::share" => {
+                let other = self.share()?;
+                return show_table(sheet, &other);
+            }
+            "shared_list::SharedTable::set" => set_first(alloc, self)?,
+            _ => self.push(Held::new(alloc, 7)?)?,
+        }
+        show_table(sheet, self)
+    }
+}
+
+// So many numbers in a list.
+fn make_numbers(alloc: Global, count: u32) -> Result<Numbers, AllocError> {
+    let mut numbers = Numbers::new(alloc);
+    for number in 0..count {
+        numbers.push(number)?;
+    }
+    Ok(numbers)
+}
+
+// So many strings.
+fn make_octets(alloc: Global, count: u32) -> Result<SharedOctets, AllocError> {
+    let mut octets = SharedOctets::new(alloc);
+    for _count in 0..count {
+        let _place = octets.push(STRING)?;
+    }
+    Ok(octets)
+}
+
+// So many numbers in a table.
+fn make_table(alloc: Global, count: u32) -> Result<Table, AllocError> {
+    let mut table = Table::new(alloc);
+    for number in 0..count {
+        table.push(Held::new(alloc, number)?)?;
+    }
+    Ok(table)
+}
+
+fn numbers_twice(
+    alloc: Global,
+    sheet: &mut Sheet,
+    call: &str,
+    count: u32,
+) -> Result<(), BenchError> {
+    let mut numbers = make_numbers(alloc, count)?;
+    changed_twice(alloc, sheet, call, &mut numbers)
+}
+
+fn octets_twice(
+    alloc: Global,
+    sheet: &mut Sheet,
+    call: &str,
+    count: u32,
+) -> Result<(), BenchError> {
+    let mut octets = make_octets(alloc, count)?;
+    changed_twice(alloc, sheet, call, &mut octets)
+}
+
+fn table_twice(alloc: Global, sheet: &mut Sheet, call: &str, count: u32) -> Result<(), BenchError> {
+    let mut table = make_table(alloc, count)?;
+    changed_twice(alloc, sheet, call, &mut table)
+}
+
+/// Does the call of this name twice.
+pub fn twice(alloc: Global, sheet: &mut Sheet, call: &str) -> Result<(), BenchError> {
+    match call {
+        "shared_list::SharedList::push" => numbers_twice(alloc, sheet, call, 0),
+        "shared_list::SharedList::push::full" => numbers_twice(alloc, sheet, call, LIST_BLOCK),
+        "shared_list::SharedList::share" => numbers_twice(alloc, sheet, call, LIST_BLOCK + 1),
+        "shared_list::SharedOctets::push" => octets_twice(alloc, sheet, call, 0),
+        "shared_list::SharedOctets::push::full" => octets_twice(alloc, sheet, call, STRINGS),
+        "shared_list::SharedOctets::share" => octets_twice(alloc, sheet, call, STRINGS + 1),
+        "shared_list::SharedTable::push" => table_twice(alloc, sheet, call, 0),
+        "shared_list::SharedTable::push::full" => table_twice(alloc, sheet, call, TABLE_GROUP),
+        "shared_list::SharedTable::set" | "shared_list::SharedTable::share" => {
+            table_twice(alloc, sheet, call, TABLE_GROUP + 1)
+        }
+        _ => Err(BenchError::Words),
+    }
+}

@@ -1,0 +1,45 @@
+//! A connection of a client, which a worker serves over streams in memory.
+//!
+//! The line says how it ended, `wrote` and the octets of the replies, each behind its length.
+
+use crate::bench_error::BenchError;
+use crate::samples::CLIENT_ADDR;
+use crate::sheet::Sheet;
+use crate::shown::show_written;
+use crate::worker_calls::ListWorker;
+use edge_io::{Endpoint, ListClock, ListSink, ListSource, StreamEnd};
+use policy_publish::StoreName;
+use rpz_workers::NoOnward;
+use std::alloc::Global;
+use std::collections::VecDeque;
+
+// Two queries, each behind its length: the one that a rule answers, and the one for which the upstream is asked.
+const QUERIES: &[u8] = b"\0\x1d\x12\x33\x01\0\0\x01\0\0\0\0\0\0\x03bad\x07example\0\0\x01\0\x01\
+    \0\x1b\x12\x35\x01\0\0\x01\0\0\0\0\0\0\x01x\x07example\0\0\x01\0\x01";
+
+// Serves the connection: how it ended, and what was written, five octets a call.
+fn served<N: StoreName>(
+    alloc: Global,
+    worker: &mut ListWorker<N>,
+) -> Result<(StreamEnd, Vec<u8>), BenchError> {
+    let mut source = ListSource::new(QUERIES.to_vec(alloc)?, 8_192, Vec::new(alloc));
+    let mut sink = ListSink::new(Vec::new(alloc), 5, Vec::new(alloc));
+    let mut clock = ListClock::new(alloc, VecDeque::new(alloc));
+    let client = Endpoint {
+        addr: CLIENT_ADDR,
+        port: 53_000,
+    };
+    let end = worker.serve_stream(&mut source, &mut sink, client, &mut clock, &mut NoOnward);
+    Ok((end, sink.bytes))
+}
+
+/// Serves a connection with two queries.
+pub fn serve<N: StoreName>(
+    alloc: Global,
+    sheet: &mut Sheet,
+    worker: &mut ListWorker<N>,
+) -> Result<(), BenchError> {
+    let (end, octets) = served(alloc, worker)?;
+    sheet.show(&end)?;
+    show_written(sheet, &octets)
+}

@@ -1,0 +1,101 @@
+//! Calls of tries of octets.
+
+use crate::bench_error::BenchError;
+use crate::sheet::Sheet;
+use octet_trie::{OctetFound, OctetTrie};
+use std::alloc::{AllocError, Global};
+use trie_keys::Marked;
+
+/// The names of these calls.
+pub const NAMES: &str = "octet_trie::OctetTrie::of\n\
+    octet_trie::OctetTrie::inserted\n\
+    octet_trie::OctetTrie::removed\n\
+    octet_trie::OctetTrie::with\n\
+    octet_trie::OctetTrie::without\n\
+    octet_trie::OctetTrie::rebuilt\n\
+    octet_trie::OctetTrie::share\n\
+    octet_trie::OctetTrie::entries\n";
+
+/// A trie of numbers.
+type Trie = OctetTrie<u32, bool>;
+
+const VALUE: Marked<u32, bool> = Marked {
+    value: 7,
+    mark: true,
+};
+
+/// Each entry of a trie, with its value.
+fn show_trie(sheet: &mut Sheet, trie: &Trie) -> Result<(), BenchError> {
+    for entry in &trie.entries()? {
+        sheet.show(&entry.key)?;
+        sheet.show(&entry.wild)?;
+        sheet.show(&entry.value.value)?;
+        sheet.show(&entry.value.mark)?;
+    }
+    Ok(())
+}
+
+// Keys of which two begin alike, and one stands below another.
+fn make_trie(alloc: Global) -> Result<Trie, AllocError> {
+    let trie = Trie::empty(alloc);
+    let trie = trie.inserted(b"\x07example\x03bad", false, VALUE)?;
+    let trie = trie.inserted(b"\x07example\x03bad", true, VALUE)?;
+    trie.inserted(b"\x07example\x03bat\x01x", false, VALUE)
+}
+
+fn listed(alloc: Global) -> Result<Trie, AllocError> {
+    Trie::of(
+        alloc,
+        &[
+            OctetFound {
+                key: b"\x07example\x03bad",
+                wild: false,
+                value: VALUE,
+            },
+            OctetFound {
+                key: b"\x07example\x03bat",
+                wild: true,
+                value: VALUE,
+            },
+            OctetFound {
+                key: b"\x04test",
+                wild: false,
+                value: VALUE,
+            },
+        ],
+    )
+}
+
+fn made(alloc: Global, call: &str, trie: &Trie) -> Result<Trie, BenchError> {
+    match call {
+        "octet_trie::OctetTrie::of" => Ok(listed(alloc)?),
+        "octet_trie::OctetTrie::inserted" => {
+            Ok(trie.share()?.inserted(b"\x07example\x03bag", false, VALUE)?)
+        }
+        "octet_trie::OctetTrie::removed" => {
+            Ok(trie.share()?.removed(b"\x07example\x03bad", false)?)
+        }
+        "octet_trie::OctetTrie::with" => Ok(trie.with(b"\x07example\x03bag", true, VALUE)?),
+        "octet_trie::OctetTrie::without" => Ok(trie.without(b"\x07example\x03bad", true)?),
+        "octet_trie::OctetTrie::rebuilt" => Ok(trie.rebuilt()?),
+        "octet_trie::OctetTrie::share" => Ok(trie.share()?),
+        _ => Err(BenchError::Words),
+    }
+}
+
+fn once(alloc: Global, sheet: &mut Sheet, call: &str, trie: &Trie) -> Result<(), BenchError> {
+    if call == "octet_trie::OctetTrie::entries" {
+        return show_trie(sheet, trie);
+    }
+    let other = made(alloc, call, trie)?;
+    show_trie(sheet, &other)
+}
+
+/// Does the call of this name twice.
+pub fn twice(alloc: Global, sheet: &mut Sheet, call: &str) -> Result<(), BenchError> {
+    let trie = make_trie(alloc)?;
+    let first = once(alloc, sheet, call, &trie);
+    sheet.settle(first)?;
+    let second = once(alloc, sheet, call, &trie);
+    sheet.settle(second)
+}
