@@ -11,7 +11,7 @@ import replies
 import wire
 from bad_upstreams import FOREIGN, KINDS, RIGHT, BadUpstream, DelayedUpstream, SerialUpstream
 from harness import CACHED, OTHERS, RULED, SLOWEST, alone, case, fail_if
-from peers import LOOPBACK, ZONE, Primary, Server, ask
+from peers import LOOPBACK, ZONE, Primary, Server, Upstream, ask
 
 CLIENTS = [f"127.0.2.{n + 1}" for n in range(20)]
 LEAST = 30  # misses a second that are answered where far more are asked, of an upstream that answers in turn
@@ -276,6 +276,38 @@ def upstream_is_listen(program, port, workers):
         primary.end()
 
 
+class ClosingUpstream(Upstream):
+    """Answers one question on each connection, and closes it."""
+
+    def serve(self, connection):
+        self.connections += 1
+        message = wire.read_frame(connection)
+        if message is not None:
+            self.reply(connection, threading.Lock(), message)
+
+
+@alone
+def connections_that_the_upstream_ends(program, port, workers):
+    """An upstream that closes each connection behind an answer, and nobody asks any more: their descriptors are given up."""
+    upstream, primary = ClosingUpstream(port + 1), Primary(port + 2, RULED)
+    server = Server(program, port, upstream.port, [(ZONE, primary.port)], workers)
+    try:
+        server.wait_for(RULED[0])
+        time.sleep(1)
+        before = server.descriptors()
+        with concurrent.futures.ThreadPoolExecutor(20) as threads:
+            got = list(threads.map(lambda number: ask(port, f"m{number}.d{number}.test", 8), range(200)))
+        time.sleep(3)
+        behind = server.descriptors()
+        said = f"{got.count(0)} of {len(got)} answered over {upstream.connections} connections; {before} descriptors before, {behind} behind"
+        fail_if(behind > before or upstream.connections < 100, said)
+        return said
+    finally:
+        server.end()
+        upstream.end()
+        primary.end()
+
+
 def slowest_ruled(port, seconds):
     """The slowest of queries for ruled names, one after another for so long."""
     slowest, end = 0.0, time.monotonic() + seconds
@@ -351,4 +383,5 @@ CASES = [
     long_names_and_a_silent_upstream,
     upstream_is_listen,
     answers_in_turn,
+    connections_that_the_upstream_ends,
 ]
