@@ -213,6 +213,9 @@ pub const UPSTREAM_SEND_BUFFER: i32 = 256 << 10;
 /// Milliseconds that a job for a new thread may wait for room in its queue.
 pub const START_MILLISECONDS: u64 = 100;
 
+/// Seconds after which connections to the upstream that have ended are given up at the latest.
+pub const JOIN_SECONDS: u64 = 1;
+
 /// How many errors in a row, with nothing else among them, end the wait for arrivals. Those of a shortage don't count for it, since it
 /// passes once connections end.
 pub const PASSING_ERRORS: u32 = 1_000;

@@ -47,8 +47,8 @@ pub(crate) fn start_reader<R: time::Clock + Wait + Threads + Copy + Drop + Send 
     }
 }
 
-// Joins those that have nothing more to do.
-fn join_ended<R: Threads>(rt: &R, readers: &mut Vec<ReaderThread>) {
+/// Joins those that have nothing more to do, so that their connections are given up.
+pub(crate) fn join_ended<R: Threads>(rt: &R, readers: &mut Vec<ReaderThread>) {
     for _ in 0..readers.len() {
         if let Some(place) = readers
             .iter()

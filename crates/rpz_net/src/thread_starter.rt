@@ -1,13 +1,13 @@
 //! What starts the threads of wires.
 
-use crate::limits::{START_MILLISECONDS, THREAD_QUEUE};
-use crate::reader_threads::{ReaderThread, end_readers, start_reader};
+use crate::limits::{JOIN_SECONDS, START_MILLISECONDS, THREAD_QUEUE};
+use crate::reader_threads::{ReaderThread, end_readers, join_ended, start_reader};
 use crate::reception::Reception;
 use crate::service_state::ServiceState;
 use crate::transfer::Transfer;
 use crate::upstream_reader::UpstreamReader;
 use crate::wire_state::WireState;
-use crossbeam_channel::{Receiver, Sender, bounded};
+use crossbeam_channel::{Receiver, RecvTimeoutError, Sender, bounded};
 use std::alloc::{AllocError, Global};
 use std::net::{Net, TcpListener, TcpStream};
 use std::sync::{Arc, Wait};
@@ -111,7 +111,7 @@ impl Serving {
     }
 }
 
-// Starts a thread for each job, until no more come.
+// Starts a thread for each job, until no more come, and gives up those that have ended.
 fn start_threads<
     R: Net<Listener = TcpListener, Stream = TcpStream>
         + time::Clock
@@ -125,7 +125,7 @@ fn start_threads<
     let mut serving: Option<Serving> = None;
     let mut readers: Vec<ReaderThread> = Vec::new(alloc);
     for _ in 0..u64::MAX {
-        match jobs.recv(&rt) {
+        match jobs.recv_timeout(&rt, Duration::from_secs(JOIN_SECONDS)) {
             Ok(Job::Serve(reception)) => {
                 if let Some(before) = serving.take() {
                     before.end(&rt);
@@ -134,7 +134,8 @@ fn start_threads<
             }
             Ok(Job::Transfer(transfer)) => run_transfer(rt, transfer),
             Ok(Job::Upstream(reader)) => start_reader(rt, &mut readers, reader),
-            Ok(Job::End) | Err(_) => break,
+            Err(RecvTimeoutError::Timeout) => join_ended(&rt, &mut readers),
+            Ok(Job::End) | Err(RecvTimeoutError::Disconnected) => break,
         }
     }
     end_readers(&rt, readers);
