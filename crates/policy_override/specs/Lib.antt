@@ -1,0 +1,3 @@
+pub mod Override
+pub mod Overrides
+pub mod ZoneSet
