@@ -111,7 +111,8 @@ impl Serving {
     }
 }
 
-// Starts a thread for each job, until no more come, and gives up those that have ended.
+// Starts a thread for each job, until no more come. Behind each, and where none comes for `JOIN_SECONDS`, it gives up the readers that
+// have ended.
 fn start_threads<
     R: Net<Listener = TcpListener, Stream = TcpStream>
         + time::Clock
@@ -134,9 +135,10 @@ fn start_threads<
             }
             Ok(Job::Transfer(transfer)) => run_transfer(rt, transfer),
             Ok(Job::Upstream(reader)) => start_reader(rt, &mut readers, reader),
-            Err(RecvTimeoutError::Timeout) => join_ended(&rt, &mut readers),
+            Err(RecvTimeoutError::Timeout) => {}
             Ok(Job::End) | Err(RecvTimeoutError::Disconnected) => break,
         }
+        join_ended(&rt, &mut readers);
     }
     end_readers(&rt, readers);
     if let Some(serving) = serving {
