@@ -1,7 +1,7 @@
 #!/usr/bin/env python3
 """Runs a server under load for long, and says whether anything was lost, refused or grew.
 
-    python3 tools/soak.py PROGRAM [--seconds N] [--rate N] [--rules N] [--changes N] [--workers N] [--port N]
+    python3 tools/soak.py PROGRAM [--seconds N] [--rate N] [--rules N] [--changes N] [--workers N] [--askers N] [--warm N] [--port N]
 
 PROGRAM is `rpz`. For so many seconds (3,600) dnsperf asks so many queries a second (50,000), of which a tenth are misses; a primary with
 so many rules (1,000) makes so many changes a second (10), each with a NOTIFY and taken by an incremental transfer; and 100 connections
@@ -10,7 +10,9 @@ asked and lost so far (and how much of that the system dropped in front of the s
 not answered within 5 seconds, as where the machine stood still), and the longest time for which a thread didn't run that wanted to; also
 the resident memory and the descriptors, while no connection of these is open. At the end: the same, how many transfers were taken and
 refused, and memory and descriptors behind the first tenth and at the end. The status is 0 where nothing was lost or refused, memory grew
-by less than 2 % or 1 MiB, and no descriptor more was open. Wanted: dnsperf and unbound (packages of Debian). Nothing else should run
+by less than 2 % or 1 MiB, and no descriptor more was open. Before the first tenth there are so many seconds (5) of the same queries alone:
+each thread that asks the upstream, of which there are 256 if --askers doesn't say else, takes pages for its stack and its heap when it
+first needs them, which adds up to some MiB over the first millions of queries. Wanted: dnsperf and unbound (packages of Debian). Nothing else should run
 meanwhile.
 """
 
@@ -226,7 +228,7 @@ def watch(server, options, path, comers):
         comers.pause()
         seen.append((server.resident(), server.descriptors()))
         comers.may_come.set()
-        print(f"{sent:>12,} asked, {lost} lost ({dropped(options.port)} before the server read them), {seen[-1][0] >> 20} MiB resident, "
+        print(f"{sent:>12,} asked, {lost} lost ({dropped(options.port)} before the server read them), {seen[-1][0] / 2 ** 20:.2f} MiB resident, "
               f"{seen[-1][1]} descriptors, longest pause of the machine {1000 * pauses.take():.0f} ms", flush=True)
     return sent, lost, seen
 
@@ -239,6 +241,8 @@ def main():
     parser.add_argument("--rules", type=int, default=1_000)
     parser.add_argument("--changes", type=float, default=10)
     parser.add_argument("--workers", type=int, default=4)
+    parser.add_argument("--askers", type=int, help="how many threads ask the upstream; the server's own number if it isn't given")
+    parser.add_argument("--warm", type=int, default=5)
     parser.add_argument("--port", type=int, default=24000)
     options = parser.parse_args()
     port = options.port
@@ -248,10 +252,11 @@ def main():
         path = os.environ["PATH"] + ":/usr/sbin"
         unbound = subprocess.Popen(["unbound", "-d", "-c", str(folder / "unbound.conf")], env={**os.environ, "PATH": path})
         primary = ChangingPrimary(port + 2, [f"h{n}.example" for n in range(options.rules)])
-        server = peers.Server(options.program, port, port + 1, [(peers.ZONE, port + 2)], options.workers)
+        words = ["--askers", str(options.askers)] if options.askers else []
+        server = peers.Server(options.program, port, port + 1, [(peers.ZONE, port + 2)], options.workers, words)
         try:
             server.wait_for("h0.example")
-            dnsperf(folder / "queries", port, 5, options.rate)
+            dnsperf(folder / "queries", port, options.warm, options.rate)
             changes, comers = Changes(primary, port, options.changes), Comers(port)
             sent, lost, seen = watch(server, options, folder / "queries", comers)
             changes.is_over = comers.is_over = True
