@@ -80,9 +80,8 @@ class Reader:
             return [line_of(text[4:].removeprefix(" "))]
         if kind == "zone":
             self.zones.append(name_of(words[0]))
-            return [f"zone {words[0]}\n".encode()]
-        if kind == "clock":
-            return [f"clock {words[0]}\n".encode()]
+        if kind in ("zone", "clock"):
+            return [" ".join([kind, *words]).encode() + b"\n"]
         if kind == "full":
             return [f"full {self.zone(words[0])[0]}\n".encode()]
         if kind == "transfer":
@@ -285,7 +284,7 @@ class Shower:
     def step(self, words, compressed):
         kind = words[0]
         if kind in ("zone", "clock"):
-            return f"{kind} {words[1]}", []
+            return " ".join(words), []
         if kind == "full":
             return f"full {text_of_name(self.zone(words[1]))}", []
         if kind == "primary":

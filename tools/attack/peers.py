@@ -225,14 +225,15 @@ class Program:
 
 
 class Server(Program):
-    """`rpz serve` with its standard output and error in files, on an address of this host."""
+    """`rpz serve` with its standard output and error in files, on an address of this host. `primaries`: of each zone its name, the port of
+    its primary, and maybe what stands behind these words."""
 
     is_ours = True
 
     def __init__(
         self, program, port, upstream, primaries, workers, options=(), stdout=None, host=LOOPBACK, turns="forever", **started,
     ):
-        zones = [f"{zone}@{LOOPBACK}:{at}" for zone, at in primaries]
+        zones = [f"{zone}@{LOOPBACK}:{at}{''.join(behind)}" for zone, at, *behind in primaries]
         words = [program, "serve", *options, f"{host}:{port}", f"{LOOPBACK}:{upstream}", str(turns), str(workers), *zones]
         self.log, self.errors = (f"{tempfile.gettempdir()}/attack-{os.getpid()}-{port}.{kind}" for kind in ("log", "errors"))
         with open(self.log, "wb") as log, open(self.errors, "wb") as errors:

@@ -11,9 +11,9 @@ in batches. Messages are drawn with a legal shape, and about half of them is mut
 are deleted, doubled, moved, put in, or spliced to another message; pointers to anywhere; lengths and counts that are off.
 
 What has to come is told by a second writing of docs/FORMATS.md, docs/PROFILE.md and docs/OPERATING.md in Python, which shares no code with
-`rpz`: of messages (reading.py), lines of scripts (script_lines.py), transfers and their faults (taking.py), rules (rules.py), and what a
-query comes to (deciding.py). With --scenarios it is compared with the scenarios of the repository, whose transcripts were written by hand;
-no program is run.
+`rpz`: of messages (reading.py), lines of scripts (script_lines.py), transfers and their faults (taking.py), rules and overrides (rules.py),
+and what a query comes to (deciding.py). With --scenarios it is compared with the scenarios of the repository, whose transcripts were
+written by hand; no program is run.
 
 Checked of a script: the whole transcript, each question, reply, silence and line of a transfer, octet for octet; the line that is refused
 and why; the status. Of a server: each reply, octet for octet but for TTLs, which may be less; that it comes within its transport's limit,

@@ -94,7 +94,8 @@ class Follow:
         self.figures.count("transfers of scripts", outcome_of(found))
         self.due_at[zone] = self.now + pause(self.versions[zone], word != "refused")
         if word == "taken":
-            self.rules[zone] = rules.rules_of(zone, self.state.spelled[zone - 1], self.versions[zone])
+            state = self.state
+            self.rules[zone] = rules.rules_of(zone, state.spelled[zone - 1], self.versions[zone], state.overrides[zone - 1])
 
     def due(self, output):
         zones = [zone for zone in range(1, len(self.state.zones) + 1) if self.due_at.get(zone, 0) <= self.now]

@@ -1,4 +1,5 @@
-"""The rules of policy zones by docs/PROFILE.md: which rows make them, what they do, where they match, and which precedes."""
+"""The rules of policy zones by docs/PROFILE.md: which rows make them, what they do, also under an override, where they match, and which
+precedes."""
 
 import functools
 import re
@@ -15,6 +16,16 @@ CNAME = TYPES["CNAME"]
 MAPPED = 0xFFFF << 32  # the address of version 6 into which 0.0.0.0 is mapped
 NXDOMAIN, NODATA, PASSTHRU, DROP, TCP_ONLY, LOCAL = range(6)
 WORDS = {(): NXDOMAIN, (b"*",): NODATA, (b"rpz-passthru",): PASSTHRU, (b"rpz-drop",): DROP, (b"rpz-tcp-only",): TCP_ONLY}
+OVERRIDES = {  # the words that stand alone, with the action that they give to all rules, if they do
+    b"given": None, b"disabled": None, b"nxdomain": NXDOMAIN, b"nodata": NODATA, b"passthru": PASSTHRU, b"drop": DROP,
+    b"tcp-only": TCP_ONLY,
+}
+
+
+class Override(NamedTuple):
+    """What the operator says of a zone. `target`: of `cname` alone, as it is spelled."""
+    word: bytes = b"given"
+    target: tuple = None
 
 
 class Pattern(NamedTuple):
@@ -134,8 +145,25 @@ def action_of(kind, trigger, rows):
     return LOCAL, tuple(rows)
 
 
-def rules_of(number, origin, version):
-    """The rules of one zone."""
+def overridden(rule, override):
+    """The rule as it is under the override of its zone; None where it is none."""
+    if override.target is not None:
+        row = CNAME, reading.written(override.target), rule.soa.ttl
+        return rule._replace(action=LOCAL, rows=(row,))
+    if override.word == b"disabled":
+        return None
+    action = OVERRIDES[override.word]
+    return rule if action is None else rule._replace(action=action, rows=())
+
+
+def rules_of(number, origin, version, override=Override()):
+    """The rules of one zone under its override."""
+    made = [overridden(rule, override) for rule in rules_given(number, origin, version)]
+    return [rule for rule in made if rule is not None]
+
+
+def rules_given(number, origin, version):
+    """The rules of one zone as its rows say them."""
     gathered = {}
     zone = reading.lower(origin)
     for (owner, rtype, data), ttl in version.rows.items():

@@ -3,12 +3,15 @@
 import re
 from dataclasses import dataclass, field
 
+import rules
+
 MOST_LINE, MOST_MESSAGE, MOST_ZONES, MOST_NUMBER, WORKERS = 200_000, 65_535, 32, 4_294_967_295, 16
 FORMS = {
     b"zone": ("name",), b"primary": ("zone", "address"), b"xfer": ("zone", "octets"), b"full": ("zone",),
     b"query": ("worker", "transport", "address", "message"), b"give": ("worker", "message"), b"fail": ("worker",),
     b"notify": ("address", "octets"), b"due": (), b"clock": ("number",),
 }
+TARGET = b"cname"  # the override that is followed by a name
 ANSWERED = (b"xfer", b"query", b"give", b"fail", b"notify", b"due")
 LABEL = re.compile(rb"[-A-Za-z0-9_*]{1,63}")
 
@@ -22,12 +25,20 @@ def refuse_if(is_wrong, why):
         raise Refused(why)
 
 
+def form_of(word, texts):
+    """The kinds that the fields behind a word must have; those of `zone` may have an override, too."""
+    if word != b"zone" or len(texts) < 2:
+        return FORMS[word]
+    return ("name", "override", "name") if texts[1] == TARGET else ("name", "override")
+
+
 @dataclass
 class State:
-    """What a line is read by: the zones by their names in lower case, and as they are spelled; their primaries; and the workers with a
-    pending query."""
+    """What a line is read by: the zones by their names in lower case, and as they are spelled; their overrides, each a word and a target;
+    their primaries; and the workers with a pending query."""
     zones: list = field(default_factory=list)
     spelled: list = field(default_factory=list)
+    overrides: list = field(default_factory=list)
     primaries: dict = field(default_factory=dict)
     is_running: bool = False
     pending: dict = field(default_factory=dict)
@@ -40,8 +51,9 @@ class State:
             return None
         word, *texts = line.split(b" ")
         refuse_if(word not in FORMS, "Word")
-        refuse_if(len(texts) != len(FORMS[word]) or b"" in texts, "Fields")
-        values = [getattr(self, kind)(text) for kind, text in zip(FORMS[word], texts, strict=True)]
+        form = form_of(word, texts)
+        refuse_if(len(texts) != len(form) or b"" in texts, "Fields")
+        values = [getattr(self, kind)(text) for kind, text in zip(form, texts, strict=True)]
         self.take(word, values)
         return word, values
 
@@ -53,6 +65,7 @@ class State:
             refuse_if(low in self.zones, "Repeated")
             self.zones.append(low)
             self.spelled.append(values[0])
+            self.overrides.append(rules.Override(*values[1:]))
         elif word == b"primary":
             refuse_if(self.is_running, "Late")
             refuse_if(values[0] in self.primaries, "Repeated")
@@ -69,6 +82,10 @@ class State:
         refuse_if(not all(LABEL.fullmatch(label) for label in labels), "Name")
         refuse_if(sum(len(label) + 1 for label in labels) + 1 > 255, "Name")
         return tuple(labels)
+
+    def override(self, text):
+        refuse_if(text != TARGET and text not in rules.OVERRIDES, "Override")
+        return text
 
     def number(self, text):
         refuse_if(not re.fullmatch(rb"[0-9]{1,10}", text) or int(text) > MOST_NUMBER, "Number")

@@ -4,6 +4,7 @@ import re
 import subprocess
 
 import mutations
+import overrides
 import policy
 import shapes
 import taking
@@ -19,6 +20,7 @@ TRIES = 300  # to make a script shorter that has failed
 ANY_LINE = re.compile(r"the line \d+")
 ADDRESSES = ("192.0.2.7", "127.0.0.1", "0.0.0.0", "255.255.255.255", "20010db8000000000000000000000001", "0" * 32)
 PRIMARY = "192.0.2.53"
+OVERRIDES = (b"given", b"disabled", b"nxdomain", b"nodata", b"passthru", b"drop", b"tcp-only", b"cname", b"off", b"NXDOMAIN", b"cname:a")
 ODD_NUMBERS = (b"0", b"1", b"2", b"3", b"00000000001", b"0000000001", b"15", b"16", b"4294967295", b"4294967296", b"-1", b"+1", b"", b"1.")
 
 
@@ -106,7 +108,8 @@ class Growing:
     def all_rounds(self):
         if self.zones:
             for name in (policy.ZONE, *(zone.name for zone in self.zones)):
-                self.add(f"zone {b'.'.join(name).decode()}")
+                override = overrides.in_script(self.chance, overrides.drawn(self.chance))
+                self.add(f"zone {b'.'.join(name).decode()}{override}")
             for number in range(1, len(self.zones) + 2):
                 self.add(f"primary {number} {PRIMARY}")
             self.add(f"xfer 1 {digits(policy.transfer(0, TYPES['AXFR']))}")
@@ -205,16 +208,19 @@ class Growing:
 
 
 def change_field(chance, line):
-    """The line with another value in one of its fields."""
+    """The line with another value in one of its fields; one of `zone` in some cases with a field more or less."""
     fields = line.split(b" ")
     at = chance.randrange(len(fields))
-    if at == 0:
+    if fields[0] == b"zone" and chance.random() < 0.5:
+        others = (*OVERRIDES, b"garden.test", b"*.garden.test", b".", b"")
+        fields = fields[:chance.randrange(2, 4)] + chance.sample(others, chance.randrange(3))
+    elif at == 0:
         fields[0] = chance.choice((b"query", b"give", b"fail", b"xfer", b"zone", b"Zone", b"due", b"clock", b"notify", b"primary", b"full"))
     elif len(fields[at]) > 40:
         fields[at] = changed_digits(chance, fields[at])
     else:
         fields[at] = chance.choice((*ODD_NUMBERS, b"udp", b"tcp", b"UDP", b"1.2.3.256", b"1.2.3", b"0" * 33, b"-", b"a..b", b"*" * 64, b"0",
-                                    fields[at].upper(), fields[at] + b".", fields[at] + b"0", b"x.y", b"a" * 63 + b".y"))
+                                    fields[at].upper(), fields[at] + b".", fields[at] + b"0", b"x.y", b"a" * 63 + b".y", *OVERRIDES))
     return b" ".join(fields)
 
 

@@ -97,7 +97,8 @@ class Serving:
 
     def fail(self, said, *octets):
         station = self.station
-        head = [f"# {said}", f"# seed {self.seed}, {'the zone that stays alone' if station.is_plain else 'two zones'}",
+        zones = "the zone that stays alone" if station.is_plain else f"two zones, of which the second has {station.override}"
+        head = [f"# {said}", f"# seed {self.seed}, {zones}",
                 "# the last messages, in order, as hexadecimal digits; behind them the request and the reply that this is about"]
         lines = [f"# {line}" for line in station.new_lines()[-20:]]
         about = "about " + " ".join(one.hex() or "-" for one in octets)

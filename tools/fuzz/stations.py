@@ -11,6 +11,7 @@ import time
 
 import deciding
 import mutations
+import overrides
 import peers
 import policy
 import reading
@@ -198,13 +199,15 @@ class OddPrimary:
 
 
 class Station:
-    """The server with its peers. `is_plain`: it has the zone that stays alone, so that most names pass."""
+    """The server with its peers. `is_plain`: it has the zone that stays alone, so that most names pass. `override`: of the zone whose
+    transfers are mutated."""
 
     def __init__(self, program, port, seed, is_plain):
         self.port, self.is_plain, self.chance = port, is_plain, random.Random(seed)
         self.events = Events()
         self.lines, self.read_octets = [], 0
         self.ruled, self.odd_rules = None, []
+        self.override = overrides.drawn(self.chance)
         with contextlib.ExitStack() as ends:
             self.upstream = Upstream(port + 1, seed, self.events)
             ends.callback(self.upstream.listener.end)
@@ -214,7 +217,7 @@ class Station:
                 self.primary = OddPrimary(port + 3, self.chance, self.events)
                 ends.callback(self.primary.listener.end)
                 self.primary.order()
-                zones.append((".".join(label.decode() for label in ODD), port + 3))
+                zones.append((".".join(label.decode() for label in ODD), port + 3, overrides.in_words(self.chance, self.override)))
             options = ("--cache", str(CACHE))
             self.server = peers.Server(program, port, port + 1, zones, self.chance.choice((1, 2, 4)), options)
             ends.callback(self.server.remove_files)
@@ -246,7 +249,8 @@ class Station:
         version = None if self.is_plain else self.primary.version
         if version is not self.ruled:
             self.ruled = version
-            self.odd_rules = rules.rules_of(2, ODD, version) if version is not None and version.serial is not None else []
+            is_loaded = version is not None and version.serial is not None
+            self.odd_rules = rules.rules_of(2, ODD, version, self.override) if is_loaded else []
         return [*policy.RULES, *self.odd_rules]
 
     def polls_of(self, zone):

@@ -6,7 +6,7 @@ use crate::bench_error::BenchError;
 use crate::facts_sample::{ALIAS, learn};
 use crate::samples::{QUERY, RESPONSE, name, question};
 use crate::sheet::Sheet;
-use crate::tried::{Tried, changed_twice};
+use crate::tried::{Tried, changed_twice, tried_twice};
 use dns_message::Question;
 use dns_name::Octets;
 use dns_record::rtype;
@@ -24,19 +24,20 @@ pub const NAMES: &str = "upstream_link::ask\n\
 /// What a link in memory gave.
 type Given = Learned<ListLink>;
 
-// A link that gives the response three times: each call takes one, and one is taken though there is no memory for what it says.
-fn make_link(alloc: Global) -> Result<ListLink, AllocError> {
+// A link in memory, and what it is asked.
+#[derive(Drop)]
+struct Asking {
+    link: ListLink,
+    asked: Question,
+}
+
+/// A link that gives the response so many times.
+pub fn make_link(alloc: Global, count: u32) -> Result<ListLink, AllocError> {
     let mut messages = Vec::new(alloc);
-    for _count in 0..3 {
+    for _count in 0..count {
         messages.push(Octets::from_slice(alloc, RESPONSE)?)?;
     }
     Ok(ListLink::new(messages, Vec::new(alloc)))
-}
-
-// What is learned of the question at the second 100 from these octets.
-fn learned(alloc: Global, asked: &Question, octets: &[u8]) -> Result<Given, AllocError> {
-    let bytes = Octets::from_slice(alloc, octets)?;
-    Learned::given(alloc, 0, asked, &bytes, 100)
 }
 
 // Its life, the octets of its answers, and what it says at the second 130.
@@ -49,36 +50,19 @@ fn show_learned(alloc: Global, sheet: &mut Sheet, learned: &Given) -> Result<(),
     sheet.show(&learned.fact(alloc, 130)?)
 }
 
-fn ask_once(
-    alloc: Global,
-    sheet: &mut Sheet,
-    link: &mut ListLink,
-    asked: &Question,
-) -> Result<(), BenchError> {
-    match ask(alloc, link, 0, asked, 100)? {
-        AskOutcome::Learned(learned) => show_learned(alloc, sheet, &learned),
-        AskOutcome::Failed => sheet.say("failed"),
+// What is asked over the link, or learned of the question at the second 100.
+impl Tried for Asking {
+    fn once(&mut self, alloc: Global, sheet: &mut Sheet, call: &str) -> Result<(), BenchError> {
+        if call == "upstream_link::ask" {
+            return match ask(alloc, &mut self.link, 0, &self.asked, 100)? {
+                AskOutcome::Learned(learned) => show_learned(alloc, sheet, &learned),
+                AskOutcome::Failed => sheet.say("failed"),
+            };
+        }
+        let bytes = Octets::from_slice(alloc, RESPONSE)?;
+        let learned: Given = Learned::given(alloc, 0, &self.asked, &bytes, 100)?;
+        show_learned(alloc, sheet, &learned)
     }
-}
-
-fn ask_twice(alloc: Global, sheet: &mut Sheet, asked: &Question) -> Result<(), BenchError> {
-    let mut link = make_link(alloc)?;
-    let first = ask_once(alloc, sheet, &mut link, asked);
-    sheet.settle(first)?;
-    let second = ask_once(alloc, sheet, &mut link, asked);
-    sheet.settle(second)
-}
-
-fn given(alloc: Global, sheet: &mut Sheet, asked: &Question) -> Result<(), BenchError> {
-    let learned = learned(alloc, asked, RESPONSE)?;
-    show_learned(alloc, sheet, &learned)
-}
-
-fn given_twice(alloc: Global, sheet: &mut Sheet, asked: &Question) -> Result<(), BenchError> {
-    let first = given(alloc, sheet, asked);
-    sheet.settle(first)?;
-    let second = given(alloc, sheet, asked);
-    sheet.settle(second)
 }
 
 // What it says in the second in which it came.
@@ -117,33 +101,23 @@ impl Tried for Facts {
     }
 }
 
-// Of lists, which calls change.
-fn changed(alloc: Global, sheet: &mut Sheet, call: &str) -> Result<(), BenchError> {
-    match call {
-        "upstream_link::Names::push" => {
-            let mut names = Names::new(alloc);
-            changed_twice(alloc, sheet, call, &mut names)
-        }
-        _ => {
-            let mut facts = Facts::new(alloc);
-            changed_twice(alloc, sheet, call, &mut facts)
-        }
+// Of a question. A link that is asked has the response three times: each call takes one, and one is taken though there is no memory for
+// what it says.
+fn of_question(alloc: Global, sheet: &mut Sheet, call: &str) -> Result<(), BenchError> {
+    let asked = question(alloc)?;
+    if call == "upstream_link::Learned::fact" {
+        return facts_twice(alloc, sheet, &asked);
     }
+    let count = if call == "upstream_link::ask" { 3 } else { 0 };
+    let link = make_link(alloc, count)?;
+    tried_twice(alloc, sheet, call, Asking { link, asked })
 }
 
 /// Does the call of this name twice.
 pub fn twice(alloc: Global, sheet: &mut Sheet, call: &str) -> Result<(), BenchError> {
-    if matches!(
-        call,
-        "upstream_link::Names::push" | "upstream_link::Facts::push"
-    ) {
-        return changed(alloc, sheet, call);
-    }
-    let asked = question(alloc)?;
     match call {
-        "upstream_link::ask" => ask_twice(alloc, sheet, &asked),
-        "upstream_link::Learned::given" => given_twice(alloc, sheet, &asked),
-        "upstream_link::Learned::fact" => facts_twice(alloc, sheet, &asked),
-        _ => Err(BenchError::Words),
+        "upstream_link::Names::push" => changed_twice(alloc, sheet, call, Names::new(alloc)),
+        "upstream_link::Facts::push" => changed_twice(alloc, sheet, call, Facts::new(alloc)),
+        _ => of_question(alloc, sheet, call),
     }
 }

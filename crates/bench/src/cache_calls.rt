@@ -3,6 +3,7 @@
 use crate::bench_error::BenchError;
 use crate::samples::{RESPONSE, question};
 use crate::sheet::Sheet;
+use crate::tried::{Tried, tried_twice};
 use answer_cache::{AnswerCache, SharedCache};
 use dns_message::Question;
 use dns_name::Octets;
@@ -23,21 +24,11 @@ pub const NAMES: &str = "answer_cache::AnswerCache::open\n\
 
 type Cache = AnswerCache<ListLink, BuildHasherDefault<FoldHasher>>;
 
-// An empty cache with room for an entry.
-fn open(alloc: Global) -> Result<Cache, AllocError> {
-    AnswerCache::open(alloc, 1, BuildHasherDefault::new())
-}
-
-fn open_shared(alloc: Global, hashers: RandomState) -> Result<SharedCache<ListLink>, AllocError> {
-    SharedCache::open(alloc, 1, hashers)
-}
-
-// Keeps what is learned of the question at the second 100, for 60 seconds.
-fn keep_one(alloc: Global, cache: &mut Cache, asked: &Question) -> Result<(), BenchError> {
-    let bytes = Octets::from_slice(alloc, RESPONSE)?;
-    let learned = Learned::given(alloc, 0, asked, &bytes, 100)?;
-    cache.keep(alloc, asked, learned)?;
-    Ok(())
+// A cache with room for an entry, and the question that is looked up.
+#[derive(Drop)]
+struct Own {
+    cache: Cache,
+    asked: Question,
 }
 
 // What a look-up found: its lifetime, and the octets of its answers.
@@ -51,67 +42,51 @@ fn show_found(sheet: &mut Sheet, found: &Option<Learned<ListLink>>) -> Result<()
     }
 }
 
-// Whether something is found in the cache that a call has changed.
+// What a look-up found in a cache that a call has changed.
 fn show_kept(
-    alloc: Global,
     sheet: &mut Sheet,
-    cache: &mut Cache,
-    asked: &Question,
+    found: Result<Option<Learned<ListLink>>, AllocError>,
 ) -> Result<(), BenchError> {
-    match cache.get(alloc, asked, 101) {
+    match found {
         Ok(found) => show_found(sheet, &found),
         Err(AllocError) => Err(BenchError::NotShown),
     }
 }
 
-fn keep(
-    alloc: Global,
-    sheet: &mut Sheet,
-    cache: &mut Cache,
-    asked: &Question,
-) -> Result<(), BenchError> {
-    keep_one(alloc, cache, asked)?;
-    show_kept(alloc, sheet, cache, asked)
+// Keeps what is learned of the question at the second 100, for 60 seconds.
+fn keep(alloc: Global, cache: &mut Cache, asked: &Question) -> Result<(), BenchError> {
+    let bytes = Octets::from_slice(alloc, RESPONSE)?;
+    let learned = Learned::given(alloc, 0, asked, &bytes, 100)?;
+    cache.keep(alloc, asked, learned)?;
+    Ok(())
 }
 
-fn get(
-    alloc: Global,
-    sheet: &mut Sheet,
-    cache: &mut Cache,
-    asked: &Question,
-) -> Result<(), BenchError> {
-    let found = cache.get(alloc, asked, 101)?;
-    show_found(sheet, &found)
-}
-
-fn of_own(
-    alloc: Global,
-    sheet: &mut Sheet,
-    call: &str,
-    cache: &mut Cache,
-    asked: &Question,
-) -> Result<(), BenchError> {
-    match call {
-        "answer_cache::AnswerCache::open" => {
-            let mut other = open(alloc)?;
-            get(alloc, sheet, &mut other, asked)
+impl Tried for Own {
+    fn once(&mut self, alloc: Global, sheet: &mut Sheet, call: &str) -> Result<(), BenchError> {
+        match call {
+            "answer_cache::AnswerCache::open" => {
+                let mut other = Cache::open(alloc, 1, BuildHasherDefault::new())?;
+                show_found(sheet, &other.get(alloc, &self.asked, 101)?)
+            }
+            "answer_cache::AnswerCache::keep" => {
+                keep(alloc, &mut self.cache, &self.asked)?;
+                show_kept(sheet, self.cache.get(alloc, &self.asked, 101))
+            }
+            "answer_cache::AnswerCache::get" => {
+                show_found(sheet, &self.cache.get(alloc, &self.asked, 101)?)
+            }
+            _ => Err(BenchError::Words),
         }
-        "answer_cache::AnswerCache::keep" => keep(alloc, sheet, cache, asked),
-        "answer_cache::AnswerCache::get" => get(alloc, sheet, cache, asked),
-        _ => Err(BenchError::Words),
     }
 }
 
-fn own(alloc: Global, sheet: &mut Sheet, call: &str) -> Result<(), BenchError> {
+fn make_own(alloc: Global, call: &str) -> Result<Own, BenchError> {
     let asked = question(alloc)?;
-    let mut cache = open(alloc)?;
+    let mut cache = Cache::open(alloc, 1, BuildHasherDefault::new())?;
     if call == "answer_cache::AnswerCache::get" {
-        keep_one(alloc, &mut cache, &asked)?;
+        keep(alloc, &mut cache, &asked)?;
     }
-    let first = of_own(alloc, sheet, call, &mut cache, &asked);
-    sheet.settle(first)?;
-    let second = of_own(alloc, sheet, call, &mut cache, &asked);
-    sheet.settle(second)
+    Ok(Own { cache, asked })
 }
 
 // The same of a cache that workers share.
@@ -127,44 +102,7 @@ fn keep_shared<R: Wait>(
     Ok(())
 }
 
-// Keeps, and shows what is found then.
-fn keep_and_show<R: Wait>(
-    rt: &R,
-    alloc: Global,
-    sheet: &mut Sheet,
-    cache: &SharedCache<ListLink>,
-    asked: &Question,
-) -> Result<(), BenchError> {
-    keep_shared(rt, alloc, cache, asked)?;
-    match cache.get(rt, alloc, asked, 101) {
-        Ok(found) => show_found(sheet, &found),
-        Err(AllocError) => Err(BenchError::NotShown),
-    }
-}
-
-fn get_shared<R: Wait>(
-    rt: &R,
-    alloc: Global,
-    sheet: &mut Sheet,
-    cache: &SharedCache<ListLink>,
-    asked: &Question,
-) -> Result<(), BenchError> {
-    let found = cache.get(rt, alloc, asked, 101)?;
-    show_found(sheet, &found)
-}
-
-fn open_and_get<R: Wait + RandomSource>(
-    rt: &R,
-    alloc: Global,
-    sheet: &mut Sheet,
-    asked: &Question,
-) -> Result<(), BenchError> {
-    let hashers = RandomState::new(rt)?;
-    let cache = open_shared(alloc, hashers)?;
-    get_shared(rt, alloc, sheet, &cache, asked)
-}
-
-fn of_shared<R: Wait + RandomSource>(
+fn once_shared<R: Wait + RandomSource>(
     rt: &R,
     alloc: Global,
     sheet: &mut Sheet,
@@ -173,11 +111,33 @@ fn of_shared<R: Wait + RandomSource>(
     asked: &Question,
 ) -> Result<(), BenchError> {
     match call {
-        "answer_cache::SharedCache::open" => open_and_get(rt, alloc, sheet, asked),
-        "answer_cache::SharedCache::keep" => keep_and_show(rt, alloc, sheet, cache, asked),
-        "answer_cache::SharedCache::get" => get_shared(rt, alloc, sheet, cache, asked),
-        _ => Err(BenchError::Words),
+        "answer_cache::SharedCache::open" => {
+            let other: SharedCache<ListLink> = SharedCache::open(alloc, 1, RandomState::new(rt)?)?;
+            show_found(sheet, &other.get(rt, alloc, asked, 101)?)
+        }
+        "answer_cache::SharedCache::keep" => {
+            keep_shared(rt, alloc, cache, asked)?;
+            show_kept(sheet, cache.get(rt, alloc, asked, 101))
+        }
+        _ => show_found(sheet, &cache.get(rt, alloc, asked, 101)?),
     }
+}
+
+fn twice_shared<R: Wait + RandomSource>(
+    rt: &R,
+    alloc: Global,
+    sheet: &mut Sheet,
+    call: &str,
+    cache: &SharedCache<ListLink>,
+    asked: &Question,
+) -> Result<(), BenchError> {
+    if call == "answer_cache::SharedCache::get" {
+        keep_shared(rt, alloc, cache, asked)?;
+    }
+    let first = once_shared(rt, alloc, sheet, call, cache, asked);
+    sheet.settle(first)?;
+    let second = once_shared(rt, alloc, sheet, call, cache, asked);
+    sheet.settle(second)
 }
 
 fn shared<R: Wait + RandomSource>(
@@ -187,14 +147,8 @@ fn shared<R: Wait + RandomSource>(
     call: &str,
 ) -> Result<(), BenchError> {
     let asked = question(alloc)?;
-    let cache = open_shared(alloc, RandomState::new(rt)?)?;
-    if call == "answer_cache::SharedCache::get" {
-        keep_shared(rt, alloc, &cache, &asked)?;
-    }
-    let first = of_shared(rt, alloc, sheet, call, &cache, &asked);
-    sheet.settle(first)?;
-    let second = of_shared(rt, alloc, sheet, call, &cache, &asked);
-    sheet.settle(second)
+    let cache = SharedCache::open(alloc, 1, RandomState::new(rt)?)?;
+    twice_shared(rt, alloc, sheet, call, &cache, &asked)
 }
 
 /// Does the call of this name twice.
@@ -208,6 +162,6 @@ pub fn twice<R: Wait + RandomSource>(
         "answer_cache::SharedCache::open"
         | "answer_cache::SharedCache::keep"
         | "answer_cache::SharedCache::get" => shared(rt, alloc, sheet, call),
-        _ => own(alloc, sheet, call),
+        _ => tried_twice(alloc, sheet, call, make_own(alloc, call)?),
     }
 }

@@ -65,33 +65,18 @@ fn of_data(alloc: Global, sheet: &mut Sheet, call: &str) -> Result<(), BenchErro
     }
 }
 
-// Of summaries.
-fn of_summaries(alloc: Global, sheet: &mut Sheet, call: &str) -> Result<(), BenchError> {
-    if is_listed(summary_calls::NAMES, call) {
-        summary_calls::twice(alloc, sheet, call)
-    } else {
-        prefix_summary_calls::twice(alloc, sheet, call)
-    }
-}
-
 // Of rules and zones.
 fn of_zones(alloc: Global, sheet: &mut Sheet, call: &str) -> Result<(), BenchError> {
     match crate_of(call) {
         "octet_trie" => trie_calls::twice(alloc, sheet, call),
         "prefix_index" => prefix_calls::twice(alloc, sheet, call),
         "qname_index" => pattern_calls::twice(alloc, sheet, call),
-        "summary_index" => of_summaries(alloc, sheet, call),
+        "summary_index" if is_listed(summary_calls::NAMES, call) => {
+            summary_calls::twice(alloc, sheet, call)
+        }
+        "summary_index" => prefix_summary_calls::twice(alloc, sheet, call),
         "zone_index" => zone_calls::twice(alloc, sheet, call),
         _ => of_data(alloc, sheet, call),
-    }
-}
-
-// Of the upstream.
-fn of_upstream(alloc: Global, sheet: &mut Sheet, call: &str) -> Result<(), BenchError> {
-    if is_listed(ask_calls::NAMES, call) {
-        ask_calls::twice(alloc, sheet, call)
-    } else {
-        upstream_calls::twice(alloc, sheet, call)
     }
 }
 
@@ -99,7 +84,10 @@ fn of_upstream(alloc: Global, sheet: &mut Sheet, call: &str) -> Result<(), Bench
 fn of_queries(alloc: Global, sheet: &mut Sheet, call: &str) -> Result<(), BenchError> {
     match crate_of(call) {
         "notify_poll" => poll_calls::twice(alloc, sheet, call),
-        "upstream_link" => of_upstream(alloc, sheet, call),
+        "upstream_link" if is_listed(ask_calls::NAMES, call) => {
+            ask_calls::twice(alloc, sheet, call)
+        }
+        "upstream_link" => upstream_calls::twice(alloc, sheet, call),
         "policy_snapshot" => policy_calls::twice(alloc, sheet, call),
         "reply_build" => reply_calls::twice(alloc, sheet, call),
         "query_session" => session_calls::twice(alloc, sheet, call),
@@ -107,20 +95,6 @@ fn of_queries(alloc: Global, sheet: &mut Sheet, call: &str) -> Result<(), BenchE
         "script_codec" => script_calls::twice(alloc, sheet, call),
         "edge_io" => edge_calls::twice(alloc, sheet, call),
         _ => of_zones(alloc, sheet, call),
-    }
-}
-
-// Of whole runs.
-fn of_runs<R: Threads + Wait + Clock + RandomSource + Copy + Drop + Send + Sync + 'static>(
-    rt: &R,
-    alloc: Global,
-    sheet: &mut Sheet,
-    call: &str,
-) -> Result<(), BenchError> {
-    if is_listed(serve_calls::NAMES, call) {
-        serve_calls::twice(rt, alloc, sheet)
-    } else {
-        run_calls::twice(rt, alloc, sheet, call)
     }
 }
 
@@ -133,65 +107,67 @@ fn twice<R: Threads + Wait + Clock + RandomSource + Copy + Drop + Send + Sync + 
 ) -> Result<(), BenchError> {
     match crate_of(call) {
         "answer_cache" => cache_calls::twice(rt, alloc, sheet, call),
-        "policy_publish" | "policy_feed" | "transfer_under_pins" => {
-            publish_calls::twice(rt, alloc, sheet, call)
-        }
-        "rpz_workers" | "answers_under_refusal" => worker_calls::twice(rt, alloc, sheet, call),
+        "policy_publish"
+        | "policy_feed"
+        | "transfer_under_pins"
+        | "rpz_workers"
+        | "answers_under_refusal" => publish_calls::twice(rt, alloc, sheet, call),
         "load_gen" => load_calls::twice(rt, alloc, sheet, call),
-        "rpz_program" => of_runs(rt, alloc, sheet, call),
+        "rpz_program" => run_calls::twice(rt, alloc, sheet, call),
         _ => of_queries(alloc, sheet, call),
     }
 }
 
+// The names of all calls.
+const NAMES: [&str; 31] = [
+    name_calls::NAMES,
+    record_calls::NAMES,
+    message_calls::NAMES,
+    rule_calls::NAMES,
+    shared_calls::NAMES,
+    packed_calls::NAMES,
+    row_calls::NAMES,
+    plain_calls::NAMES,
+    transfer_calls::NAMES,
+    reader_calls::NAMES,
+    trie_calls::NAMES,
+    prefix_calls::NAMES,
+    pattern_calls::NAMES,
+    summary_calls::NAMES,
+    prefix_summary_calls::NAMES,
+    zone_calls::NAMES,
+    poll_calls::NAMES,
+    upstream_calls::NAMES,
+    ask_calls::NAMES,
+    cache_calls::NAMES,
+    policy_calls::NAMES,
+    reply_calls::NAMES,
+    session_calls::NAMES,
+    core_calls::NAMES,
+    script_calls::NAMES,
+    publish_calls::NAMES,
+    worker_calls::NAMES,
+    load_calls::NAMES,
+    run_calls::NAMES,
+    serve_calls::NAMES,
+    edge_calls::NAMES,
+];
+
 fn say_names(sheet: &mut Sheet) -> Result<(), BenchError> {
-    for names in [
-        name_calls::NAMES,
-        record_calls::NAMES,
-        message_calls::NAMES,
-        rule_calls::NAMES,
-        shared_calls::NAMES,
-        packed_calls::NAMES,
-        row_calls::NAMES,
-        plain_calls::NAMES,
-        transfer_calls::NAMES,
-        reader_calls::NAMES,
-        trie_calls::NAMES,
-        prefix_calls::NAMES,
-        pattern_calls::NAMES,
-        summary_calls::NAMES,
-        prefix_summary_calls::NAMES,
-        zone_calls::NAMES,
-        poll_calls::NAMES,
-        upstream_calls::NAMES,
-        ask_calls::NAMES,
-        cache_calls::NAMES,
-        policy_calls::NAMES,
-        reply_calls::NAMES,
-        session_calls::NAMES,
-        core_calls::NAMES,
-        script_calls::NAMES,
-        publish_calls::NAMES,
-        worker_calls::NAMES,
-        load_calls::NAMES,
-        run_calls::NAMES,
-        serve_calls::NAMES,
-        edge_calls::NAMES,
-    ] {
+    for names in NAMES {
         sheet.lines.push_str(names)?;
     }
     Ok(())
 }
 
-fn write<R: Threads + Wait + Clock + RandomSource + Copy + Drop + Send + Sync + 'static>(
-    rt: &R,
-    alloc: Global,
-    sheet: &mut Sheet,
-    call: Option<&String>,
-) -> Result<(), BenchError> {
-    match call {
-        Some(call) => twice(rt, alloc, sheet, call.as_str()),
-        None => say_names(sheet),
+// Whether there is a call of this name.
+fn is_call(call: &str) -> bool {
+    for names in NAMES {
+        if is_listed(names, call) {
+            return true;
+        }
     }
+    false
 }
 
 /// Does the call of this name twice, and prints what came of it; without a name all names.
@@ -201,7 +177,11 @@ pub fn run<R: Threads + Wait + Clock + RandomSource + Copy + Drop + Send + Sync 
     call: Option<&String>,
 ) -> Result<(), BenchError> {
     let mut sheet = Sheet::new(alloc)?;
-    write(rt, alloc, &mut sheet, call)?;
+    match call {
+        Some(call) if is_call(call.as_str()) => twice(rt, alloc, &mut sheet, call.as_str())?,
+        Some(_) => return Err(BenchError::Words),
+        None => say_names(&mut sheet)?,
+    }
     let lines = sheet.lines.as_str();
     print!(rt; "{lines}")?;
     Ok(())

@@ -4,8 +4,10 @@ use crate::bench_error::BenchError;
 use crate::samples::{CLIENT_ADDR, DENIED_QUERY, QUERY, origin};
 use crate::sheet::Sheet;
 use crate::transfer_calls::WHOLE;
-use dns_name::{Name, Octets};
+use crate::tried::{Tried, both_times};
+use dns_name::Octets;
 use ip_prefix::{Addr, Transport};
+use policy_override::{Override, ZoneSet};
 use rpz_core::{Core, CoreError, Event};
 use std::alloc::{AllocError, Global};
 
@@ -30,28 +32,34 @@ const NOTIFY: &[u8] = b"\0\x07\x24\0\0\x01\0\0\0\0\0\0\x03rpz\x07example\0\0\x06
 const GIVEN: &[u8] =
     b"\0\x01\x81\x80\0\x01\0\x01\0\0\0\0\x01x\x07example\0\0\x01\0\x01\x01x\x07example\0\0\x01\0\x01\0\0\0\x3c\0\x04\xc6\x33\x64\x09";
 
-fn octets(alloc: Global, bytes: &[u8]) -> Result<Octets, AllocError> {
-    Octets::from_slice(alloc, bytes)
-}
-
-fn query_event(alloc: Global, bytes: &[u8]) -> Result<Event, BenchError> {
+fn query_event(alloc: Global, bytes: &[u8]) -> Result<Event, AllocError> {
     Ok(Event::Query {
         worker: 1,
         transport: Transport::Udp,
         client: CLIENT_ADDR,
-        message: octets(alloc, bytes)?,
+        message: Octets::from_slice(alloc, bytes)?,
     })
 }
 
-fn other_event(alloc: Global, call: &str) -> Result<Event, BenchError> {
+fn transfer_event(alloc: Global) -> Result<Event, AllocError> {
+    Ok(Event::Transfer {
+        zone: 1,
+        stream: Octets::from_slice(alloc, WHOLE)?,
+    })
+}
+
+fn event(alloc: Global, call: &str) -> Result<Event, BenchError> {
     match call {
+        "rpz_core::Core::step::transfer" => Ok(transfer_event(alloc)?),
+        "rpz_core::Core::step::query" => Ok(query_event(alloc, QUERY)?),
+        "rpz_core::Core::step::query::rule" => Ok(query_event(alloc, DENIED_QUERY)?),
         "rpz_core::Core::step::give" => Ok(Event::Give {
             worker: 1,
-            message: octets(alloc, GIVEN)?,
+            message: Octets::from_slice(alloc, GIVEN)?,
         }),
         "rpz_core::Core::step::notify" => Ok(Event::Notify {
             client: PRIMARY,
-            message: octets(alloc, NOTIFY)?,
+            message: Octets::from_slice(alloc, NOTIFY)?,
         }),
         "rpz_core::Core::step::full" => Ok(Event::Full { zone: 1 }),
         "rpz_core::Core::step::fail" => Ok(Event::Fail { worker: 1 }),
@@ -61,20 +69,11 @@ fn other_event(alloc: Global, call: &str) -> Result<Event, BenchError> {
     }
 }
 
-fn event(alloc: Global, call: &str) -> Result<Event, BenchError> {
-    match call {
-        "rpz_core::Core::step::transfer" => Ok(Event::Transfer {
-            zone: 1,
-            stream: octets(alloc, WHOLE)?,
-        }),
-        "rpz_core::Core::step::query" => query_event(alloc, QUERY),
-        "rpz_core::Core::step::query::rule" => query_event(alloc, DENIED_QUERY),
-        _ => other_event(alloc, call),
-    }
-}
-
-fn start(alloc: Global, origins: &[Name; 1]) -> Result<Core, BenchError> {
-    Ok(Core::start(alloc, origins, &[Some(PRIMARY)])?)
+// A core, and the zone that it is of.
+#[derive(Drop)]
+struct Machine {
+    core: Core,
+    zones: [ZoneSet; 1],
 }
 
 // How many zones there are, and which workers wait.
@@ -94,53 +93,42 @@ fn step(alloc: Global, sheet: &mut Sheet, call: &str, core: &mut Core) -> Result
     show_core(sheet, core)
 }
 
-fn once(
-    alloc: Global,
-    sheet: &mut Sheet,
-    call: &str,
-    core: &mut Core,
-    origins: &[Name; 1],
-) -> Result<(), BenchError> {
-    match call {
-        "rpz_core::Core::start" => {
-            let other = start(alloc, origins)?;
-            show_core(sheet, &other)
+impl Tried for Machine {
+    fn once(&mut self, alloc: Global, sheet: &mut Sheet, call: &str) -> Result<(), BenchError> {
+        match call {
+            "rpz_core::Core::start" => {
+                let other = Core::start(alloc, &self.zones, &[Some(PRIMARY)])?;
+                show_core(sheet, &other)
+            }
+            _ => step(alloc, sheet, call, &mut self.core),
         }
-        _ => step(alloc, sheet, call, core),
     }
 }
 
 // The core takes the events that come before that of a call: a transfer, and for an answer of the upstream a query.
-fn go_on(alloc: Global, call: &str, core: &mut Core) -> Result<(), BenchError> {
-    if call == "rpz_core::Core::step::transfer" {
-        return Ok(());
-    }
-    let stream = octets(alloc, WHOLE)?;
-    let _taken = core.step(Event::Transfer { zone: 1, stream })?;
-    if call == "rpz_core::Core::step::give" || call == "rpz_core::Core::step::fail" {
-        let _asks = core.step(query_event(alloc, QUERY)?)?;
-    }
-    Ok(())
-}
-
-fn of_core(
+fn go_on(
     alloc: Global,
     sheet: &mut Sheet,
     call: &str,
-    core: &mut Core,
-    origins: &[Name; 1],
+    machine: &mut Machine,
 ) -> Result<(), BenchError> {
-    go_on(alloc, call, core)?;
-    let first = once(alloc, sheet, call, core, origins);
-    sheet.settle(first)?;
-    let second = once(alloc, sheet, call, core, origins);
-    sheet.settle(second)?;
+    if call != "rpz_core::Core::step::transfer" {
+        drop(machine.core.step(transfer_event(alloc)?)?);
+    }
+    if call == "rpz_core::Core::step::give" || call == "rpz_core::Core::step::fail" {
+        drop(machine.core.step(query_event(alloc, QUERY)?)?);
+    }
+    both_times(alloc, sheet, call, machine)?;
     sheet.changes()
 }
 
 /// Does the call of this name twice.
 pub fn twice(alloc: Global, sheet: &mut Sheet, call: &str) -> Result<(), BenchError> {
-    let origins = [origin(alloc)?];
-    let mut core = start(alloc, &origins)?;
-    of_core(alloc, sheet, call, &mut core, &origins)
+    let zones = [ZoneSet {
+        origin: origin(alloc)?,
+        over: Override::Given,
+    }];
+    let core = Core::start(alloc, &zones, &[Some(PRIMARY)])?;
+    let mut machine = Machine { core, zones };
+    go_on(alloc, sheet, call, &mut machine)
 }

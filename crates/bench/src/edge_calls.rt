@@ -4,6 +4,7 @@ use crate::bench_error::BenchError;
 use crate::samples::QUERY;
 use crate::sheet::Sheet;
 use crate::transfer_calls::WHOLE;
+use crate::tried::{Tried, tried_twice};
 use edge_io::{Bytes, ListSink, read_frame, write_frame};
 use std::alloc::Global;
 
@@ -11,29 +12,28 @@ use std::alloc::Global;
 pub const NAMES: &str = "edge_io::read_frame\n\
     edge_io::write_frame\n";
 
-fn read(alloc: Global, sheet: &mut Sheet) -> Result<(), BenchError> {
-    let mut source = Bytes::new(WHOLE.to_vec(alloc)?);
-    sheet.show(&read_frame(alloc, &mut source)?)
-}
+// The messages that are read and written.
+#[derive(Drop)]
+struct Frames;
 
-fn write(alloc: Global, sheet: &mut Sheet) -> Result<(), BenchError> {
-    let mut sink = ListSink::new(Vec::new(alloc), 65_536, Vec::new(alloc));
-    write_frame(&mut sink, QUERY)?;
-    sheet.show(&sink.bytes)
-}
-
-fn once(alloc: Global, sheet: &mut Sheet, call: &str) -> Result<(), BenchError> {
-    match call {
-        "edge_io::read_frame" => read(alloc, sheet),
-        "edge_io::write_frame" => write(alloc, sheet),
-        _ => Err(BenchError::Words),
+impl Tried for Frames {
+    fn once(&mut self, alloc: Global, sheet: &mut Sheet, call: &str) -> Result<(), BenchError> {
+        match call {
+            "edge_io::read_frame" => {
+                let mut source = Bytes::new(WHOLE.to_vec(alloc)?);
+                sheet.show(&read_frame(alloc, &mut source)?)
+            }
+            "edge_io::write_frame" => {
+                let mut sink = ListSink::new(Vec::new(alloc), 65_536, Vec::new(alloc));
+                write_frame(&mut sink, QUERY)?;
+                sheet.show(&sink.bytes)
+            }
+            _ => Err(BenchError::Words),
+        }
     }
 }
 
 /// Does the call of this name twice.
 pub fn twice(alloc: Global, sheet: &mut Sheet, call: &str) -> Result<(), BenchError> {
-    let first = once(alloc, sheet, call);
-    sheet.settle(first)?;
-    let second = once(alloc, sheet, call);
-    sheet.settle(second)
+    tried_twice(alloc, sheet, call, Frames)
 }

@@ -6,7 +6,6 @@
 use crate::bench_error::BenchError;
 use crate::sheet::Sheet;
 use crate::shown::show_written;
-use crate::transfer_calls::{STEPS, WHOLE};
 use edge_io::{ListSink, ListSource};
 use policy_feed::{FeedError, Polled, poll_zone};
 use policy_publish::{Publisher, StoreName};
@@ -29,15 +28,6 @@ fn polled<N: StoreName, R: Wait>(
     Ok((gave, sink.bytes))
 }
 
-// What is loaded, and what is asked for next.
-fn show_next<N: StoreName>(sheet: &mut Sheet, publisher: &Publisher<N>) -> Result<(), BenchError> {
-    if !publisher.has_zone(1) {
-        return Err(BenchError::Empty);
-    }
-    sheet.show(&publisher.soa(1))?;
-    sheet.show(&publisher.wanted(1))
-}
-
 fn show_poll<N: StoreName>(
     sheet: &mut Sheet,
     publisher: &Publisher<N>,
@@ -52,20 +42,23 @@ fn show_poll<N: StoreName>(
         _ => {
             sheet.show(&gave)?;
             show_written(sheet, octets)?;
-            show_next(sheet, publisher)
+            if !publisher.has_zone(1) {
+                return Err(BenchError::Empty);
+            }
+            sheet.show(&publisher.soa(1))?;
+            sheet.show(&publisher.wanted(1))
         }
     }
 }
 
-/// Polls the zone, and gives the request a stream of all of the zone, or of steps from the serial 1.
+/// Polls the zone, and gives the request this stream: of all of the zone, or of steps from the serial 1.
 pub fn poll<N: StoreName, R: Wait>(
     rt: &R,
     alloc: Global,
     sheet: &mut Sheet,
     publisher: &mut Publisher<N>,
-    is_whole: bool,
+    stream: &[u8],
 ) -> Result<(), BenchError> {
-    let stream = if is_whole { WHOLE } else { STEPS };
     let (gave, octets) = polled(rt, alloc, publisher, stream)?;
     show_poll(sheet, publisher, gave, &octets)
 }

@@ -72,7 +72,7 @@ fn main(rt: HostRuntime) -> io::Result<ExitCode> {
         Ok(Bench::Transfers) => transfers::run(&rt, alloc, &mut source),
         Ok(Bench::Calls) => calls::run(&rt, alloc, words.get(1)),
         Ok(Bench::Edits) => edits::run(&rt, alloc, &mut source),
-        Ok(Bench::Queries(origins)) => queries::run(&rt, alloc, &origins, &mut source),
+        Ok(Bench::Queries(zones)) => queries::run(&rt, alloc, &zones, &mut source),
         Ok(Bench::Workers(plan)) => workers::run(rt, alloc, plan, &mut source),
         Err(refusal) => Err(refusal),
     };

@@ -3,6 +3,7 @@
 use crate::bench_error::BenchError;
 use crate::samples::{CLIENT_ADDR, QUERY, RESPONSE};
 use crate::sheet::Sheet;
+use crate::tried::{Tried, tried_twice};
 use dns_message::{
     Message, WrittenRecords, classify, read_message, read_query_parts, write_message, write_records,
 };
@@ -24,27 +25,25 @@ fn records(alloc: Global, message: &Message) -> Result<Octets, BenchError> {
     Ok(out)
 }
 
-fn once(alloc: Global, sheet: &mut Sheet, call: &str, message: &Message) -> Result<(), BenchError> {
-    match call {
-        "dns_message::read_message" => sheet.show(&read_message(alloc, RESPONSE)?),
-        "dns_message::write_message" => sheet.show(&write_message(alloc, message, 512)?),
-        "dns_message::classify" => {
-            sheet.show(&classify(alloc, QUERY, CLIENT_ADDR, Transport::Udp)?)
+impl Tried for Message {
+    fn once(&mut self, alloc: Global, sheet: &mut Sheet, call: &str) -> Result<(), BenchError> {
+        match call {
+            "dns_message::read_message" => sheet.show(&read_message(alloc, RESPONSE)?),
+            "dns_message::write_message" => sheet.show(&write_message(alloc, self, 512)?),
+            "dns_message::classify" => {
+                sheet.show(&classify(alloc, QUERY, CLIENT_ADDR, Transport::Udp)?)
+            }
+            "dns_message::read_query_parts" => sheet.show(&read_query_parts(alloc, QUERY)?),
+            "dns_message::write_records" => sheet.show(&records(alloc, self)?),
+            "dns_message::WrittenRecords::of" => {
+                sheet.show(&WrittenRecords::of(alloc, self.answer.as_slice())?)
+            }
+            _ => Err(BenchError::Words),
         }
-        "dns_message::read_query_parts" => sheet.show(&read_query_parts(alloc, QUERY)?),
-        "dns_message::write_records" => sheet.show(&records(alloc, message)?),
-        "dns_message::WrittenRecords::of" => {
-            sheet.show(&WrittenRecords::of(alloc, message.answer.as_slice())?)
-        }
-        _ => Err(BenchError::Words),
     }
 }
 
 /// Does the call of this name twice.
 pub fn twice(alloc: Global, sheet: &mut Sheet, call: &str) -> Result<(), BenchError> {
-    let message = read_message(alloc, RESPONSE)?;
-    let first = once(alloc, sheet, call, &message);
-    sheet.settle(first)?;
-    let second = once(alloc, sheet, call, &message);
-    sheet.settle(second)
+    tried_twice(alloc, sheet, call, read_message(alloc, RESPONSE)?)
 }

@@ -2,7 +2,7 @@
 
 use crate::bench_error::BenchError;
 use crate::sheet::Sheet;
-use crate::tried::{Tried, changed_twice};
+use crate::tried::{Tried, changed_twice, tried_twice};
 use dns_name::{Name, Octets, Pattern};
 use std::alloc::Global;
 
@@ -24,18 +24,21 @@ const TEXT: &[u8] = b"Www.Bad.example";
 // The name `www.bad.example`, whose last label stands before it in the message (RFC 1035, section 4.1.4).
 const MESSAGE: &[u8] = b"\x07example\0\x03www\x03bad\xc0\0";
 
-fn once(alloc: Global, sheet: &mut Sheet, call: &str, name: &Name) -> Result<(), BenchError> {
-    match call {
-        "dns_name::Name::from_text" => sheet.show(&Name::from_text(alloc, TEXT)?),
-        "dns_name::Name::read" => sheet.show(&Name::read(alloc, MESSAGE, 9)?),
-        "dns_name::Name::join" => sheet.show(&Name::join(alloc, name, name)?),
-        "dns_name::Name::parent" => sheet.show(&name.parent(alloc)?),
-        "dns_name::Name::lower" => sheet.show(&name.lower(alloc)?),
-        "dns_name::Name::section" => sheet.show(&name.section(alloc, 1, 1)?),
-        "dns_name::Name::root" => sheet.show(&Name::root(alloc)?),
-        "dns_name::Pattern::new" => sheet.show(&Pattern::new(alloc, name, true)?),
-        "dns_name::Octets::from_slice" => sheet.show(&Octets::from_slice(alloc, MESSAGE)?),
-        _ => Err(BenchError::Words),
+impl Tried for Name {
+    fn once(&mut self, alloc: Global, sheet: &mut Sheet, call: &str) -> Result<(), BenchError> {
+        let name: &Name = self;
+        match call {
+            "dns_name::Name::from_text" => sheet.show(&Name::from_text(alloc, TEXT)?),
+            "dns_name::Name::read" => sheet.show(&Name::read(alloc, MESSAGE, 9)?),
+            "dns_name::Name::join" => sheet.show(&Name::join(alloc, name, name)?),
+            "dns_name::Name::parent" => sheet.show(&name.parent(alloc)?),
+            "dns_name::Name::lower" => sheet.show(&name.lower(alloc)?),
+            "dns_name::Name::section" => sheet.show(&name.section(alloc, 1, 1)?),
+            "dns_name::Name::root" => sheet.show(&Name::root(alloc)?),
+            "dns_name::Pattern::new" => sheet.show(&Pattern::new(alloc, name, true)?),
+            "dns_name::Octets::from_slice" => sheet.show(&Octets::from_slice(alloc, MESSAGE)?),
+            _ => Err(BenchError::Words),
+        }
     }
 }
 
@@ -49,21 +52,12 @@ impl Tried for Octets {
     }
 }
 
-fn of_name(alloc: Global, sheet: &mut Sheet, call: &str) -> Result<(), BenchError> {
-    let name = Name::from_text(alloc, TEXT)?;
-    let first = once(alloc, sheet, call, &name);
-    sheet.settle(first)?;
-    let second = once(alloc, sheet, call, &name);
-    sheet.settle(second)
-}
-
 /// Does the call of this name twice.
 pub fn twice(alloc: Global, sheet: &mut Sheet, call: &str) -> Result<(), BenchError> {
     match call {
         "dns_name::Octets::push" | "dns_name::Octets::append" => {
-            let mut octets = Octets::new(alloc);
-            changed_twice(alloc, sheet, call, &mut octets)
+            changed_twice(alloc, sheet, call, Octets::new(alloc))
         }
-        _ => of_name(alloc, sheet, call),
+        _ => tried_twice(alloc, sheet, call, Name::from_text(alloc, TEXT)?),
     }
 }

@@ -82,31 +82,26 @@ fn remove_first(list: &mut RowList) -> Result<(), BenchError> {
     Ok(())
 }
 
-// Pushes or removes a row, and shows the list.
-fn change(sheet: &mut Sheet, call: &str, list: &mut RowList) -> Result<(), BenchError> {
-    match call {
-        "row_list::RowList::push" | "row_list::RowList::push::full" => {
-            let number = push(list)?;
-            sheet.show(&number)?;
-        }
-        _ => remove_first(list)?,
-    }
-    show_list(sheet, list)
-}
-
 impl Tried for RowList {
     fn once(&mut self, _alloc: Global, sheet: &mut Sheet, call: &str) -> Result<(), BenchError> {
         match call {
             "row_list::RowList::share" => {
                 let other = self.share()?;
-                show_list(sheet, &other)
+                return show_list(sheet, &other);
             }
             "row_list::RowList::rebuilt" => {
                 let other = self.rebuilt()?;
-                show_list(sheet, &other)
+                return show_list(sheet, &other);
             }
-            _ => change(sheet, call, self),
+            "row_list::RowList::remove" | "row_list::RowList::remove::full" => {
+                remove_first(self)?;
+            }
+            _ => {
+                let number = push(self)?;
+                sheet.show(&number)?;
+            }
         }
+        show_list(sheet, self)
     }
 }
 
@@ -128,32 +123,26 @@ fn make_list(alloc: Global, count: u32) -> Result<RowList, AllocError> {
     Ok(list)
 }
 
-// The keys that a call is of.
-fn keys_twice(alloc: Global, sheet: &mut Sheet, call: &str) -> Result<(), BenchError> {
-    let mut keys = match call {
-        "key_list::KeyList::push" => KeyList::new(alloc),
-        _ => make_keys(alloc)?,
-    };
-    changed_twice(alloc, sheet, call, &mut keys)
-}
-
-fn rows_twice(alloc: Global, sheet: &mut Sheet, call: &str, count: u32) -> Result<(), BenchError> {
-    let mut list = make_list(alloc, count)?;
-    changed_twice(alloc, sheet, call, &mut list)
+// How many rows there are before the call.
+fn count_of(call: &str) -> Result<u32, BenchError> {
+    match call {
+        "row_list::RowList::push" => Ok(0),
+        "row_list::RowList::push::full" => Ok(BLOCK),
+        "row_list::RowList::remove" => Ok(2),
+        "row_list::RowList::remove::full"
+        | "row_list::RowList::share"
+        | "row_list::RowList::rebuilt" => Ok(BLOCK + 1),
+        _ => Err(BenchError::Words),
+    }
 }
 
 /// Does the call of this name twice.
 pub fn twice(alloc: Global, sheet: &mut Sheet, call: &str) -> Result<(), BenchError> {
     match call {
-        "key_list::KeyList::push" | "key_list::KeyList::sorted" | "key_list::numbers_of" => {
-            keys_twice(alloc, sheet, call)
+        "key_list::KeyList::push" => changed_twice(alloc, sheet, call, KeyList::new(alloc)),
+        "key_list::KeyList::sorted" | "key_list::numbers_of" => {
+            changed_twice(alloc, sheet, call, make_keys(alloc)?)
         }
-        "row_list::RowList::push" => rows_twice(alloc, sheet, call, 0),
-        "row_list::RowList::push::full" => rows_twice(alloc, sheet, call, BLOCK),
-        "row_list::RowList::remove" => rows_twice(alloc, sheet, call, 2),
-        "row_list::RowList::remove::full"
-        | "row_list::RowList::share"
-        | "row_list::RowList::rebuilt" => rows_twice(alloc, sheet, call, BLOCK + 1),
-        _ => Err(BenchError::Words),
+        _ => changed_twice(alloc, sheet, call, make_list(alloc, count_of(call)?)?),
     }
 }

@@ -1,8 +1,10 @@
 //! Calls of tries of patterns.
 
 use crate::bench_error::BenchError;
-use crate::samples::name;
+use crate::samples::pattern;
 use crate::sheet::Sheet;
+use crate::shown::{show_found, show_marked};
+use crate::tried::{Tried, tried_twice};
 use dns_name::Pattern;
 use qname_index::NameTrie;
 use std::alloc::{AllocError, Global};
@@ -26,25 +28,11 @@ const VALUE: Marked<u32, bool> = Marked {
 };
 
 // A trie, a pattern that it has, and one that it doesn't have.
+#[derive(Drop)]
 struct Patterns {
     trie: Trie,
     there: Pattern,
     lacking: Pattern,
-}
-
-impl Drop for Patterns {
-    fn drop(self) {
-        let Patterns {
-            trie: _,
-            there: _,
-            lacking: _,
-        } = self;
-    }
-}
-
-fn pattern(alloc: Global, text: &[u8], wild: bool) -> Result<Pattern, BenchError> {
-    let base = name(alloc, text)?;
-    Ok(Pattern::new(alloc, &base, wild)?)
 }
 
 fn make_trie(alloc: Global, one: &Pattern, other: &Pattern) -> Result<Trie, AllocError> {
@@ -65,23 +53,6 @@ fn make_patterns(alloc: Global) -> Result<Patterns, BenchError> {
     })
 }
 
-fn show_entries(alloc: Global, sheet: &mut Sheet, trie: &Trie) -> Result<(), BenchError> {
-    for entry in &trie.entries(alloc)? {
-        sheet.show(&entry.0)?;
-        sheet.show(&entry.1.value)?;
-    }
-    Ok(())
-}
-
-fn show_by_key(sheet: &mut Sheet, trie: &Trie) -> Result<(), BenchError> {
-    for entry in &trie.by_key()? {
-        sheet.show(&entry.key)?;
-        sheet.show(&entry.wild)?;
-        sheet.show(&entry.value.value)?;
-    }
-    Ok(())
-}
-
 fn made(call: &str, sample: &Patterns) -> Result<Trie, BenchError> {
     let trie = &sample.trie;
     match call {
@@ -94,22 +65,23 @@ fn made(call: &str, sample: &Patterns) -> Result<Trie, BenchError> {
     }
 }
 
-fn once(alloc: Global, sheet: &mut Sheet, call: &str, sample: &Patterns) -> Result<(), BenchError> {
-    match call {
-        "qname_index::NameTrie::by_key" => show_by_key(sheet, &sample.trie),
-        "qname_index::NameTrie::entries" => show_entries(alloc, sheet, &sample.trie),
-        _ => {
-            let other = made(call, sample)?;
-            show_entries(alloc, sheet, &other)
+impl Tried for Patterns {
+    fn once(&mut self, alloc: Global, sheet: &mut Sheet, call: &str) -> Result<(), BenchError> {
+        match call {
+            "qname_index::NameTrie::by_key" => show_found(sheet, self.trie.by_key()?.as_slice()),
+            "qname_index::NameTrie::entries" => show_marked(
+                sheet,
+                self.trie.entries(alloc)?.as_slice(),
+            ),
+            _ => {
+                let other = made(call, self)?;
+                show_marked(sheet, other.entries(alloc)?.as_slice())
+            }
         }
     }
 }
 
 /// Does the call of this name twice.
 pub fn twice(alloc: Global, sheet: &mut Sheet, call: &str) -> Result<(), BenchError> {
-    let sample = make_patterns(alloc)?;
-    let first = once(alloc, sheet, call, &sample);
-    sheet.settle(first)?;
-    let second = once(alloc, sheet, call, &sample);
-    sheet.settle(second)
+    tried_twice(alloc, sheet, call, make_patterns(alloc)?)
 }

@@ -8,9 +8,9 @@ use crate::bench_error::BenchError;
 use crate::samples::{DENIED, DROPPED, KINDS, origin, rows, soa, step, steps, whole};
 use crate::sheet::Sheet;
 use crate::shown::{show_rows, show_steps};
-use crate::tried::{Tried, changed_twice};
+use crate::tried::{Tried, changed_twice, tried_twice};
 use std::alloc::Global;
-use zone_rows::{Content, KeySet, PlainZone, Steps, Transfer};
+use zone_rows::{Content, KeySet, PlainZone, Steps};
 
 /// The names of these calls.
 pub const NAMES: &str = "zone_rows::PlainZone::apply::whole\n\
@@ -29,15 +29,6 @@ fn make_zone(alloc: Global) -> Result<PlainZone, BenchError> {
     })
 }
 
-// A transfer of which a row repeats, or steps.
-fn transfer(alloc: Global, call: &str) -> Result<Transfer, BenchError> {
-    match call {
-        "zone_rows::PlainZone::apply::whole" => whole(alloc, 2, &[DENIED, DROPPED, DENIED]),
-        "zone_rows::PlainZone::apply::steps" => steps(alloc),
-        _ => Err(BenchError::Words),
-    }
-}
-
 fn show_zone(sheet: &mut Sheet, zone: &PlainZone) -> Result<(), BenchError> {
     sheet.show(&zone.origin)?;
     match &zone.content {
@@ -49,18 +40,16 @@ fn show_zone(sheet: &mut Sheet, zone: &PlainZone) -> Result<(), BenchError> {
     }
 }
 
-fn apply(alloc: Global, sheet: &mut Sheet, call: &str, zone: &PlainZone) -> Result<(), BenchError> {
-    let transfer = transfer(alloc, call)?;
-    let next = zone.apply(alloc, transfer)?;
-    show_zone(sheet, &next)
-}
-
-fn apply_twice(alloc: Global, sheet: &mut Sheet, call: &str) -> Result<(), BenchError> {
-    let zone = make_zone(alloc)?;
-    let first = apply(alloc, sheet, call, &zone);
-    sheet.settle(first)?;
-    let second = apply(alloc, sheet, call, &zone);
-    sheet.settle(second)
+// Of a transfer of which a row repeats, or of steps.
+impl Tried for PlainZone {
+    fn once(&mut self, alloc: Global, sheet: &mut Sheet, call: &str) -> Result<(), BenchError> {
+        let transfer = match call {
+            "zone_rows::PlainZone::apply::steps" => steps(alloc)?,
+            _ => whole(alloc, 2, &[DENIED, DROPPED, DENIED])?,
+        };
+        let next = self.apply(alloc, transfer)?;
+        show_zone(sheet, &next)
+    }
 }
 
 // Puts a step between these serials at the end.
@@ -120,10 +109,7 @@ impl Tried for KeySet {
 pub fn twice(alloc: Global, sheet: &mut Sheet, call: &str) -> Result<(), BenchError> {
     match call {
         "zone_rows::Steps::push" => push_twice(alloc, sheet),
-        "zone_rows::KeySet::insert" => {
-            let mut keys = KeySet::new(alloc);
-            changed_twice(alloc, sheet, call, &mut keys)
-        }
-        _ => apply_twice(alloc, sheet, call),
+        "zone_rows::KeySet::insert" => changed_twice(alloc, sheet, call, KeySet::new(alloc)),
+        _ => tried_twice(alloc, sheet, call, make_zone(alloc)?),
     }
 }

@@ -2,9 +2,10 @@
 
 use crate::bench_error::BenchError;
 use crate::facts_sample::facts;
-use crate::policy_sample::{applied, empty_policy, policy, second_transfer, show_hit, show_policy};
+use crate::policy_sample::{OTHERS, applied, empty_policy, policy, show_best, show_policy};
 use crate::samples::{KINDS, QUERY, query, steps, whole};
 use crate::sheet::Sheet;
+use crate::tried::{Tried, tried_twice};
 use dns_message::Query;
 use policy_snapshot::Snapshot;
 use std::alloc::Global;
@@ -26,10 +27,10 @@ fn made(alloc: Global, call: &str, policy: &Snapshot) -> Result<Snapshot, BenchE
         "policy_snapshot::Snapshot::again" => Ok(policy.again(alloc)?),
         "policy_snapshot::Snapshot::apply::first" => {
             let empty = empty_policy(alloc)?;
-            applied(alloc, &empty, 2, second_transfer(alloc)?)
+            applied(alloc, &empty, 2, whole(alloc, 1, OTHERS)?)
         }
         "policy_snapshot::Snapshot::apply::second" => {
-            applied(alloc, policy, 2, second_transfer(alloc)?)
+            applied(alloc, policy, 2, whole(alloc, 1, OTHERS)?)
         }
         "policy_snapshot::Snapshot::apply::whole" => {
             applied(alloc, policy, 1, whole(alloc, 2, &KINDS[1..])?)
@@ -39,26 +40,11 @@ fn made(alloc: Global, call: &str, policy: &Snapshot) -> Result<Snapshot, BenchE
     }
 }
 
-fn apply(
-    alloc: Global,
-    sheet: &mut Sheet,
-    call: &str,
-    policy: &Snapshot,
-) -> Result<(), BenchError> {
-    let next = made(alloc, call, policy)?;
-    show_policy(alloc, sheet, &next)
-}
-
-// The best hit by what is known.
-fn best(
-    alloc: Global,
-    sheet: &mut Sheet,
-    policy: &Snapshot,
-    query: &Query,
-    facts: &Facts,
-) -> Result<(), BenchError> {
-    let hit = policy.best(alloc, query, facts, 0, &query.question.name)?;
-    show_hit(sheet, &hit)
+// A policy, and a query that is asked of it.
+#[derive(Drop)]
+struct Asked {
+    policy: Snapshot,
+    query: Query,
 }
 
 // The question that is pending where nothing is known.
@@ -73,38 +59,26 @@ fn pending(
     sheet.show(&policy.pending(alloc, query, &nothing, name, &None)?)
 }
 
-fn once(
-    alloc: Global,
-    sheet: &mut Sheet,
-    call: &str,
-    policy: &Snapshot,
-    query: &Query,
-) -> Result<(), BenchError> {
-    match call {
-        "policy_snapshot::Snapshot::best" => {
-            let facts = facts(alloc)?;
-            best(alloc, sheet, policy, query, &facts)
+impl Tried for Asked {
+    fn once(&mut self, alloc: Global, sheet: &mut Sheet, call: &str) -> Result<(), BenchError> {
+        match call {
+            "policy_snapshot::Snapshot::best" => {
+                show_best(alloc, sheet, &self.policy, &self.query, &facts(alloc)?)
+            }
+            "policy_snapshot::Snapshot::pending" => {
+                pending(alloc, sheet, &self.policy, &self.query)
+            }
+            _ => {
+                let next = made(alloc, call, &self.policy)?;
+                show_policy(alloc, sheet, &next)
+            }
         }
-        "policy_snapshot::Snapshot::pending" => pending(alloc, sheet, policy, query),
-        _ => apply(alloc, sheet, call, policy),
     }
-}
-
-fn both_times(
-    alloc: Global,
-    sheet: &mut Sheet,
-    call: &str,
-    policy: &Snapshot,
-) -> Result<(), BenchError> {
-    let query = query(alloc, QUERY)?;
-    let first = once(alloc, sheet, call, policy, &query);
-    sheet.settle(first)?;
-    let second = once(alloc, sheet, call, policy, &query);
-    sheet.settle(second)
 }
 
 /// Does the call of this name twice.
 pub fn twice(alloc: Global, sheet: &mut Sheet, call: &str) -> Result<(), BenchError> {
     let policy = policy(alloc)?;
-    both_times(alloc, sheet, call, &policy)
+    let query = query(alloc, QUERY)?;
+    tried_twice(alloc, sheet, call, Asked { policy, query })
 }

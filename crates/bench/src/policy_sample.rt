@@ -2,10 +2,11 @@
 
 use crate::bench_error::BenchError;
 use crate::facts_sample::facts;
-use crate::samples::{KINDS, LOCAL_QUERY, QUERY, name, origin, query, rows, soa, whole};
+use crate::samples::{KINDS, LOCAL_QUERY, QUERY, name, origin, query, whole};
 use crate::sheet::Sheet;
 use crate::shown::show_zone;
 use dns_message::Query;
+use policy_override::{Override, ZoneSet};
 use policy_snapshot::Snapshot;
 use rpz_precedence::Hit;
 use std::alloc::Global;
@@ -14,17 +15,23 @@ use zone_rows::Transfer;
 
 /// Rows of the zone `two.example`: `bad.example` CNAME `*.`, `gone.example` CNAME `.`, the client 198.51.100.7, and the name server
 /// `ns.test`.
-const OTHERS: &[&[u8]] = &[
+pub const OTHERS: &[&[u8]] = &[
     b"\x03bad\x07example\x03two\x07example\0\0\x05\0\x01\0\0\0<\0\x03\x01*\0",
     b"\x04gone\x07example\x03two\x07example\0\0\x05\0\x01\0\0\0<\0\x01\0",
     b"\x0232\x017\x03100\x0251\x03198\x0drpz-client-ip\x03two\x07example\0\0\x05\0\x01\0\0\0<\0\x01\0",
     b"\x02ns\x04test\x0brpz-nsdname\x03two\x07example\0\0\x05\0\x01\0\0\0\x01\0\x03\x01*\0",
 ];
 
-/// The two zones, with nothing loaded.
+/// The two zones, the second under an override, with nothing loaded.
 pub fn empty_policy(alloc: Global) -> Result<Snapshot, BenchError> {
-    let first = origin(alloc)?;
-    let second = name(alloc, b"two.example")?;
+    let first = ZoneSet {
+        origin: origin(alloc)?,
+        over: Override::Given,
+    };
+    let second = ZoneSet {
+        origin: name(alloc, b"two.example")?,
+        over: Override::Cname(name(alloc, b"garden.test")?),
+    };
     Ok(Snapshot::start(alloc, &[first, second])?)
 }
 
@@ -41,13 +48,6 @@ pub fn applied(
     Ok(policy.apply(alloc, number, transfer)?)
 }
 
-/// A whole transfer of the second zone.
-pub fn second_transfer(alloc: Global) -> Result<Transfer, BenchError> {
-    let rows = rows(alloc, OTHERS)?;
-    let soa = soa(alloc, 1)?;
-    Ok(Transfer::Whole { soa, rows })
-}
-
 /// The policy where the first zone is loaded, with rules of all kinds.
 pub fn policy(alloc: Global) -> Result<Snapshot, BenchError> {
     let empty = empty_policy(alloc)?;
@@ -55,8 +55,8 @@ pub fn policy(alloc: Global) -> Result<Snapshot, BenchError> {
     applied(alloc, &empty, 1, transfer)
 }
 
-/// The zone and the action of a hit.
-pub fn show_hit(sheet: &mut Sheet, hit: &Option<Hit<'_>>) -> Result<(), BenchError> {
+// The zone and the action of a hit.
+fn show_hit(sheet: &mut Sheet, hit: &Option<Hit<'_>>) -> Result<(), BenchError> {
     match hit {
         None => sheet.say("none "),
         Some(hit) => {
@@ -67,8 +67,8 @@ pub fn show_hit(sheet: &mut Sheet, hit: &Option<Hit<'_>>) -> Result<(), BenchErr
     }
 }
 
-// The best hit of a query by what is known.
-fn show_best(
+/// The best hit of a query by what is known.
+pub fn show_best(
     alloc: Global,
     sheet: &mut Sheet,
     policy: &Snapshot,
@@ -93,24 +93,13 @@ fn show_hits(
     Ok(())
 }
 
-// The zone of a number.
-fn show_one(
-    alloc: Global,
-    sheet: &mut Sheet,
-    policy: &Snapshot,
-    number: u32,
-) -> Result<(), BenchError> {
-    match policy.zone(number) {
-        Some(zone) => show_zone(alloc, sheet, zone),
-        None => Ok(()),
-    }
-}
-
 /// How many transfers the policy has taken, its zones, and the best hits of two queries.
 pub fn show_policy(alloc: Global, sheet: &mut Sheet, policy: &Snapshot) -> Result<(), BenchError> {
     sheet.show(&policy.accepted())?;
-    show_one(alloc, sheet, policy, 1)?;
-    show_one(alloc, sheet, policy, 2)?;
-    let facts = facts(alloc)?;
-    show_hits(alloc, sheet, policy, &facts)
+    for number in 1..3 {
+        if let Some(zone) = policy.zone(number) {
+            show_zone(alloc, sheet, zone)?;
+        }
+    }
+    show_hits(alloc, sheet, policy, &facts(alloc)?)
 }

@@ -3,6 +3,7 @@
 use crate::bench_error::BenchError;
 use crate::samples::origin;
 use crate::sheet::Sheet;
+use crate::tried::{Tried, tried_twice};
 use dns_name::Name;
 use ip_prefix::Addr;
 use notify_poll::{Notified, PollCore, Polling};
@@ -31,49 +32,46 @@ fn make_timers(alloc: Global) -> Result<PollCore, BenchError> {
     Ok(timers)
 }
 
-fn start(alloc: Global, sheet: &mut Sheet) -> Result<(), BenchError> {
-    let timers = PollCore::start(alloc, &[None, Some(PRIMARY)], 0)?;
-    sheet.show(&timers.due(0))
+// Timers, and the zones that they are of.
+#[derive(Drop)]
+struct Timed {
+    timers: PollCore,
+    origins: [Name; 1],
 }
 
 // What is said to a NOTIFY at the second 5, and which zone is due then.
 fn notify(
     alloc: Global,
     sheet: &mut Sheet,
-    timers: &mut PollCore,
+    timed: &mut Timed,
     client: Addr,
-    origins: &[Name],
 ) -> Result<(), BenchError> {
-    match timers.notify(alloc, NOTIFY, client, 5, origins)? {
+    match timed
+        .timers
+        .notify(alloc, NOTIFY, client, 5, &timed.origins)?
+    {
         Notified::Reply(octets) => sheet.show(&octets)?,
         Notified::Silent => sheet.say("silent ")?,
     }
-    sheet.show(&timers.due(5))
+    sheet.show(&timed.timers.due(5))
 }
 
-fn once(
-    alloc: Global,
-    sheet: &mut Sheet,
-    call: &str,
-    timers: &mut PollCore,
-    origins: &[Name],
-) -> Result<(), BenchError> {
-    match call {
-        "notify_poll::PollCore::start" => start(alloc, sheet),
-        "notify_poll::PollCore::notify" => notify(alloc, sheet, timers, PRIMARY, origins),
-        "notify_poll::PollCore::notify::stranger" => {
-            notify(alloc, sheet, timers, STRANGER, origins)
+impl Tried for Timed {
+    fn once(&mut self, alloc: Global, sheet: &mut Sheet, call: &str) -> Result<(), BenchError> {
+        match call {
+            "notify_poll::PollCore::start" => {
+                let timers = PollCore::start(alloc, &[None, Some(PRIMARY)], 0)?;
+                sheet.show(&timers.due(0))
+            }
+            "notify_poll::PollCore::notify" => notify(alloc, sheet, self, PRIMARY),
+            _ => notify(alloc, sheet, self, STRANGER),
         }
-        _ => Err(BenchError::Words),
     }
 }
 
 /// Does the call of this name twice.
 pub fn twice(alloc: Global, sheet: &mut Sheet, call: &str) -> Result<(), BenchError> {
     let origins = [origin(alloc)?];
-    let mut timers = make_timers(alloc)?;
-    let first = once(alloc, sheet, call, &mut timers, &origins);
-    sheet.settle(first)?;
-    let second = once(alloc, sheet, call, &mut timers, &origins);
-    sheet.settle(second)
+    let timers = make_timers(alloc)?;
+    tried_twice(alloc, sheet, call, Timed { timers, origins })
 }

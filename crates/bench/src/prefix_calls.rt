@@ -2,9 +2,10 @@
 
 use crate::bench_error::BenchError;
 use crate::sheet::Sheet;
+use crate::tried::{Tried, tried_twice};
 use ip_prefix::{Addr, Prefix};
 use prefix_index::PrefixTrie;
-use std::alloc::{AllocError, Global};
+use std::alloc::Global;
 use trie_keys::Marked;
 
 /// The names of these calls.
@@ -25,22 +26,14 @@ const VALUE: Marked<u32, bool> = Marked {
     mark: true,
 };
 
-// 192.0.2.0/24 and one address of it, 192.0.3.0/24, and 2001:db8::/32.
-fn near() -> Prefix {
-    Prefix::of(Addr::V4(0xc000_0200), 24)
-}
+// Of 192.0.2.0, an address of its network of 24 bits, 192.0.3.0, and 2001:db8::.
+const NEAR: Addr = Addr::V4(0xc000_0200);
 
-fn inside() -> Prefix {
-    Prefix::of(Addr::V4(0xc000_0209), 32)
-}
+const INSIDE: Addr = Addr::V4(0xc000_0209);
 
-fn beside() -> Prefix {
-    Prefix::of(Addr::V4(0xc000_0300), 24)
-}
+const BESIDE: Addr = Addr::V4(0xc000_0300);
 
-fn long() -> Prefix {
-    Prefix::of(Addr::V6(0x2001_0db8_0000_0000_0000_0000_0000_0000), 32)
-}
+const LONG: Addr = Addr::V6(0x2001_0db8_0000_0000_0000_0000_0000_0000);
 
 // Each entry of a trie, with its value.
 fn show_trie(alloc: Global, sheet: &mut Sheet, trie: &Trie) -> Result<(), BenchError> {
@@ -52,44 +45,39 @@ fn show_trie(alloc: Global, sheet: &mut Sheet, trie: &Trie) -> Result<(), BenchE
     Ok(())
 }
 
-fn make_trie(alloc: Global) -> Result<Trie, AllocError> {
-    let trie = Trie::empty(alloc);
-    let trie = trie.inserted(&near(), VALUE)?;
-    let trie = trie.inserted(&inside(), VALUE)?;
-    trie.inserted(&long(), VALUE)
-}
-
 fn made(alloc: Global, call: &str, trie: &Trie) -> Result<Trie, BenchError> {
+    let near = Prefix::of(NEAR, 24);
+    let beside = Prefix::of(BESIDE, 24);
+    let long = Prefix::of(LONG, 32);
     match call {
         "prefix_index::PrefixTrie::of" => {
-            Ok(Trie::of(
-                alloc,
-                &[(near(), VALUE), (beside(), VALUE), (long(), VALUE)],
-            )?)
+            Ok(Trie::of(alloc, &[(near, VALUE), (beside, VALUE), (long, VALUE)])?)
         }
-        "prefix_index::PrefixTrie::inserted" => Ok(trie.share()?.inserted(&beside(), VALUE)?),
-        "prefix_index::PrefixTrie::removed" => Ok(trie.share()?.removed(&near())?),
-        "prefix_index::PrefixTrie::with" => Ok(trie.with(&beside(), VALUE)?),
-        "prefix_index::PrefixTrie::without" => Ok(trie.without(&long())?),
+        "prefix_index::PrefixTrie::inserted" => Ok(trie.share()?.inserted(&beside, VALUE)?),
+        "prefix_index::PrefixTrie::removed" => Ok(trie.share()?.removed(&near)?),
+        "prefix_index::PrefixTrie::with" => Ok(trie.with(&beside, VALUE)?),
+        "prefix_index::PrefixTrie::without" => Ok(trie.without(&long)?),
         "prefix_index::PrefixTrie::rebuilt" => Ok(trie.rebuilt()?),
         "prefix_index::PrefixTrie::share" => Ok(trie.share()?),
         _ => Err(BenchError::Words),
     }
 }
 
-fn once(alloc: Global, sheet: &mut Sheet, call: &str, trie: &Trie) -> Result<(), BenchError> {
-    if call == "prefix_index::PrefixTrie::entries" {
-        return show_trie(alloc, sheet, trie);
+impl Tried for PrefixTrie<u32, bool> {
+    fn once(&mut self, alloc: Global, sheet: &mut Sheet, call: &str) -> Result<(), BenchError> {
+        if call == "prefix_index::PrefixTrie::entries" {
+            return show_trie(alloc, sheet, self);
+        }
+        let other = made(alloc, call, self)?;
+        show_trie(alloc, sheet, &other)
     }
-    let other = made(alloc, call, trie)?;
-    show_trie(alloc, sheet, &other)
 }
 
 /// Does the call of this name twice.
 pub fn twice(alloc: Global, sheet: &mut Sheet, call: &str) -> Result<(), BenchError> {
-    let trie = make_trie(alloc)?;
-    let first = once(alloc, sheet, call, &trie);
-    sheet.settle(first)?;
-    let second = once(alloc, sheet, call, &trie);
-    sheet.settle(second)
+    let trie = Trie::empty(alloc);
+    let trie = trie.inserted(&Prefix::of(NEAR, 24), VALUE)?;
+    let trie = trie.inserted(&Prefix::of(INSIDE, 32), VALUE)?;
+    let trie = trie.inserted(&Prefix::of(LONG, 32), VALUE)?;
+    tried_twice(alloc, sheet, call, trie)
 }

@@ -3,11 +3,12 @@
 use crate::bench_error::BenchError;
 use crate::samples::{CLIENT, KINDS};
 use crate::sheet::Sheet;
-use crate::zone_calls::loaded;
+use crate::shown::show_marked;
+use crate::summary_calls::{Both, make_both, zone_one, zone_two};
+use crate::tried::{Tried, tried_twice};
 use ip_prefix::{Addr, Prefix};
 use std::alloc::Global;
 use summary_index::{PrefixSummary, Zones, merged_prefixes};
-use trie_keys::Marked;
 use trigger_codec::Kind;
 use zone_index::Zone;
 
@@ -22,53 +23,11 @@ pub const NAMES: &str = "summary_index::PrefixSummary::listed\n\
 const OTHER_CLIENT: &[u8] =
     b"\x0232\x017\x03100\x0251\x03198\x0drpz-client-ip\x03rpz\x07example\0\0\x05\0\x01\0\0\0<\0\x01\0";
 
-// Two zones of which one prefix is in both.
-struct Both {
-    first: Zone,
-    second: Zone,
-}
-
-impl Drop for Both {
-    fn drop(self) {
-        let Both {
-            first: _,
-            second: _,
-        } = self;
-    }
-}
-
-fn make_both(alloc: Global) -> Result<Both, BenchError> {
-    let first = loaded(alloc, KINDS)?;
-    let second = loaded(alloc, &[CLIENT, OTHER_CLIENT])?;
-    Ok(Both { first, second })
-}
-
-// 192.0.2.0/24, which both have, and 203.0.113.0/24.
-fn there() -> Prefix {
-    Prefix::of(Addr::V4(0xc000_0200), 24)
-}
-
-fn lacking() -> Prefix {
-    Prefix::of(Addr::V4(0xcb00_7100), 24)
-}
-
-fn zone_one() -> Zones {
-    Zones::default().with(1)
-}
-
-fn zone_two() -> Zones {
-    Zones::default().with(2)
-}
-
-fn show_entries(
-    sheet: &mut Sheet,
-    entries: &[(Prefix, Marked<Zones, bool>)],
-) -> Result<(), BenchError> {
-    for entry in entries {
-        sheet.show(&entry.0)?;
-        sheet.show(&entry.1.value)?;
-    }
-    Ok(())
+// The prefixes of two zones, of which one is of both.
+#[derive(Drop)]
+struct Sample {
+    both: Both,
+    summary: PrefixSummary,
 }
 
 // All of a summary: without the zone 32, which it doesn't have, it is as it was.
@@ -79,8 +38,7 @@ fn show_summary(
 ) -> Result<(), BenchError> {
     sheet.show(&summary.having())?;
     sheet.show(&summary.is_listed())?;
-    let entries = summary.without_zone(alloc, 32)?;
-    show_entries(sheet, &entries)
+    show_marked(sheet, summary.without_zone(alloc, 32)?.as_slice())
 }
 
 // A summary of the prefixes of a zone's rules about clients.
@@ -103,66 +61,37 @@ fn both_listed(alloc: Global, both: &Both) -> Result<PrefixSummary, BenchError> 
     Ok(PrefixSummary::listed(alloc, zone_one().with(2), &all)?)
 }
 
-fn put(
-    alloc: Global,
-    sheet: &mut Sheet,
-    summary: &PrefixSummary,
-    prefix: &Prefix,
-    zones: Zones,
-) -> Result<(), BenchError> {
-    let next = summary.share()?.put(prefix, zones)?;
-    show_summary(alloc, sheet, &next)
-}
-
-fn without_zone(
-    alloc: Global,
-    sheet: &mut Sheet,
-    summary: &PrefixSummary,
-) -> Result<(), BenchError> {
-    let entries = summary.without_zone(alloc, 1)?;
-    show_entries(sheet, &entries)
-}
-
-fn made(alloc: Global, call: &str, both: &Both) -> Result<PrefixSummary, BenchError> {
+// The summary that a call makes. Both zones have 192.0.2.0/24, and neither has 203.0.113.0/24.
+fn made(alloc: Global, call: &str, sample: &Sample) -> Result<PrefixSummary, BenchError> {
+    let summary = &sample.summary;
     match call {
-        "summary_index::PrefixSummary::listed" => listed(alloc, &both.first, zone_one()),
-        "summary_index::merged_prefixes" => both_listed(alloc, both),
+        "summary_index::PrefixSummary::listed" => listed(alloc, &sample.both.first, zone_one()),
+        "summary_index::PrefixSummary::put" => {
+            let lacking = Prefix::of(Addr::V4(0xcb00_7100), 24);
+            Ok(summary.share()?.put(&lacking, zone_two())?)
+        }
+        "summary_index::PrefixSummary::put::none" => {
+            let there = Prefix::of(Addr::V4(0xc000_0200), 24);
+            Ok(summary.share()?.put(&there, Zones::default())?)
+        }
+        "summary_index::merged_prefixes" => both_listed(alloc, &sample.both),
         _ => Err(BenchError::Words),
     }
 }
 
-fn once(
-    alloc: Global,
-    sheet: &mut Sheet,
-    call: &str,
-    both: &Both,
-    summary: &PrefixSummary,
-) -> Result<(), BenchError> {
-    match call {
-        "summary_index::PrefixSummary::put" => {
-            put(alloc, sheet, summary, &lacking(), zone_two())
+impl Tried for Sample {
+    fn once(&mut self, alloc: Global, sheet: &mut Sheet, call: &str) -> Result<(), BenchError> {
+        if call == "summary_index::PrefixSummary::without_zone" {
+            return show_marked(sheet, self.summary.without_zone(alloc, 1)?.as_slice());
         }
-        "summary_index::PrefixSummary::put::none" => {
-            put(alloc, sheet, summary, &there(), Zones::default())
-        }
-        "summary_index::PrefixSummary::without_zone" => without_zone(alloc, sheet, summary),
-        _ => {
-            let other = made(alloc, call, both)?;
-            show_summary(alloc, sheet, &other)
-        }
+        let other = made(alloc, call, self)?;
+        show_summary(alloc, sheet, &other)
     }
-}
-
-fn both_times(alloc: Global, sheet: &mut Sheet, call: &str, both: &Both) -> Result<(), BenchError> {
-    let summary = both_listed(alloc, both)?;
-    let first = once(alloc, sheet, call, both, &summary);
-    sheet.settle(first)?;
-    let second = once(alloc, sheet, call, both, &summary);
-    sheet.settle(second)
 }
 
 /// Does the call of this name twice.
 pub fn twice(alloc: Global, sheet: &mut Sheet, call: &str) -> Result<(), BenchError> {
-    let both = make_both(alloc)?;
-    both_times(alloc, sheet, call, &both)
+    let both = make_both(alloc, KINDS, &[CLIENT, OTHER_CLIENT])?;
+    let summary = both_listed(alloc, &both)?;
+    tried_twice(alloc, sheet, call, Sample { both, summary })
 }

@@ -1,4 +1,4 @@
-//! Calls that publish versions of a policy, poll for them, and take them.
+//! Calls that publish versions of a policy, poll for them, and take them, and the store behind them.
 
 ghost use Rattle.std.specs.Prelude.{◌≡◌};
 
@@ -8,6 +8,9 @@ use crate::pin_calls::under_pins;
 use crate::policy_sample::show_policy;
 use crate::samples::{DENIED, origin, steps, whole};
 use crate::sheet::Sheet;
+use crate::transfer_calls::{STEPS, WHOLE};
+use crate::worker_calls::work_twice;
+use policy_override::as_given;
 use policy_publish::{Parts, PolicyReader, Publisher, StoreName, start_store};
 use std::alloc::Global;
 use std::marker::Brand;
@@ -24,9 +27,11 @@ pub const NAMES: &str = "policy_publish::Parts::open\n\
     policy_feed::poll_zone::steps\n\
     transfer_under_pins\n";
 
-// What is done over a store: a call twice, or a transfer under pins.
+/// What is done over a store: a call twice, a transfer under pins, or what a worker does. A query is one that a rule denies, or one that
+/// the upstream answers.
 #[derive(Clone, Copy)]
-enum Deed {
+pub enum Deed {
+    Open,
     PublishWhole,
     PublishSteps,
     Pin,
@@ -34,10 +39,17 @@ enum Deed {
     PollWhole,
     PollSteps,
     UnderPins,
+    /// Whose reply is only looked at.
+    Answer { is_denied: bool },
+    /// Whose reply is sent.
+    Send { is_denied: bool },
+    /// A connection, with queries of its own.
+    Serve,
 }
 
 fn deed_of(call: &str) -> Result<Deed, BenchError> {
     match call {
+        "policy_publish::Parts::open" => Ok(Deed::Open),
         "policy_publish::Publisher::publish::whole" => Ok(Deed::PublishWhole),
         "policy_publish::Publisher::publish::steps" => Ok(Deed::PublishSteps),
         "policy_publish::PolicyReader::pin" => Ok(Deed::Pin),
@@ -45,15 +57,13 @@ fn deed_of(call: &str) -> Result<Deed, BenchError> {
         "policy_feed::poll_zone::whole" => Ok(Deed::PollWhole),
         "policy_feed::poll_zone::steps" => Ok(Deed::PollSteps),
         "transfer_under_pins" => Ok(Deed::UnderPins),
+        "rpz_workers::Worker::answer::rule" => Ok(Deed::Answer { is_denied: true }),
+        "rpz_workers::Worker::answer::upstream" => Ok(Deed::Answer { is_denied: false }),
+        "rpz_workers::Worker::serve_stream" => Ok(Deed::Serve),
+        "answers_under_refusal::rule" => Ok(Deed::Send { is_denied: true }),
+        "answers_under_refusal::upstream" => Ok(Deed::Send { is_denied: false }),
         _ => Err(BenchError::Words),
     }
-}
-
-/// A store of the one zone, with one reader.
-pub fn make_parts(alloc: Global) -> Result<Parts, BenchError> {
-    let origin = origin(alloc)?;
-    let origins = vec![in alloc; origin]?;
-    Ok(start_store(origins, 1))
 }
 
 /// Publishes a transfer of the zone, and shows what it is then, or the fault for which it is refused.
@@ -73,8 +83,8 @@ pub fn publish<N: StoreName, R: Wait>(
     }
 }
 
-/// Publishes the zone of one row at the serial 1.
-pub fn load<N: StoreName, R: Wait>(
+// Publishes the zone of one row at the serial 1.
+fn load<N: StoreName, R: Wait>(
     rt: &R,
     alloc: Global,
     publisher: &mut Publisher<N>,
@@ -85,15 +95,6 @@ pub fn load<N: StoreName, R: Wait>(
     let transfer = whole(alloc, 1, &[DENIED])?;
     let _published = publisher.publish(rt, 1, transfer)?;
     Ok(())
-}
-
-fn pin<N: StoreName>(
-    alloc: Global,
-    sheet: &mut Sheet,
-    reader: &mut PolicyReader<N>,
-) -> Result<(), BenchError> {
-    let version = reader.pin()?;
-    show_policy(alloc, sheet, &version)
 }
 
 fn once<N: StoreName, R: Wait>(
@@ -107,14 +108,16 @@ fn once<N: StoreName, R: Wait>(
     match deed {
         Deed::PublishWhole => publish(rt, sheet, publisher, whole(alloc, 1, &[DENIED])?),
         Deed::PublishSteps => publish(rt, sheet, publisher, steps(alloc)?),
-        Deed::Pin => pin(alloc, sheet, reader),
-        Deed::PinTold => {
-            reader.learn(publisher.tell());
-            pin(alloc, sheet, reader)
+        Deed::Pin | Deed::PinTold => {
+            if matches!(deed, Deed::PinTold) {
+                reader.learn(publisher.tell());
+            }
+            let version = reader.pin()?;
+            show_policy(alloc, sheet, &version)
         }
-        Deed::PollWhole => poll(rt, alloc, sheet, publisher, true),
-        Deed::PollSteps => poll(rt, alloc, sheet, publisher, false),
-        Deed::UnderPins => Err(BenchError::Words),
+        Deed::PollWhole => poll(rt, alloc, sheet, publisher, WHOLE),
+        Deed::PollSteps => poll(rt, alloc, sheet, publisher, STEPS),
+        _ => Err(BenchError::Words),
     }
 }
 
@@ -147,13 +150,26 @@ fn of_store<N: StoreName, R: Wait>(
     publisher: &mut Publisher<N>,
     readers: &mut Vec<PolicyReader<N>>,
 ) -> Result<(), BenchError> {
-    let Some(reader) = readers.first_mut() else {
-        return Err(BenchError::Empty);
-    };
-    of_reader(rt, alloc, sheet, deed, publisher, reader)
+    match deed {
+        Deed::Open => {
+            sheet.show(&publisher.zone_count())?;
+            sheet.show(&readers.len())
+        }
+        Deed::Answer { .. } | Deed::Send { .. } | Deed::Serve => {
+            load(rt, alloc, publisher)?;
+            match readers.pop() {
+                Some(reader) => work_twice(rt, alloc, sheet, deed, reader),
+                None => Err(BenchError::Empty),
+            }
+        }
+        _ => match readers.first_mut() {
+            Some(reader) => of_reader(rt, alloc, sheet, deed, publisher, reader),
+            None => Err(BenchError::Empty),
+        },
+    }
 }
 
-fn try_over<N: StoreName, R: Wait>(
+fn over_store<N: StoreName, R: Wait>(
     rt: &R,
     alloc: Global,
     sheet: &mut Sheet,
@@ -169,43 +185,32 @@ fn try_over<N: StoreName, R: Wait>(
     done
 }
 
-fn open<N: StoreName, R: Wait>(
+// Does it over a store of the one zone, with one reader.
+fn with_store<R: Wait>(
     rt: &R,
     alloc: Global,
     sheet: &mut Sheet,
-    parts: Parts,
-) -> Result<(), BenchError>
-    requires { parts ≡ N.store }
-{
-    let (publisher, readers) = parts.open::<N, R>(rt, alloc)?;
-    let zones = publisher.zone_count();
-    let count = readers.len();
-    drop(readers);
-    publisher.close(rt);
-    sheet.show(&zones)?;
-    sheet.show(&count)
+    deed: Deed,
+) -> Result<(), BenchError> {
+    let origin = origin(alloc)?;
+    let origins = vec![in alloc; origin]?;
+    let parts = start_store(as_given(alloc, origins)?, 1);
+    over_store::<Brand, R>(rt, alloc, sheet, deed, parts)
 }
 
-// Opens a store of its own.
-fn open_one<R: Wait>(rt: &R, alloc: Global, sheet: &mut Sheet) -> Result<(), BenchError> {
-    let parts = make_parts(alloc)?;
-    open::<Brand, R>(rt, alloc, sheet, parts)
-}
-
-/// Does the call of this name twice.
+/// Does the call of this name twice, of a worker also.
 pub fn twice<R: Wait>(
     rt: &R,
     alloc: Global,
     sheet: &mut Sheet,
     call: &str,
 ) -> Result<(), BenchError> {
-    if call == "policy_publish::Parts::open" {
-        let first = open_one(rt, alloc, sheet);
-        sheet.settle(first)?;
-        let second = open_one(rt, alloc, sheet);
-        return sheet.settle(second);
-    }
     let deed = deed_of(call)?;
-    let parts = make_parts(alloc)?;
-    try_over::<Brand, R>(rt, alloc, sheet, deed, parts)
+    if !matches!(deed, Deed::Open) {
+        return with_store(rt, alloc, sheet, deed);
+    }
+    let first = with_store(rt, alloc, sheet, deed);
+    sheet.settle(first)?;
+    let second = with_store(rt, alloc, sheet, deed);
+    sheet.settle(second)
 }

@@ -11,8 +11,9 @@
 
 use crate::bench_error::BenchError;
 use crate::stream::read_stream;
-use dns_name::{Name, Octets};
+use dns_name::Octets;
 use edge_io::{FRAME_MAX, Sink, Source, WriterSink, read_frame, write_all};
+use policy_override::ZoneSets;
 use rpz_core::{Core, Event, Output};
 use script_codec::{Line, ScriptState, read_unnumbered};
 use std::alloc::Global;
@@ -41,16 +42,16 @@ fn load<S: Source>(
 // A core of these zones, and how many rows they have together.
 fn start<S: Source>(
     alloc: Global,
-    origins: &[Name],
+    zones: &ZoneSets,
     source: &mut S,
 ) -> Result<(Core, usize), BenchError> {
-    if origins.len() > 32 {
+    if zones.len() > 32 {
         return Err(BenchError::NotTaken);
     }
     let primaries = [None; 32];
-    let mut core = Core::start(alloc, origins, &primaries[..origins.len()])?;
+    let mut core = Core::start(alloc, zones.as_slice(), &primaries[..zones.len()])?;
     let mut total = 0usize;
-    for zone in 0..origins.len() as u32 {
+    for zone in 0..zones.len() as u32 {
         total = total.saturating_add(load(alloc, &mut core, zone + 1, source)?);
     }
     Ok((core, total))
@@ -161,14 +162,14 @@ fn answer_all<R: Eprint, S: Source, K: Sink>(
     Ok(())
 }
 
-/// Loads the zones of these origins, and answers all lines.
+/// Loads these zones, and answers all lines.
 pub fn run<R: Print + Eprint, S: Source>(
     rt: &R,
     alloc: Global,
-    origins: &[Name],
+    zones: &ZoneSets,
     source: &mut S,
 ) -> Result<(), BenchError> {
-    let (mut core, rows) = start(alloc, origins, source)?;
+    let (mut core, rows) = start(alloc, zones, source)?;
     eprintln!(rt; "rows {rows}")?;
     answer_all(
         rt,

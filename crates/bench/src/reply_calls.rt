@@ -5,6 +5,7 @@ use crate::facts_sample::facts;
 use crate::policy_sample::policy;
 use crate::samples::{LOCAL_QUERY, QUERY, query};
 use crate::sheet::Sheet;
+use crate::tried::{Tried, tried_twice};
 use dns_message::Query;
 use policy_snapshot::Snapshot;
 use reply_build::{Verdict, build};
@@ -38,50 +39,47 @@ fn hit(
     sheet.show(&build(alloc, query, verdict, facts, 512)?)
 }
 
-fn once(
-    alloc: Global,
-    sheet: &mut Sheet,
-    call: &str,
-    policy: &Snapshot,
-    query: &Query,
-    facts: &Facts,
-) -> Result<(), BenchError> {
-    match call {
-        "reply_build::build::pass" => {
-            sheet.show(&build(alloc, query, Verdict::Pass, facts, 512)?)
-        }
-        "reply_build::build::fail" => {
-            sheet.show(&build(alloc, query, Verdict::Fail, facts, 512)?)
-        }
-        "reply_build::build::ask" => {
-            let nothing = Facts::new(alloc);
-            sheet.show(&build(alloc, query, Verdict::Pass, &nothing, 512)?)
-        }
-        "reply_build::build::hit" => hit(alloc, sheet, policy, query, facts),
-        _ => Err(BenchError::Words),
-    }
+// A policy, a query, and what is known of it.
+#[derive(Drop)]
+struct Known {
+    policy: Snapshot,
+    query: Query,
+    facts: Facts,
 }
 
-fn both_times(
-    alloc: Global,
-    sheet: &mut Sheet,
-    call: &str,
-    policy: &Snapshot,
-) -> Result<(), BenchError> {
-    let message = match call {
-        "reply_build::build::hit" => LOCAL_QUERY,
-        _ => QUERY,
-    };
-    let query = query(alloc, message)?;
-    let facts = facts(alloc)?;
-    let first = once(alloc, sheet, call, policy, &query, &facts);
-    sheet.settle(first)?;
-    let second = once(alloc, sheet, call, policy, &query, &facts);
-    sheet.settle(second)
+impl Tried for Known {
+    fn once(&mut self, alloc: Global, sheet: &mut Sheet, call: &str) -> Result<(), BenchError> {
+        let query = &self.query;
+        match call {
+            "reply_build::build::pass" => {
+                sheet.show(&build(alloc, query, Verdict::Pass, &self.facts, 512)?)
+            }
+            "reply_build::build::fail" => {
+                sheet.show(&build(alloc, query, Verdict::Fail, &self.facts, 512)?)
+            }
+            "reply_build::build::ask" => {
+                let nothing = Facts::new(alloc);
+                sheet.show(&build(alloc, query, Verdict::Pass, &nothing, 512)?)
+            }
+            "reply_build::build::hit" => hit(alloc, sheet, &self.policy, query, &self.facts),
+            _ => Err(BenchError::Words),
+        }
+    }
 }
 
 /// Does the call of this name twice.
 pub fn twice(alloc: Global, sheet: &mut Sheet, call: &str) -> Result<(), BenchError> {
+    let message = match call {
+        "reply_build::build::hit" => LOCAL_QUERY,
+        _ => QUERY,
+    };
     let policy = policy(alloc)?;
-    both_times(alloc, sheet, call, &policy)
+    let query = query(alloc, message)?;
+    let facts = facts(alloc)?;
+    let known = Known {
+        policy,
+        query,
+        facts,
+    };
+    tried_twice(alloc, sheet, call, known)
 }

@@ -4,6 +4,7 @@ use crate::bench_error::BenchError;
 use crate::samples::{DENIED, DROPPED, KINDS, LOCAL, row, rows};
 use crate::sheet::Sheet;
 use crate::shown::show_rows;
+use crate::tried::{Tried, changed_twice, tried_twice};
 use std::alloc::Global;
 use zone_rows::Rows;
 
@@ -20,28 +21,15 @@ pub const NAMES: &str = "zone_rows::Rows::push\n\
 // So many rows fill a block.
 const FULL: u32 = 512;
 
-fn push(alloc: Global, sheet: &mut Sheet, rows: &mut Rows) -> Result<(), BenchError> {
-    let row = row(alloc, LOCAL)?;
-    rows.push(row)?;
-    show_rows(sheet, rows)
-}
-
-// The same of a row that another list lends.
-fn push_ref(alloc: Global, sheet: &mut Sheet, list: &mut Rows) -> Result<(), BenchError> {
+// Puts a row at the end that another list lends.
+fn push_ref(alloc: Global, list: &mut Rows) -> Result<(), BenchError> {
     let others = rows(alloc, &[LOCAL])?;
     if others.len() == 0 {
         return Err(BenchError::Empty);
     }
     let row = others.at(0);
     list.push_ref(&row)?;
-    show_rows(sheet, list)
-}
-
-// The same at a full block, whose rows aren't shown.
-fn push_behind(alloc: Global, sheet: &mut Sheet, rows: &mut Rows) -> Result<(), BenchError> {
-    let row = row(alloc, LOCAL)?;
-    rows.push(row)?;
-    sheet.show(&rows.len())
+    Ok(())
 }
 
 fn full(alloc: Global) -> Result<Rows, BenchError> {
@@ -51,16 +39,6 @@ fn full(alloc: Global) -> Result<Rows, BenchError> {
         rows.push(row.clone()?)?;
     }
     Ok(rows)
-}
-
-fn without_repeats(alloc: Global, sheet: &mut Sheet, rows: &Rows) -> Result<(), BenchError> {
-    let kept = rows.share()?.without_repeats(alloc)?;
-    show_rows(sheet, &kept)
-}
-
-fn share(sheet: &mut Sheet, rows: &Rows) -> Result<(), BenchError> {
-    let other = rows.share()?;
-    show_rows(sheet, &other)
 }
 
 // What a call of the first row gives.
@@ -75,16 +53,34 @@ fn of_row(alloc: Global, sheet: &mut Sheet, call: &str, rows: &Rows) -> Result<(
     }
 }
 
-fn once(alloc: Global, sheet: &mut Sheet, call: &str, rows: &mut Rows) -> Result<(), BenchError> {
+// The list that a call makes.
+fn made(alloc: Global, call: &str, rows: &Rows) -> Result<Rows, BenchError> {
+    let other = rows.share()?;
     match call {
-        "zone_rows::Rows::push" => push(alloc, sheet, rows),
-        "zone_rows::Rows::push::full" => push_behind(alloc, sheet, rows),
-        "zone_rows::Rows::push_ref" => push_ref(alloc, sheet, rows),
-        "zone_rows::Rows::share" => share(sheet, rows),
-        "zone_rows::RowRef::identity" | "zone_rows::RowRef::to_row" => {
-            of_row(alloc, sheet, call, rows)
+        "zone_rows::Rows::share" => Ok(other),
+        _ => Ok(other.without_repeats(alloc)?),
+    }
+}
+
+impl Tried for Rows {
+    fn once(&mut self, alloc: Global, sheet: &mut Sheet, call: &str) -> Result<(), BenchError> {
+        match call {
+            "zone_rows::Rows::push" => self.push(row(alloc, LOCAL)?)?,
+            "zone_rows::Rows::push_ref" => push_ref(alloc, self)?,
+            // whose rows aren't shown
+            "zone_rows::Rows::push::full" => {
+                self.push(row(alloc, LOCAL)?)?;
+                return sheet.show(&self.len());
+            }
+            "zone_rows::RowRef::identity" | "zone_rows::RowRef::to_row" => {
+                return of_row(alloc, sheet, call, self);
+            }
+            _ => {
+                let other = made(alloc, call, self)?;
+                return show_rows(sheet, &other);
+            }
         }
-        _ => without_repeats(alloc, sheet, rows),
+        show_rows(sheet, self)
     }
 }
 
@@ -102,23 +98,13 @@ fn sample(alloc: Global, call: &str) -> Result<Rows, BenchError> {
     }
 }
 
-// Whether a call may change the rows.
-fn is_push(call: &str) -> bool {
-    matches!(
-        call,
-        "zone_rows::Rows::push" | "zone_rows::Rows::push::full" | "zone_rows::Rows::push_ref"
-    )
-}
-
 /// Does the call of this name twice.
 pub fn twice(alloc: Global, sheet: &mut Sheet, call: &str) -> Result<(), BenchError> {
-    let mut rows = sample(alloc, call)?;
-    let first = once(alloc, sheet, call, &mut rows);
-    sheet.settle(first)?;
-    let second = once(alloc, sheet, call, &mut rows);
-    sheet.settle(second)?;
-    if is_push(call) {
-        sheet.changes()?;
+    let rows = sample(alloc, call)?;
+    match call {
+        "zone_rows::Rows::push" | "zone_rows::Rows::push::full" | "zone_rows::Rows::push_ref" => {
+            changed_twice(alloc, sheet, call, rows)
+        }
+        _ => tried_twice(alloc, sheet, call, rows),
     }
-    Ok(())
 }

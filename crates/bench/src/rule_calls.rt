@@ -3,6 +3,7 @@
 use crate::bench_error::BenchError;
 use crate::samples::{CLIENT, LOCAL, origin, row};
 use crate::sheet::Sheet;
+use crate::tried::{Tried, tried_twice};
 use action_codec::action_of;
 use dns_name::Name;
 use dns_record::Row;
@@ -17,20 +18,11 @@ pub const NAMES: &str = "trigger_codec::trigger_of\n\
     action_codec::action_of\n";
 
 // A row of the zone with its trigger.
+#[derive(Drop)]
 struct Rule {
     origin: Name,
     row: Row,
     trigger: Trigger,
-}
-
-impl Drop for Rule {
-    fn drop(self) {
-        let Rule {
-            origin: _,
-            row: _,
-            trigger: _,
-        } = self;
-    }
 }
 
 fn make_rule(alloc: Global, octets: &[u8]) -> Result<Rule, BenchError> {
@@ -44,16 +36,20 @@ fn make_rule(alloc: Global, octets: &[u8]) -> Result<Rule, BenchError> {
     })
 }
 
-fn once(alloc: Global, sheet: &mut Sheet, call: &str, rule: &Rule) -> Result<(), BenchError> {
-    match call {
-        "trigger_codec::trigger_of" | "trigger_codec::trigger_of::pattern" => {
-            sheet.show(&trigger_of(alloc, rule.row.owner(), &rule.origin)?)
+impl Tried for Rule {
+    fn once(&mut self, alloc: Global, sheet: &mut Sheet, call: &str) -> Result<(), BenchError> {
+        match call {
+            "trigger_codec::trigger_of" | "trigger_codec::trigger_of::pattern" => {
+                sheet.show(&trigger_of(alloc, self.row.owner(), &self.origin)?)
+            }
+            "trigger_codec::owner_of" | "trigger_codec::owner_of::pattern" => {
+                sheet.show(&owner_of(alloc, &self.trigger, &self.origin)?)
+            }
+            "action_codec::action_of" => {
+                sheet.show(&action_of(alloc, &self.trigger, &[&self.row])?)
+            }
+            _ => Err(BenchError::Words),
         }
-        "trigger_codec::owner_of" | "trigger_codec::owner_of::pattern" => {
-            sheet.show(&owner_of(alloc, &rule.trigger, &rule.origin)?)
-        }
-        "action_codec::action_of" => { sheet.show(&action_of(alloc, &rule.trigger, &[&rule.row])?) }
-        _ => Err(BenchError::Words),
     }
 }
 
@@ -63,9 +59,5 @@ pub fn twice(alloc: Global, sheet: &mut Sheet, call: &str) -> Result<(), BenchEr
         "trigger_codec::trigger_of" | "trigger_codec::owner_of" => CLIENT,
         _ => LOCAL,
     };
-    let rule = make_rule(alloc, octets)?;
-    let first = once(alloc, sheet, call, &rule);
-    sheet.settle(first)?;
-    let second = once(alloc, sheet, call, &rule);
-    sheet.settle(second)
+    tried_twice(alloc, sheet, call, make_rule(alloc, octets)?)
 }

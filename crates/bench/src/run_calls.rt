@@ -3,8 +3,10 @@
 //! The line says the status, `wrote` and the octets of the output.
 
 use crate::bench_error::BenchError;
+use crate::serve_calls;
 use crate::sheet::Sheet;
 use crate::shown::show_written;
+use crate::tried::{Tried, tried_twice};
 use edge_io::{
     ListClock, ListIds, ListLink, ListReplies, ListSink, ListSource, ListWires, TaskSpawner, Wires,
 };
@@ -36,15 +38,6 @@ const SCRIPT: &[u8] = b"zone rpz.example\n\
     query 1 udp 198.51.100.7 12330100000100000000000003626164076578616d706c650000010001\n\
     query 2 udp 198.51.100.7 1235010000010000000000000178076578616d706c650000010001\n\
     give 2 0001818000010001000000000178076578616d706c6500000100010178076578616d706c6500000100010000003c0004c6336409\n";
-
-// The words of a call.
-fn line_of(call: &str) -> Result<&'static str, BenchError> {
-    match call {
-        "rpz_program::run::replay" => Ok("replay"),
-        "rpz_program::run::load" => Ok("load 7 12 4 1"),
-        _ => Err(BenchError::Words),
-    }
-}
 
 /// The words that a line has.
 pub fn words_of(alloc: Global, line: &str) -> Result<Vec<String>, AllocError> {
@@ -123,19 +116,35 @@ fn run_words<R: Threads + Wait + Clock + RandomSource + Copy + Drop + Send + Syn
     show_written(sheet, &octets)
 }
 
-// The transcript of the script.
-fn replay(alloc: Global, sheet: &mut Sheet) -> Result<(), BenchError> {
-    match replayed(alloc, SCRIPT.to_vec(alloc)?) {
-        Ok(octets) => show_written(sheet, &octets),
-        Err(Status::OutOfMemory) => Err(BenchError::OutOfMemory),
-        Err(status) => sheet.show(&status),
+// A replay of the script.
+#[derive(Drop)]
+struct Replay;
+
+impl Tried for Replay {
+    fn once(&mut self, alloc: Global, sheet: &mut Sheet, _call: &str) -> Result<(), BenchError> {
+        match replayed(alloc, SCRIPT.to_vec(alloc)?) {
+            Ok(octets) => show_written(sheet, &octets),
+            Err(Status::OutOfMemory) => Err(BenchError::OutOfMemory),
+            Err(status) => sheet.show(&status),
+        }
     }
 }
 
-fn replay_twice(alloc: Global, sheet: &mut Sheet) -> Result<(), BenchError> {
-    let first = replay(alloc, sheet);
+// Runs the words of a call twice.
+fn run_twice<R: Threads + Wait + Clock + RandomSource + Copy + Drop + Send + Sync + 'static>(
+    rt: &R,
+    alloc: Global,
+    sheet: &mut Sheet,
+    call: &str,
+) -> Result<(), BenchError> {
+    let line = match call {
+        "rpz_program::run::load" => "load 7 12 4 1",
+        _ => "replay",
+    };
+    let words = words_of(alloc, line)?;
+    let first = run_words(rt, alloc, sheet, &words);
     sheet.settle(first)?;
-    let second = replay(alloc, sheet);
+    let second = run_words(rt, alloc, sheet, &words);
     sheet.settle(second)
 }
 
@@ -146,12 +155,9 @@ pub fn twice<R: Threads + Wait + Clock + RandomSource + Copy + Drop + Send + Syn
     sheet: &mut Sheet,
     call: &str,
 ) -> Result<(), BenchError> {
-    if call == "rpz_program::replayed" {
-        return replay_twice(alloc, sheet);
+    match call {
+        "rpz_program::replayed" => tried_twice(alloc, sheet, call, Replay),
+        "rpz_program::run::serve" => serve_calls::twice(rt, alloc, sheet),
+        _ => run_twice(rt, alloc, sheet, call),
     }
-    let words = words_of(alloc, line_of(call)?)?;
-    let first = run_words(rt, alloc, sheet, &words);
-    sheet.settle(first)?;
-    let second = run_words(rt, alloc, sheet, &words);
-    sheet.settle(second)
 }

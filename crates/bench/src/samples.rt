@@ -2,7 +2,7 @@
 
 use crate::bench_error::BenchError;
 use dns_message::{Incoming, Query, Question, classify};
-use dns_name::Name;
+use dns_name::{Name, Pattern};
 use dns_record::{Record, Row, Soa, class, read_record, rtype};
 use ip_prefix::{Addr, Transport};
 use std::alloc::{AllocError, Global};
@@ -62,6 +62,12 @@ pub fn name(alloc: Global, text: &[u8]) -> Result<Name, BenchError> {
     Ok(Name::from_text(alloc, text)?)
 }
 
+/// A pattern of this base.
+pub fn pattern(alloc: Global, text: &[u8], wild: bool) -> Result<Pattern, BenchError> {
+    let base = name(alloc, text)?;
+    Ok(Pattern::new(alloc, &base, wild)?)
+}
+
 /// The zone's name.
 pub fn origin(alloc: Global) -> Result<Name, BenchError> {
     name(alloc, b"rpz.example")
@@ -83,19 +89,18 @@ pub fn soa(alloc: Global, serial: u32) -> Result<Soa, AllocError> {
     })
 }
 
-/// The record that stands in these octets.
-pub fn record(alloc: Global, octets: &[u8]) -> Result<Record, BenchError> {
-    let (rr, _after) = read_record(alloc, octets, 0)?;
-    Ok(rr)
-}
-
-/// The row that it is.
-pub fn row(alloc: Global, octets: &[u8]) -> Result<Row, BenchError> {
-    let rr = record(alloc, octets)?;
-    if rr.class() != class::IN {
+/// The row that a record is.
+pub fn row_of(alloc: Global, record: &Record) -> Result<Row, BenchError> {
+    if record.class() != class::IN {
         return Err(BenchError::Empty);
     }
-    Ok(Row::of(alloc, &rr)?)
+    Ok(Row::of(alloc, record)?)
+}
+
+/// The row that stands in these octets.
+pub fn row(alloc: Global, octets: &[u8]) -> Result<Row, BenchError> {
+    let (record, _after) = read_record(alloc, octets, 0)?;
+    row_of(alloc, &record)
 }
 
 /// The rows that such octets are.

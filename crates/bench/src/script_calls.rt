@@ -3,72 +3,94 @@
 use crate::bench_error::BenchError;
 use crate::samples::{QUERY, origin};
 use crate::sheet::Sheet;
-use crate::tried::{Tried, changed_twice};
+use crate::tried::{Tried, changed_twice, tried_twice};
 use dns_name::Octets;
-use script_codec::{Names, ScriptState, Shown, read_line, write_shown};
+use policy_override::{Override, ZoneSet, ZoneSets};
+use script_codec::{ScriptState, Shown, read_line, write_shown};
 use std::alloc::Global;
 
 /// The names of these calls.
 pub const NAMES: &str = "script_codec::read_line::zone\n\
     script_codec::read_line::transfer\n\
+    script_codec::read_line::override\n\
     script_codec::write_shown\n\
-    script_codec::Names::push\n";
+    policy_override::ZoneSets::push\n";
 
-fn read(alloc: Global, sheet: &mut Sheet, text: &[u8], origins: &Names) -> Result<(), BenchError> {
+fn read(alloc: Global, sheet: &mut Sheet, text: &[u8], zones: &ZoneSets) -> Result<(), BenchError> {
     let state = ScriptState::Opening {
-        origins,
+        zones,
         primaries: &[None],
     };
     sheet.show(&read_line(alloc, text, 2, &state)?)
 }
 
-fn once(
-    alloc: Global,
-    sheet: &mut Sheet,
-    call: &str,
-    origins: &Names,
-    shown: &Shown,
-) -> Result<(), BenchError> {
-    match call {
-        "script_codec::read_line::zone" => read(alloc, sheet, b"zone two.example", origins),
-        "script_codec::read_line::transfer" => read(alloc, sheet, b"xfer 001 00aBcd", origins),
-        "script_codec::write_shown" => sheet.show(&write_shown(alloc, shown)?),
-        _ => Err(BenchError::Words),
-    }
+fn make_zone(alloc: Global) -> Result<ZoneSet, BenchError> {
+    Ok(ZoneSet {
+        origin: origin(alloc)?,
+        over: Override::Given,
+    })
 }
 
-fn make_origins(alloc: Global) -> Result<Names, BenchError> {
-    let mut origins = Names::new(alloc);
-    origins.push(origin(alloc)?)?;
-    Ok(origins)
+fn make_zones(alloc: Global) -> Result<ZoneSets, BenchError> {
+    let mut zones = ZoneSets::new(alloc);
+    zones.push(make_zone(alloc)?)?;
+    Ok(zones)
 }
 
-impl Tried for Names {
+impl Tried for ZoneSets {
     fn once(&mut self, alloc: Global, sheet: &mut Sheet, _call: &str) -> Result<(), BenchError> {
-        self.push(origin(alloc)?)?;
+        self.push(make_zone(alloc)?)?;
         sheet.show(&self.as_slice())
     }
 }
 
-fn of_line(alloc: Global, sheet: &mut Sheet, call: &str) -> Result<(), BenchError> {
-    let origins = make_origins(alloc)?;
-    let shown = Shown::Reply {
-        worker: 1,
-        message: Octets::from_slice(alloc, QUERY)?,
-    };
-    let first = once(alloc, sheet, call, &origins, &shown);
-    sheet.settle(first)?;
-    let second = once(alloc, sheet, call, &origins, &shown);
-    sheet.settle(second)
+// The zones so far, and a line that is written.
+#[derive(Drop)]
+struct Lines {
+    zones: ZoneSets,
+    shown: Shown,
+}
+
+impl Tried for Lines {
+    fn once(&mut self, alloc: Global, sheet: &mut Sheet, call: &str) -> Result<(), BenchError> {
+        match call {
+            "script_codec::read_line::zone" => {
+                read(alloc, sheet, b"zone two.example", &self.zones)
+            }
+            "script_codec::read_line::transfer" => {
+                read(alloc, sheet, b"xfer 001 00aBcd", &self.zones)
+            }
+            "script_codec::read_line::override" => {
+                let text = b"zone two.example cname *.garden.test";
+                read(alloc, sheet, text, &self.zones)
+            }
+            _ => sheet.show(&write_shown(alloc, &self.shown)?),
+        }
+    }
+}
+
+fn make_lines(alloc: Global) -> Result<Lines, BenchError> {
+    let zones = make_zones(alloc)?;
+    let message = Octets::from_slice(alloc, QUERY)?;
+    Ok(Lines {
+        zones,
+        shown: Shown::Reply { worker: 1, message },
+    })
 }
 
 /// Does the call of this name twice.
 pub fn twice(alloc: Global, sheet: &mut Sheet, call: &str) -> Result<(), BenchError> {
     match call {
-        "script_codec::Names::push" => {
-            let mut names = Names::new(alloc);
-            changed_twice(alloc, sheet, call, &mut names)
-        }
-        _ => of_line(alloc, sheet, call),
+        "policy_override::ZoneSets::push" => changed_twice(
+            alloc,
+            sheet,
+            call,
+            ZoneSets::new(alloc),
+        ),
+        "script_codec::read_line::zone"
+        | "script_codec::read_line::transfer"
+        | "script_codec::read_line::override"
+        | "script_codec::write_shown" => tried_twice(alloc, sheet, call, make_lines(alloc)?),
+        _ => Err(BenchError::Words),
     }
 }

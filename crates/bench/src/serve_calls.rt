@@ -4,9 +4,10 @@
 
 ghost use Rattle.std.specs.Prelude.{None};
 
+use crate::ask_calls::make_link;
 use crate::bench_error::BenchError;
 use crate::run_calls::{end_over, words_of};
-use crate::samples::{CLIENT_ADDR, DENIED_QUERY, QUERY, RESPONSE};
+use crate::samples::{CLIENT_ADDR, DENIED_QUERY, QUERY};
 use crate::sheet::Sheet;
 use crate::shown::show_written;
 use crate::transfer_calls::WHOLE;
@@ -104,10 +105,9 @@ fn make_stages(alloc: Global) -> Result<VecDeque<Stage>, AllocError> {
 
 // A link that gives the response.
 fn make_links(alloc: Global) -> Result<VecDeque<ListLink>, AllocError> {
-    let mut messages = Vec::new(alloc);
-    messages.push(Octets::from_slice(alloc, RESPONSE)?)?;
+    let link = make_link(alloc, 1)?;
     let mut links = VecDeque::new(alloc);
-    links.push_back(ListLink::new(messages, Vec::new(alloc)))?;
+    links.push_back(link)?;
     Ok(links)
 }
 

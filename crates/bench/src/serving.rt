@@ -4,11 +4,11 @@ ghost use Rattle.std.specs.Prelude.{◌≡◌};
 
 use crate::bench_error::BenchError;
 use crate::caching::BenchCache;
+use crate::samples::whole;
 use crate::words::Plan;
 use answer_cache::Shared;
 use axfr_apply::{Taken, Wanted};
-use dns_name::{Name, Octets};
-use dns_record::Soa;
+use dns_name::Octets;
 use edge_io::{Bytes, Endpoint, ListIds, ListLink};
 use ip_prefix::{Addr, Transport};
 use ixfr_apply::read_transfer;
@@ -23,7 +23,6 @@ use std::sync::{Arc, Wait};
 use std::thread;
 use std::thread::{JoinHandle, Threads};
 use std::time::{Clock, Duration};
-use zone_rows::{Rows, Transfer};
 
 type BenchWorker<N, R> = Worker<N, ListLink, Shared<R, ListLink>, Asker<ListLink, ListIds, NoGate>>;
 
@@ -207,24 +206,6 @@ fn load<N: StoreName, R: Wait>(
     }
 }
 
-// A whole transfer of this serial, without a row.
-fn empty_transfer(alloc: Global, serial: u32) -> Result<Transfer, AllocError> {
-    let soa = Soa {
-        mname: Name::root(alloc)?,
-        rname: Name::root(alloc)?,
-        serial,
-        refresh: 3_600,
-        retry: 600,
-        expire: 86_400,
-        minimum: 60,
-        ttl: 60,
-    };
-    Ok(Transfer::Whole {
-        soa,
-        rows: Rows::new(alloc),
-    })
-}
-
 // Publishes the second zone again and again, while a worker is running.
 fn publish_while<N: StoreName, R: Wait + Clock>(
     rt: &R,
@@ -240,7 +221,7 @@ fn publish_while<N: StoreName, R: Wait + Clock>(
         if !publisher.has_zone(2) {
             return Err(BenchError::Words);
         }
-        let _published = publisher.publish(rt, 2, empty_transfer(alloc, serial)?)?;
+        let _published = publisher.publish(rt, 2, whole(alloc, serial, &[])?)?;
         thread::sleep(rt, Duration::from_millis(pause));
     }
     Ok(())

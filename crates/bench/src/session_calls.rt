@@ -4,6 +4,7 @@ use crate::bench_error::BenchError;
 use crate::policy_sample::policy;
 use crate::samples::{CLIENT_ADDR, DENIED_QUERY, QUERY, RESPONSE, question};
 use crate::sheet::Sheet;
+use crate::tried::{Tried, tried_twice};
 use dns_message::Question;
 use ip_prefix::Transport;
 use policy_snapshot::Snapshot;
@@ -27,55 +28,50 @@ fn begin(alloc: Global, policy: &Version, message: &[u8]) -> Result<Session, Ben
     Ok(Session::start(alloc, own, message, CLIENT_ADDR, Transport::Udp)?)
 }
 
-// The query of a call: one that a rule answers, or one for which the upstream is asked.
-fn message_of(call: &str) -> &'static [u8] {
-    match call {
-        "query_session::Session::turn::rule" => DENIED_QUERY,
-        _ => QUERY,
+fn show_state(sheet: &mut Sheet, session: &Session) -> Result<(), BenchError> {
+    sheet.show(&session.known())?;
+    sheet.show(&session.waits())
+}
+
+// A version of the policy, over which sessions start.
+#[derive(Drop)]
+struct Starting {
+    policy: Version,
+}
+
+impl Tried for Starting {
+    fn once(&mut self, alloc: Global, sheet: &mut Sheet, _call: &str) -> Result<(), BenchError> {
+        let session = begin(alloc, &self.policy, QUERY)?;
+        show_state(sheet, &session)
     }
 }
 
-fn start(alloc: Global, sheet: &mut Sheet, policy: &Version) -> Result<(), BenchError> {
-    let session = begin(alloc, policy, QUERY)?;
-    sheet.show(&session.known())?;
-    sheet.show(&session.waits())
+// A session, and its question.
+#[derive(Drop)]
+struct Asking {
+    session: Session,
+    asked: Question,
 }
 
-fn turn(sheet: &mut Sheet, session: &mut Session) -> Result<(), BenchError> {
-    let turn = session.turn()?;
-    sheet.show(&turn)?;
-    sheet.show(&session.known())?;
-    sheet.show(&session.waits())
-}
-
-// Gives the fact that is asked for, if one is.
-fn give(
-    alloc: Global,
-    sheet: &mut Sheet,
-    session: &mut Session,
-    asked: &Question,
-) -> Result<(), BenchError> {
+// Gives what the upstream says, if that is asked for.
+fn give(alloc: Global, session: &mut Session, asked: &Question) -> Result<(), BenchError> {
     let fact = fact_of(alloc, RESPONSE, 0, asked)?;
     if session.waits() {
         session.give(fact)?;
     }
-    sheet.show(&session.known())?;
-    sheet.show(&session.waits())
+    Ok(())
 }
 
-fn once(
-    alloc: Global,
-    sheet: &mut Sheet,
-    call: &str,
-    session: &mut Session,
-    asked: &Question,
-) -> Result<(), BenchError> {
-    match call {
-        "query_session::Session::give" => give(alloc, sheet, session, asked),
-        "query_session::Session::turn"
-        | "query_session::Session::turn::next"
-        | "query_session::Session::turn::rule" => turn(sheet, session),
-        _ => Err(BenchError::Words),
+impl Tried for Asking {
+    fn once(&mut self, alloc: Global, sheet: &mut Sheet, call: &str) -> Result<(), BenchError> {
+        match call {
+            "query_session::Session::give" => give(alloc, &mut self.session, &self.asked)?,
+            "query_session::Session::turn"
+            | "query_session::Session::turn::next"
+            | "query_session::Session::turn::rule" => sheet.show(&self.session.turn()?)?,
+            _ => return Err(BenchError::Words),
+        }
+        show_state(sheet, &self.session)
     }
 }
 
@@ -89,41 +85,31 @@ fn go_on(
     if call != "query_session::Session::turn::next" && call != "query_session::Session::give" {
         return Ok(());
     }
-    let _turn = session.turn()?;
-    if call == "query_session::Session::turn::next" && session.waits() {
-        session.give(fact_of(alloc, RESPONSE, 0, asked)?)?;
+    drop(session.turn()?);
+    if call == "query_session::Session::turn::next" {
+        give(alloc, session, asked)?;
     }
     Ok(())
 }
 
-fn of_session(
-    alloc: Global,
-    sheet: &mut Sheet,
-    call: &str,
-    policy: &Version,
-) -> Result<(), BenchError> {
+// Of a query that a rule answers, or of one for which the upstream is asked.
+fn make_asking(alloc: Global, call: &str, policy: &Version) -> Result<Asking, BenchError> {
+    let message = match call {
+        "query_session::Session::turn::rule" => DENIED_QUERY,
+        _ => QUERY,
+    };
     let asked = question(alloc)?;
-    let mut session = begin(alloc, policy, message_of(call))?;
+    let mut session = begin(alloc, policy, message)?;
     go_on(alloc, call, &mut session, &asked)?;
-    let first = once(alloc, sheet, call, &mut session, &asked);
-    sheet.settle(first)?;
-    let second = once(alloc, sheet, call, &mut session, &asked);
-    sheet.settle(second)
-}
-
-fn starts(alloc: Global, sheet: &mut Sheet, policy: &Version) -> Result<(), BenchError> {
-    let first = start(alloc, sheet, policy);
-    sheet.settle(first)?;
-    let second = start(alloc, sheet, policy);
-    sheet.settle(second)
+    Ok(Asking { session, asked })
 }
 
 /// Does the call of this name twice.
 pub fn twice(alloc: Global, sheet: &mut Sheet, call: &str) -> Result<(), BenchError> {
     let policy = policy(alloc)?;
-    let version = Arc::new(alloc, policy)?;
+    let policy = Arc::new(alloc, policy)?;
     match call {
-        "query_session::Session::start" => starts(alloc, sheet, &version),
-        _ => of_session(alloc, sheet, call, &version),
+        "query_session::Session::start" => { tried_twice(alloc, sheet, call, Starting { policy }) }
+        _ => tried_twice(alloc, sheet, call, make_asking(alloc, call, &policy)?),
     }
 }

@@ -128,44 +128,40 @@ fn make_table(alloc: Global, count: u32) -> Result<Table, AllocError> {
     Ok(table)
 }
 
-fn numbers_twice(
-    alloc: Global,
-    sheet: &mut Sheet,
-    call: &str,
-    count: u32,
-) -> Result<(), BenchError> {
-    let mut numbers = make_numbers(alloc, count)?;
-    changed_twice(alloc, sheet, call, &mut numbers)
-}
-
-fn octets_twice(
-    alloc: Global,
-    sheet: &mut Sheet,
-    call: &str,
-    count: u32,
-) -> Result<(), BenchError> {
-    let mut octets = make_octets(alloc, count)?;
-    changed_twice(alloc, sheet, call, &mut octets)
-}
-
-fn table_twice(alloc: Global, sheet: &mut Sheet, call: &str, count: u32) -> Result<(), BenchError> {
-    let mut table = make_table(alloc, count)?;
-    changed_twice(alloc, sheet, call, &mut table)
+// How many there are before the call, where a block is full with so many.
+fn count_of(call: &str, block: u32) -> u32 {
+    match call {
+        "shared_list::SharedList::push"
+        | "shared_list::SharedOctets::push"
+        | "shared_list::SharedTable::push" => 0,
+        "shared_list::SharedList::push::full"
+        | "shared_list::SharedOctets::push::full"
+        | "shared_list::SharedTable::push::full" => block,
+        _ => block.saturating_add(1),
+    }
 }
 
 /// Does the call of this name twice.
 pub fn twice(alloc: Global, sheet: &mut Sheet, call: &str) -> Result<(), BenchError> {
     match call {
-        "shared_list::SharedList::push" => numbers_twice(alloc, sheet, call, 0),
-        "shared_list::SharedList::push::full" => numbers_twice(alloc, sheet, call, LIST_BLOCK),
-        "shared_list::SharedList::share" => numbers_twice(alloc, sheet, call, LIST_BLOCK + 1),
-        "shared_list::SharedOctets::push" => octets_twice(alloc, sheet, call, 0),
-        "shared_list::SharedOctets::push::full" => octets_twice(alloc, sheet, call, STRINGS),
-        "shared_list::SharedOctets::share" => octets_twice(alloc, sheet, call, STRINGS + 1),
-        "shared_list::SharedTable::push" => table_twice(alloc, sheet, call, 0),
-        "shared_list::SharedTable::push::full" => table_twice(alloc, sheet, call, TABLE_GROUP),
-        "shared_list::SharedTable::set" | "shared_list::SharedTable::share" => {
-            table_twice(alloc, sheet, call, TABLE_GROUP + 1)
+        "shared_list::SharedList::push"
+        | "shared_list::SharedList::push::full"
+        | "shared_list::SharedList::share" => {
+            let numbers = make_numbers(alloc, count_of(call, LIST_BLOCK))?;
+            changed_twice(alloc, sheet, call, numbers)
+        }
+        "shared_list::SharedOctets::push"
+        | "shared_list::SharedOctets::push::full"
+        | "shared_list::SharedOctets::share" => {
+            let octets = make_octets(alloc, count_of(call, STRINGS))?;
+            changed_twice(alloc, sheet, call, octets)
+        }
+        "shared_list::SharedTable::push"
+        | "shared_list::SharedTable::push::full"
+        | "shared_list::SharedTable::set"
+        | "shared_list::SharedTable::share" => {
+            let table = make_table(alloc, count_of(call, TABLE_GROUP))?;
+            changed_twice(alloc, sheet, call, table)
         }
         _ => Err(BenchError::Words),
     }

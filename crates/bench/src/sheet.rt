@@ -44,30 +44,25 @@ impl Sheet {
 
     /// Ends the line of a call, which says no more than that where the call got no memory. Any other error ends the program.
     pub fn settle(&mut self, done: Result<(), BenchError>) -> Result<(), BenchError> {
-        match done {
-            Ok(()) => self.keep(),
-            Err(error) => self.refuse(error),
+        if let Err(error) = done {
+            if !error.is_out_of_memory() {
+                return Err(error);
+            }
+            self.line.clear();
+            self.line.push_str("out of memory")?;
         }
-    }
-
-    fn refuse(&mut self, error: BenchError) -> Result<(), BenchError> {
-        if !error.is_out_of_memory() {
-            return Err(error);
-        }
-        self.line.clear();
-        self.line.push_str("out of memory")?;
         self.keep()
     }
 
     /// Says in a line of its own that the call may change the value that it is called on.
     pub fn changes(&mut self) -> Result<(), BenchError> {
-        self.line.push_str("changes")?;
+        self.say("changes")?;
         self.keep()
     }
 
     /// Says in a line of its own that the first call ends the value, whether it gets memory or not.
     pub fn ends(&mut self) -> Result<(), BenchError> {
-        self.line.push_str("ends")?;
+        self.say("ends")?;
         self.keep()
     }
 }

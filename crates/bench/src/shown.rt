@@ -1,9 +1,12 @@
-//! Rows, transfers and zones as text.
+//! Rows, transfers, zones and entries of tries as text.
 
 use crate::bench_error::BenchError;
 use crate::samples::{FRESH, KINDS, origin, row};
 use crate::sheet::Sheet;
+use octet_trie::OctetFound;
 use std::alloc::Global;
+use std::fmt::Debug;
+use trie_keys::Marked;
 use trigger_codec::trigger_of;
 use zone_index::Zone;
 use zone_rows::{Rows, Step, Steps, Transfer};
@@ -67,6 +70,31 @@ pub fn show_zone(alloc: Global, sheet: &mut Sheet, zone: &Zone) -> Result<(), Be
         show_rule(alloc, sheet, zone, octets)?;
     }
     show_rule(alloc, sheet, zone, FRESH)
+}
+
+/// Entries of a trie by key, each with its value.
+pub fn show_found<V: Debug>(
+    sheet: &mut Sheet,
+    entries: &[OctetFound<'_, V, bool>],
+) -> Result<(), BenchError> {
+    for entry in entries {
+        sheet.show(&entry.key)?;
+        sheet.show(&entry.wild)?;
+        sheet.show(&entry.value.value)?;
+    }
+    Ok(())
+}
+
+/// Patterns or prefixes, each with its value.
+pub fn show_marked<K: Debug, V: Debug>(
+    sheet: &mut Sheet,
+    entries: &[(K, Marked<V, bool>)],
+) -> Result<(), BenchError> {
+    for entry in entries {
+        sheet.show(&entry.0)?;
+        sheet.show(&entry.1.value)?;
+    }
+    Ok(())
 }
 
 /// The octets that were written.

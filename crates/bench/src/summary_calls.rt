@@ -1,11 +1,12 @@
 //! Calls of what is known of all zones together.
 
 use crate::bench_error::BenchError;
-use crate::samples::{DROPPED, KINDS, LOCAL, name};
+use crate::samples::{DROPPED, KINDS, LOCAL, pattern};
 use crate::sheet::Sheet;
+use crate::shown::show_found;
+use crate::tried::{Tried, tried_twice};
 use crate::zone_calls::loaded;
 use dns_name::Pattern;
-use octet_trie::OctetFound;
 use std::alloc::Global;
 use summary_index::{NameSummary, Zones, merged};
 use trigger_codec::Kind;
@@ -18,72 +19,46 @@ pub const NAMES: &str = "summary_index::NameSummary::listed\n\
     summary_index::NameSummary::without_zone\n\
     summary_index::merged\n";
 
-// Two zones of which some patterns are in both, a pattern of the first, and one that neither has.
-struct Both {
-    first: Zone,
-    second: Zone,
-    there: Pattern,
-    lacking: Pattern,
+/// Two zones of which some rules are alike.
+#[derive(Drop)]
+pub struct Both {
+    pub first: Zone,
+    pub second: Zone,
 }
 
-impl Drop for Both {
-    fn drop(self) {
-        let Both {
-            first: _,
-            second: _,
-            there: _,
-            lacking: _,
-        } = self;
-    }
+/// The zones that have these rows.
+pub fn make_both(alloc: Global, first: &[&[u8]], second: &[&[u8]]) -> Result<Both, BenchError> {
+    let first = loaded(alloc, first)?;
+    let second = loaded(alloc, second)?;
+    Ok(Both { first, second })
 }
 
-fn pattern(alloc: Global, text: &[u8]) -> Result<Pattern, BenchError> {
-    let base = name(alloc, text)?;
-    Ok(Pattern::new(alloc, &base, false)?)
-}
-
-fn make_both(alloc: Global) -> Result<Both, BenchError> {
-    let there = pattern(alloc, b"gone.example")?;
-    let lacking = pattern(alloc, b"y.example")?;
-    let first = loaded(alloc, KINDS)?;
-    let second = loaded(alloc, &[DROPPED, LOCAL])?;
-    Ok(Both {
-        first,
-        second,
-        there,
-        lacking,
-    })
-}
-
-fn zone_one() -> Zones {
+/// The numbers of the two.
+pub fn zone_one() -> Zones {
     Zones::default().with(1)
 }
 
-fn zone_two() -> Zones {
+pub fn zone_two() -> Zones {
     Zones::default().with(2)
 }
 
-fn show_entries(
-    sheet: &mut Sheet,
-    entries: &[OctetFound<'_, Zones, bool>],
-) -> Result<(), BenchError> {
-    for entry in entries {
-        sheet.show(&entry.key)?;
-        sheet.show(&entry.wild)?;
-        sheet.show(&entry.value.value)?;
-    }
-    Ok(())
+// The patterns of two zones, one of both, and one of neither.
+#[derive(Drop)]
+struct Sample {
+    both: Both,
+    there: Pattern,
+    lacking: Pattern,
+    summary: NameSummary,
 }
 
 // All of a summary: without the zone 32, which it doesn't have, it is as it was.
 fn show_summary(sheet: &mut Sheet, summary: &NameSummary) -> Result<(), BenchError> {
     sheet.show(&summary.having())?;
     sheet.show(&summary.is_listed())?;
-    let entries = summary.without_zone(32)?;
-    show_entries(sheet, &entries)
+    show_found(sheet, summary.without_zone(32)?.as_slice())
 }
 
-// A summary of a zone's patterns.
+// A summary of the patterns of a zone.
 fn listed(alloc: Global, zone: &Zone, zones: Zones) -> Result<NameSummary, BenchError> {
     let Some(index) = zone.index() else {
         return Err(BenchError::Empty);
@@ -102,56 +77,43 @@ fn both_listed(alloc: Global, both: &Both) -> Result<NameSummary, BenchError> {
     Ok(NameSummary::listed(alloc, zone_one().with(2), &all)?)
 }
 
-fn put(
-    sheet: &mut Sheet,
-    summary: &NameSummary,
-    pattern: &Pattern,
-    zones: Zones,
-) -> Result<(), BenchError> {
-    let next = summary.share()?.put(pattern, zones)?;
-    show_summary(sheet, &next)
-}
-
-fn without_zone(sheet: &mut Sheet, summary: &NameSummary) -> Result<(), BenchError> {
-    let entries = summary.without_zone(1)?;
-    show_entries(sheet, &entries)
-}
-
-fn once(
-    alloc: Global,
-    sheet: &mut Sheet,
-    call: &str,
-    both: &Both,
-    summary: &NameSummary,
-) -> Result<(), BenchError> {
+// The summary that a call makes.
+fn made(alloc: Global, call: &str, sample: &Sample) -> Result<NameSummary, BenchError> {
+    let summary = &sample.summary;
     match call {
-        "summary_index::NameSummary::listed" => {
-            let other = listed(alloc, &both.first, zone_one())?;
-            show_summary(sheet, &other)
+        "summary_index::NameSummary::listed" => listed(alloc, &sample.both.first, zone_one()),
+        "summary_index::NameSummary::put" => {
+            Ok(summary.share()?.put(&sample.lacking, zone_two())?)
         }
-        "summary_index::NameSummary::put" => { put(sheet, summary, &both.lacking, zone_two()) }
         "summary_index::NameSummary::put::none" => {
-            put(sheet, summary, &both.there, Zones::default())
+            Ok(summary.share()?.put(&sample.there, Zones::default())?)
         }
-        "summary_index::NameSummary::without_zone" => without_zone(sheet, summary),
-        "summary_index::merged" => {
-            let all = both_listed(alloc, both)?;
-            show_summary(sheet, &all)
-        }
+        "summary_index::merged" => both_listed(alloc, &sample.both),
         _ => Err(BenchError::Words),
     }
 }
 
-fn both_times(alloc: Global, sheet: &mut Sheet, call: &str, both: &Both) -> Result<(), BenchError> {
-    let summary = both_listed(alloc, both)?;
-    let first = once(alloc, sheet, call, both, &summary);
-    sheet.settle(first)?;
-    let second = once(alloc, sheet, call, both, &summary);
-    sheet.settle(second)
+impl Tried for Sample {
+    fn once(&mut self, alloc: Global, sheet: &mut Sheet, call: &str) -> Result<(), BenchError> {
+        if call == "summary_index::NameSummary::without_zone" {
+            return show_found(sheet, self.summary.without_zone(1)?.as_slice());
+        }
+        let other = made(alloc, call, self)?;
+        show_summary(sheet, &other)
+    }
 }
 
 /// Does the call of this name twice.
 pub fn twice(alloc: Global, sheet: &mut Sheet, call: &str) -> Result<(), BenchError> {
-    let both = make_both(alloc)?;
-    both_times(alloc, sheet, call, &both)
+    let there = pattern(alloc, b"gone.example", false)?;
+    let lacking = pattern(alloc, b"y.example", false)?;
+    let both = make_both(alloc, KINDS, &[DROPPED, LOCAL])?;
+    let summary = both_listed(alloc, &both)?;
+    let sample = Sample {
+        both,
+        there,
+        lacking,
+        summary,
+    };
+    tried_twice(alloc, sheet, call, sample)
 }

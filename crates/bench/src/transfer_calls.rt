@@ -4,6 +4,7 @@ use crate::bench_error::BenchError;
 use crate::samples::{origin, soa};
 use crate::sheet::Sheet;
 use crate::shown::show_transfer;
+use crate::tried::{Tried, tried_twice};
 use axfr_apply::{Taken, Wanted};
 use dns_name::Name;
 use dns_record::Soa;
@@ -48,23 +49,29 @@ fn read(
     }
 }
 
-fn once(
-    alloc: Global,
-    sheet: &mut Sheet,
-    call: &str,
-    origin: &Name,
-    soa: &Soa,
-) -> Result<(), BenchError> {
-    match call {
-        "ixfr_apply::read_transfer::whole" => {
-            read(alloc, sheet, WHOLE, origin, Wanted::Whole { have: None })
+// The zone that is asked for, and its SOA.
+#[derive(Drop)]
+struct Known {
+    origin: Name,
+    soa: Soa,
+}
+
+impl Tried for Known {
+    fn once(&mut self, alloc: Global, sheet: &mut Sheet, call: &str) -> Result<(), BenchError> {
+        let origin = &self.origin;
+        match call {
+            "ixfr_apply::read_transfer::whole" => {
+                read(alloc, sheet, WHOLE, origin, Wanted::Whole { have: None })
+            }
+            "ixfr_apply::read_transfer::steps" => {
+                read(alloc, sheet, STEPS, origin, Wanted::Newer { have: 1 })
+            }
+            "ixfr_apply::request" => sheet.show(&request(alloc, 7, origin)?),
+            "ixfr_apply::request_newer" => {
+                sheet.show(&request_newer(alloc, 7, origin, &self.soa)?)
+            }
+            _ => Err(BenchError::Words),
         }
-        "ixfr_apply::read_transfer::steps" => {
-            read(alloc, sheet, STEPS, origin, Wanted::Newer { have: 1 })
-        }
-        "ixfr_apply::request" => sheet.show(&request(alloc, 7, origin)?),
-        "ixfr_apply::request_newer" => sheet.show(&request_newer(alloc, 7, origin, soa)?),
-        _ => Err(BenchError::Words),
     }
 }
 
@@ -72,8 +79,5 @@ fn once(
 pub fn twice(alloc: Global, sheet: &mut Sheet, call: &str) -> Result<(), BenchError> {
     let origin = origin(alloc)?;
     let soa = soa(alloc, 1)?;
-    let first = once(alloc, sheet, call, &origin, &soa);
-    sheet.settle(first)?;
-    let second = once(alloc, sheet, call, &origin, &soa);
-    sheet.settle(second)
+    tried_twice(alloc, sheet, call, Known { origin, soa })
 }

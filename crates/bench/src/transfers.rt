@@ -12,6 +12,7 @@ use axfr_apply::{Taken, TransferError, TransferFault, Wanted};
 use dns_name::Name;
 use edge_io::Source;
 use ixfr_apply::read_transfer;
+use policy_override::as_given;
 use policy_publish::{Parts, Publication, Publisher, StoreName, start_store};
 use std::alloc::Global;
 use std::marker::Brand;
@@ -131,7 +132,7 @@ fn take_over<N: StoreName, R: Wait + Clock, S: Source>(
 fn store(alloc: Global) -> Result<Parts, BenchError> {
     let origin = Name::from_text(alloc, b"rpz.example")?;
     let origins = vec![in alloc; origin]?;
-    Ok(start_store(origins, 1))
+    Ok(start_store(as_given(alloc, origins)?, 1))
 }
 
 /// Takes the transfers of the input.

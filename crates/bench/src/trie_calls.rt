@@ -2,6 +2,7 @@
 
 use crate::bench_error::BenchError;
 use crate::sheet::Sheet;
+use crate::tried::{Tried, tried_twice};
 use octet_trie::{OctetFound, OctetTrie};
 use std::alloc::{AllocError, Global};
 use trie_keys::Marked;
@@ -33,14 +34,6 @@ fn show_trie(sheet: &mut Sheet, trie: &Trie) -> Result<(), BenchError> {
         sheet.show(&entry.value.mark)?;
     }
     Ok(())
-}
-
-// Keys of which two begin alike, and one stands below another.
-fn make_trie(alloc: Global) -> Result<Trie, AllocError> {
-    let trie = Trie::empty(alloc);
-    let trie = trie.inserted(b"\x07example\x03bad", false, VALUE)?;
-    let trie = trie.inserted(b"\x07example\x03bad", true, VALUE)?;
-    trie.inserted(b"\x07example\x03bat\x01x", false, VALUE)
 }
 
 fn listed(alloc: Global) -> Result<Trie, AllocError> {
@@ -83,19 +76,21 @@ fn made(alloc: Global, call: &str, trie: &Trie) -> Result<Trie, BenchError> {
     }
 }
 
-fn once(alloc: Global, sheet: &mut Sheet, call: &str, trie: &Trie) -> Result<(), BenchError> {
-    if call == "octet_trie::OctetTrie::entries" {
-        return show_trie(sheet, trie);
+impl Tried for OctetTrie<u32, bool> {
+    fn once(&mut self, alloc: Global, sheet: &mut Sheet, call: &str) -> Result<(), BenchError> {
+        if call == "octet_trie::OctetTrie::entries" {
+            return show_trie(sheet, self);
+        }
+        let other = made(alloc, call, self)?;
+        show_trie(sheet, &other)
     }
-    let other = made(alloc, call, trie)?;
-    show_trie(sheet, &other)
 }
 
-/// Does the call of this name twice.
+/// Does the call of this name twice, on keys of which two begin alike, and one stands below another.
 pub fn twice(alloc: Global, sheet: &mut Sheet, call: &str) -> Result<(), BenchError> {
-    let trie = make_trie(alloc)?;
-    let first = once(alloc, sheet, call, &trie);
-    sheet.settle(first)?;
-    let second = once(alloc, sheet, call, &trie);
-    sheet.settle(second)
+    let trie = Trie::empty(alloc);
+    let trie = trie.inserted(b"\x07example\x03bad", false, VALUE)?;
+    let trie = trie.inserted(b"\x07example\x03bad", true, VALUE)?;
+    let trie = trie.inserted(b"\x07example\x03bat\x01x", false, VALUE)?;
+    tried_twice(alloc, sheet, call, trie)
 }

@@ -1,25 +1,45 @@
-//! Values that calls may change.
+//! What calls are tried with.
 
 use crate::bench_error::BenchError;
 use crate::sheet::Sheet;
 use std::alloc::Global;
 
-/// A value that calls may change.
-pub trait Tried {
-    /// Does the call of this name on it, and shows what it is then.
+/// What calls are tried with: the value that they are called on, and what else they are given.
+pub trait Tried: Drop {
+    /// Does the call of this name, and shows what it gives, or what the value is then.
     fn once(&mut self, alloc: Global, sheet: &mut Sheet, call: &str) -> Result<(), BenchError>;
 }
 
-/// Does the call of this name twice on the value.
+/// Does the call of this name twice on the same value.
+pub fn both_times<T: Tried>(
+    alloc: Global,
+    sheet: &mut Sheet,
+    call: &str,
+    tried: &mut T,
+) -> Result<(), BenchError> {
+    let first = tried.once(alloc, sheet, call);
+    sheet.settle(first)?;
+    let second = tried.once(alloc, sheet, call);
+    sheet.settle(second)
+}
+
+/// The same, and gives the value up.
+pub fn tried_twice<T: Tried>(
+    alloc: Global,
+    sheet: &mut Sheet,
+    call: &str,
+    mut tried: T,
+) -> Result<(), BenchError> {
+    both_times(alloc, sheet, call, &mut tried)
+}
+
+/// The same of a call that may change the value.
 pub fn changed_twice<T: Tried>(
     alloc: Global,
     sheet: &mut Sheet,
     call: &str,
-    value: &mut T,
+    tried: T,
 ) -> Result<(), BenchError> {
-    let first = value.once(alloc, sheet, call);
-    sheet.settle(first)?;
-    let second = value.once(alloc, sheet, call);
-    sheet.settle(second)?;
+    tried_twice(alloc, sheet, call, tried)?;
     sheet.changes()
 }

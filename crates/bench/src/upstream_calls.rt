@@ -4,6 +4,7 @@ use crate::bench_error::BenchError;
 use crate::facts_sample::{ALIAS, facts};
 use crate::samples::{QUERY, RESPONSE, query, question};
 use crate::sheet::Sheet;
+use crate::tried::{Tried, tried_twice};
 use dns_message::{Query, Question};
 use dns_record::rtype;
 use std::alloc::Global;
@@ -22,31 +23,11 @@ pub const NAMES: &str = "upstream_link::main_question\n\
     upstream_link::server_addresses\n";
 
 // A query, its question, and what is known.
+#[derive(Drop)]
 struct Asked {
     query: Query,
     question: Question,
     facts: Facts,
-}
-
-impl Drop for Asked {
-    fn drop(self) {
-        let Asked {
-            query: _,
-            question: _,
-            facts: _,
-        } = self;
-    }
-}
-
-fn make_asked(alloc: Global) -> Result<Asked, BenchError> {
-    let query = query(alloc, QUERY)?;
-    let question = question(alloc)?;
-    let facts = facts(alloc)?;
-    Ok(Asked {
-        query,
-        question,
-        facts,
-    })
 }
 
 fn show_chain(alloc: Global, sheet: &mut Sheet, asked: &Asked) -> Result<(), BenchError> {
@@ -56,53 +37,55 @@ fn show_chain(alloc: Global, sheet: &mut Sheet, asked: &Asked) -> Result<(), Ben
     sheet.show(&chain(alloc, &asked.question, fact)?)
 }
 
-fn show_servers(alloc: Global, sheet: &mut Sheet, asked: &Asked) -> Result<(), BenchError> {
+// The servers that are known, or their addresses.
+fn show_servers(
+    alloc: Global,
+    sheet: &mut Sheet,
+    call: &str,
+    asked: &Asked,
+) -> Result<(), BenchError> {
     let lists = known_servers(alloc, &asked.facts, &asked.question.name)?;
+    if call == "upstream_link::server_addresses" {
+        return sheet.show(&server_addresses(alloc, &asked.facts, &lists)?);
+    }
     for list in lists.as_slice() {
         sheet.show(&list.as_slice())?;
     }
     Ok(())
 }
 
-fn show_addresses(alloc: Global, sheet: &mut Sheet, asked: &Asked) -> Result<(), BenchError> {
-    let lists = known_servers(alloc, &asked.facts, &asked.question.name)?;
-    sheet.show(&server_addresses(alloc, &asked.facts, &lists)?)
-}
-
-fn of_question(
-    alloc: Global,
-    sheet: &mut Sheet,
-    call: &str,
-    asked: &Asked,
-) -> Result<(), BenchError> {
-    match call {
-        "upstream_link::main_question" => sheet.show(&main_question(&asked.query)?),
-        "upstream_link::question_bytes" => {
-            sheet.show(&question_bytes(alloc, 7, &asked.question)?)
-        }
-        "upstream_link::fact_of" => {
-            sheet.show(&fact_of(alloc, RESPONSE, 0, &asked.question)?)?;
-            sheet.show(&fact_of(alloc, ALIAS, 0, &asked.question)?)
-        }
-        _ => Err(BenchError::Words),
+// What two responses say.
+fn show_facts(alloc: Global, sheet: &mut Sheet, question: &Question) -> Result<(), BenchError> {
+    for response in [RESPONSE, ALIAS] {
+        sheet.show(&fact_of(alloc, response, 0, question)?)?;
     }
+    Ok(())
 }
 
-fn once(alloc: Global, sheet: &mut Sheet, call: &str, asked: &Asked) -> Result<(), BenchError> {
-    match call {
-        "upstream_link::chain" => show_chain(alloc, sheet, asked),
-        "upstream_link::ancestors" => sheet.show(&ancestors(alloc, &asked.question.name)?),
-        "upstream_link::known_servers" => show_servers(alloc, sheet, asked),
-        "upstream_link::server_addresses" => show_addresses(alloc, sheet, asked),
-        _ => of_question(alloc, sheet, call, asked),
+impl Tried for Asked {
+    fn once(&mut self, alloc: Global, sheet: &mut Sheet, call: &str) -> Result<(), BenchError> {
+        match call {
+            "upstream_link::main_question" => sheet.show(&main_question(&self.query)?),
+            "upstream_link::question_bytes" => {
+                sheet.show(&question_bytes(alloc, 7, &self.question)?)
+            }
+            "upstream_link::fact_of" => show_facts(alloc, sheet, &self.question),
+            "upstream_link::chain" => show_chain(alloc, sheet, self),
+            "upstream_link::ancestors" => sheet.show(&ancestors(alloc, &self.question.name)?),
+            _ => show_servers(alloc, sheet, call, self),
+        }
     }
 }
 
 /// Does the call of this name twice.
 pub fn twice(alloc: Global, sheet: &mut Sheet, call: &str) -> Result<(), BenchError> {
-    let asked = make_asked(alloc)?;
-    let first = once(alloc, sheet, call, &asked);
-    sheet.settle(first)?;
-    let second = once(alloc, sheet, call, &asked);
-    sheet.settle(second)
+    let query = query(alloc, QUERY)?;
+    let question = question(alloc)?;
+    let facts = facts(alloc)?;
+    let asked = Asked {
+        query,
+        question,
+        facts,
+    };
+    tried_twice(alloc, sheet, call, asked)
 }

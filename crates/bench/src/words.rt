@@ -2,6 +2,7 @@
 
 use crate::bench_error::BenchError;
 use dns_name::Name;
+use policy_override::{ZoneSets, as_given};
 use std::alloc::Global;
 
 /// How many workers answer how many queries each, and how many milliseconds lie between two publications.
@@ -12,23 +13,23 @@ pub struct Plan {
     pub pause: u64,
 }
 
-/// What is measured: transfers, queries over zones of these origins, or workers by a plan; or what is compared: edits.
+/// What is measured: transfers, queries over these zones, or workers by a plan; or what is compared: edits.
 #[derive(Drop)]
 pub enum Bench {
     Transfers,
     Edits,
     Calls,
-    Queries(Vec<Name>),
+    Queries(ZoneSets),
     Workers(Plan),
 }
 
-// The origins that the words name.
-fn read_origins(alloc: Global, words: &[String]) -> Result<Vec<Name>, BenchError> {
+// The zones of the origins that the words name.
+fn read_zones(alloc: Global, words: &[String]) -> Result<ZoneSets, BenchError> {
     let mut origins = Vec::new(alloc);
     for word in words {
         origins.push(Name::from_text(alloc, word.as_bytes())?)?;
     }
-    Ok(origins)
+    Ok(as_given(alloc, origins)?)
 }
 
 // The number that a word is.
@@ -62,7 +63,7 @@ pub fn read_words(alloc: Global, words: &[String]) -> Result<Bench, BenchError> 
         "transfers" => Ok(Bench::Transfers),
         "calls" => Ok(Bench::Calls),
         "edits" => Ok(Bench::Edits),
-        "queries" => Ok(Bench::Queries(read_origins(alloc, others)?)),
+        "queries" => Ok(Bench::Queries(read_zones(alloc, others)?)),
         "workers" => Ok(Bench::Workers(read_plan(others)?)),
         _ => Err(BenchError::Words),
     }

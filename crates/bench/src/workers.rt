@@ -17,6 +17,7 @@ use crate::stream::read_stream;
 use crate::words::Plan;
 use dns_name::{Name, Octets};
 use edge_io::{Source, read_frame};
+use policy_override::as_given;
 use policy_publish::{Parts, start_store};
 use std::alloc::Global;
 use std::marker::Brand;
@@ -55,7 +56,7 @@ fn store(alloc: Global, plan: Plan) -> Result<Parts, BenchError> {
     if plan.workers == 0 || plan.workers > 16 {
         return Err(BenchError::Words);
     }
-    Ok(start_store(origins, plan.workers))
+    Ok(start_store(as_given(alloc, origins)?, plan.workers))
 }
 
 /// Answers the messages of the input by the plan.

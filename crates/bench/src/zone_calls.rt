@@ -3,11 +3,11 @@
 use crate::bench_error::BenchError;
 use crate::samples::{KINDS, origin, steps, whole};
 use crate::sheet::Sheet;
-use crate::shown::show_zone;
-use octet_trie::OctetFound;
+use crate::shown::{show_found, show_marked, show_zone};
+use crate::tried::{Tried, tried_twice};
 use std::alloc::Global;
 use trigger_codec::Kind;
-use zone_index::{Rules, Zone};
+use zone_index::Zone;
 use zone_rows::Transfer;
 
 /// The names of these calls.
@@ -36,47 +36,30 @@ pub fn loaded(alloc: Global, records: &[&[u8]]) -> Result<Zone, BenchError> {
     Ok(Zone::new(origin).apply(alloc, transfer)?)
 }
 
-// Each entry, with its value.
-fn show_entries(
-    sheet: &mut Sheet,
-    entries: &[OctetFound<'_, u32, bool>],
-) -> Result<(), BenchError> {
-    for entry in entries {
-        sheet.show(&entry.key)?;
-        sheet.show(&entry.wild)?;
-        sheet.show(&entry.value.value)?;
-    }
-    Ok(())
-}
-
-fn show_patterns(alloc: Global, sheet: &mut Sheet, rules: &Rules<'_>) -> Result<(), BenchError> {
-    let entries = rules.patterns_by_key(alloc, Kind::Qname, 7u32)?;
-    show_entries(sheet, &entries)
-}
-
-fn show_prefixes(alloc: Global, sheet: &mut Sheet, rules: &Rules<'_>) -> Result<(), BenchError> {
-    let entries = rules.prefixes(alloc, Kind::ClientIp, 7u32)?;
-    for entry in &entries {
-        sheet.show(&entry.0)?;
-        sheet.show(&entry.1.value)?;
-    }
-    Ok(())
-}
-
 fn of_rules(alloc: Global, sheet: &mut Sheet, call: &str, zone: &Zone) -> Result<(), BenchError> {
     let Some(index) = zone.index() else {
         return Err(BenchError::Empty);
     };
+    let rules = index.rules();
     match call {
-        "zone_index::Rules::patterns_by_key" => show_patterns(alloc, sheet, index.rules()),
-        "zone_index::Rules::prefixes" => show_prefixes(alloc, sheet, index.rules()),
+        "zone_index::Rules::patterns_by_key" => {
+            show_found(
+                sheet,
+                rules.patterns_by_key(alloc, Kind::Qname, 7u32)?.as_slice(),
+            )
+        }
+        "zone_index::Rules::prefixes" => {
+            show_marked(
+                sheet,
+                rules.prefixes(alloc, Kind::ClientIp, 7u32)?.as_slice(),
+            )
+        }
         _ => Err(BenchError::Words),
     }
 }
 
 fn apply(alloc: Global, sheet: &mut Sheet, call: &str, zone: &Zone) -> Result<(), BenchError> {
-    let transfer = next_transfer(alloc, call)?;
-    let next = zone.apply(alloc, transfer)?;
+    let next = zone.apply(alloc, next_transfer(alloc, call)?)?;
     show_zone(alloc, sheet, &next)
 }
 
@@ -92,31 +75,24 @@ fn apply_changes(
     show_zone(alloc, sheet, &next)
 }
 
-fn once(alloc: Global, sheet: &mut Sheet, call: &str, zone: &Zone) -> Result<(), BenchError> {
-    match call {
-        "zone_index::Zone::apply::whole"
-        | "zone_index::Zone::apply::again"
-        | "zone_index::Zone::apply::steps" => apply(alloc, sheet, call, zone),
-        "zone_index::Zone::apply_changes::whole" | "zone_index::Zone::apply_changes::steps" => {
-            apply_changes(alloc, sheet, call, zone)
+impl Tried for Zone {
+    fn once(&mut self, alloc: Global, sheet: &mut Sheet, call: &str) -> Result<(), BenchError> {
+        match call {
+            "zone_index::Zone::apply::whole"
+            | "zone_index::Zone::apply::again"
+            | "zone_index::Zone::apply::steps" => apply(alloc, sheet, call, self),
+            "zone_index::Zone::apply_changes::whole" | "zone_index::Zone::apply_changes::steps" =>
+                apply_changes(alloc, sheet, call, self),
+            _ => of_rules(alloc, sheet, call, self),
         }
-        _ => of_rules(alloc, sheet, call, zone),
-    }
-}
-
-// The zone that a call is of.
-fn make_zone(alloc: Global, call: &str) -> Result<Zone, BenchError> {
-    match call {
-        "zone_index::Zone::apply::whole" => Ok(Zone::new(origin(alloc)?)),
-        _ => loaded(alloc, KINDS),
     }
 }
 
 /// Does the call of this name twice.
 pub fn twice(alloc: Global, sheet: &mut Sheet, call: &str) -> Result<(), BenchError> {
-    let zone = make_zone(alloc, call)?;
-    let first = once(alloc, sheet, call, &zone);
-    sheet.settle(first)?;
-    let second = once(alloc, sheet, call, &zone);
-    sheet.settle(second)
+    let zone = match call {
+        "zone_index::Zone::apply::whole" => Zone::new(origin(alloc)?),
+        _ => loaded(alloc, KINDS)?,
+    };
+    tried_twice(alloc, sheet, call, zone)
 }

@@ -3,6 +3,7 @@
 use crate::asserts::assert_same;
 use edge_io::Endpoint;
 use ip_prefix::Addr;
+use policy_override::{Override, ZoneSets};
 use rpz_words::{Command, Settings, WordsError, laws, read_words};
 use std::alloc::{AllocError, Global};
 
@@ -30,7 +31,7 @@ static CACHES: [&str; 5] = [
 ];
 
 // Lines that ask for nothing.
-static REFUSED: [&str; 57] = [
+static REFUSED: [&str; 63] = [
     "",
     "replay x",
     "frob",
@@ -71,6 +72,12 @@ static REFUSED: [&str; 57] = [
     "serve 127.0.0.1:5300 9.9.9.9:53 2 1 @127.0.0.1:5301",
     "serve 127.0.0.1:5300 9.9.9.9:53 2 1 a@127.0.0.1",
     "serve 127.0.0.1:5300 9.9.9.9:53 2 1 a..b@127.0.0.1:5301",
+    "serve 127.0.0.1:5300 9.9.9.9:53 2 1 a@127.0.0.1:5301=",
+    "serve 127.0.0.1:5300 9.9.9.9:53 2 1 a@127.0.0.1:5301=off",
+    "serve 127.0.0.1:5300 9.9.9.9:53 2 1 a@127.0.0.1:5301=Drop",
+    "serve 127.0.0.1:5300 9.9.9.9:53 2 1 a@127.0.0.1:5301=cname",
+    "serve 127.0.0.1:5300 9.9.9.9:53 2 1 a@127.0.0.1:5301=cname:.",
+    "serve 127.0.0.1:5300 9.9.9.9:53 2 1 a@127.0.0.1:5301=drop:b",
     "serve 127.0.0.1:5300 9.9.9.9:53 2 1 rpz.example@127.0.0.1:5301 RPZ.Example@127.0.0.2:5301",
     "serve 127.0.0.1:5300 9.9.9.9:53 2 1 rpz.example@127.0.0.1:5301 rpz.example.@127.0.0.1:5301",
     "--cache 64 serve 127.0.0.1:5300 9.9.9.9:53 2 1 a@127.0.0.1:5301",
@@ -88,6 +95,11 @@ static REFUSED: [&str; 57] = [
     "serve --cach 64 127.0.0.1:5300 9.9.9.9:53 2 1 a@127.0.0.1:5301",
     "serve -- --cache 64 127.0.0.1:5300 9.9.9.9:53 2 1 a@127.0.0.1:5301",
     "serve --cache -- 64 127.0.0.1:5300 9.9.9.9:53 2 1 a@127.0.0.1:5301",
+];
+
+// The words of overrides.
+static WORDS: [&str; 7] = [
+    "given", "disabled", "nxdomain", "nodata", "passthru", "drop", "tcp-only",
 ];
 
 // The words of a line, which single spaces separate.
@@ -110,6 +122,29 @@ fn served(alloc: Global, line: &str) -> Result<Option<Settings>, WordsError> {
     match asked(alloc, line)? {
         Command::Replay | Command::Load(_) | Command::Show(_) => Ok(None),
         Command::Serve(settings) => Ok(Some(settings)),
+    }
+}
+
+// The zones of a server with one zone, behind whose primary this stands.
+fn zones_with(alloc: Global, behind: &str) -> Result<ZoneSets, WordsError> {
+    let line = format!(in alloc; "serve 127.0.0.1:1 9.9.9.9:53 1 1 a@127.0.0.1:5301{behind}")?;
+    match served(alloc, line.as_str())? {
+        Some(settings) => Ok(settings.zones.sets(alloc)?),
+        None => Err(WordsError::Usage),
+    }
+}
+
+// The word of an override.
+fn word_of(over: &Override) -> &'static str {
+    match over {
+        Override::Given => "given",
+        Override::Disabled => "disabled",
+        Override::NxDomain => "nxdomain",
+        Override::NoData => "nodata",
+        Override::PassThru => "passthru",
+        Override::Drop => "drop",
+        Override::TcpOnly => "tcp-only",
+        Override::Cname(_) => "cname",
     }
 }
 
@@ -191,13 +226,39 @@ fn a_server_gets_its_zones(rt: HostRuntime) {
     let primaries = settings.zones.primaries(rt.alloc()).expect(&rt, "no error");
     assert!(rt; primaries.len() == 2);
     assert_same(&rt, primaries[1], second);
-    let origins = settings.zones.origins(rt.alloc()).expect(&rt, "no error");
-    assert!(rt; origins.len() == 2);
+    let zones = settings.zones.sets(rt.alloc()).expect(&rt, "no error");
+    assert!(rt; zones.len() == 2);
+    let first = &zones.as_slice()[0];
     assert_same(
         &rt,
-        origins[0].octets(),
+        first.origin.octets(),
         b"\x03rpz\x07example\x00".as_slice(),
     );
+    assert_same(&rt, word_of(&first.over), "given");
+}
+
+#[test]
+fn a_zone_gets_the_override_of_its_word(rt: HostRuntime) {
+    for word in WORDS {
+        let behind = format!(in rt.alloc(); "={word}").expect(&rt, "no error");
+        let zones = zones_with(rt.alloc(), behind.as_str()).expect(&rt, "no error");
+        assert!(rt; zones.len() == 1);
+        assert_same(&rt, word_of(&zones.as_slice()[0].over), word);
+    }
+}
+
+#[test]
+fn a_zone_gets_the_target_of_its_override(rt: HostRuntime) {
+    let zones = zones_with(rt.alloc(), "=cname:*.Garden.example.").expect(&rt, "no error");
+    assert!(rt; zones.len() == 1);
+    match &zones.as_slice()[0].over {
+        Override::Cname(target) => assert_same(
+            &rt,
+            target.octets(),
+            b"\x01*\x06Garden\x07example\x00".as_slice(),
+        ),
+        _ => assert!(rt; false, "no target"),
+    }
 }
 
 #[test]

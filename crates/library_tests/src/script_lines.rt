@@ -2,16 +2,20 @@
 
 use crate::asserts::assert_same;
 use dns_name::Name;
-use script_codec::{Line, Names, ScriptState, read_line};
+use policy_override::{Override, ZoneSet, ZoneSets};
+use script_codec::{Line, ScriptState, read_line};
 
 #[test]
 fn a_line_is_read(rt: HostRuntime) {
-    let mut origins = Names::new(rt.alloc());
-    origins
-        .push(Name::from_text(rt.alloc(), b"rpz.example").expect(&rt, "no error"))
+    let mut zones = ZoneSets::new(rt.alloc());
+    zones
+        .push(ZoneSet {
+            origin: Name::from_text(rt.alloc(), b"rpz.example").expect(&rt, "no error"),
+            over: Override::Given,
+        })
         .expect(&rt, "no error");
     let state = ScriptState::Opening {
-        origins: &origins,
+        zones: &zones,
         primaries: &[None],
     };
     let line = read_line(rt.alloc(), b"xfer 001 00aB", 2, &state).expect(&rt, "no error");

@@ -19,7 +19,7 @@ count_is test turns few =
     mod-eq_of_lt less
 
 pub sums : (policy : PlainPolicy) (queries : List LoadQuery) (rows : ℕ) (tally : Tally) → length queries ≤ MOST_QUERIES
-    → rows ≡ zone_rows (zone_at policy 1) → tally ≡ tally_of (map (turn_for policy) queries)
+    → rows ≡ zone_rows (zone_at policy.zones 1) → tally ≡ tally_of (map (turn_for policy) queries)
     → (let s : Summary = record { rows = rows; nxdomain = tally.nxdomain; nodata = tally.nodata; other = tally.other; mark = tally.mark } in s ≡ summary_under policy queries)
 sums policy queries rows tally few there is =
     let turns = map (turn_for policy) queries in

@@ -15,8 +15,9 @@ use Rattle.zone_rows.specs.declared.zone.TheConstants.{ROW_LIMIT}
 use Rattle.zone_rows.specs.Content.{unloaded}
 use Rattle.zone_rows.specs.Repeats.{has_row, with_row, without_repeats}
 use Rattle.zone_rows.specs.Zone.{Gives, apply_outcome, apply_outcome_within}
-use Rattle.policy_snapshot.specs.Policy.{policy_after, zone_at, zone_by}
-use Rattle.policy_snapshot.specs.Stands.{PlainSnapshot, new_snapshot, with_zone}
+use Rattle.policy_override.specs.ZoneSet.{given_zones, overrides_in}
+use Rattle.policy_snapshot.specs.Policy.{PlainPolicy, PlainZones, zone_at, zone_by, zones_behind}
+use Rattle.policy_snapshot.specs.Stands.{PlainSnapshot, new_snapshot, policy_in, with_zone}
 use Rattle.load_gen.specs.Summed.{load_policy, load_soa, origin}
 
 -- ---- there are no more rows without repeats
@@ -52,9 +53,9 @@ is_taken origin soa rows lt =
 
 -- ---- the policy
 
-after_one : (rows : List PlainRow) → policy_after (origin ∷ []) (record { zone = 1; transfer = Whole load_soa rows } ∷ [])
+after_one : (rows : List PlainRow) → zones_behind (origin ∷ []) (record { zone = 1; transfer = Whole load_soa rows } ∷ [])
     ≡ slice_set (unloaded origin ∷ []) (1 - 1) (zone_by (unloaded origin) (apply_outcome (unloaded origin) (Whole load_soa rows)))
-unfolding policy_after
+unfolding zones_behind
 after_one rows = refl
 
 ok_is : {X E : Type 0} (x y : X) → (let a : Result X E = Ok x in a ≡ Ok y) → x ≡ y
@@ -62,37 +63,40 @@ ok_is x y e = cc
 
 -- it is the policy of the load, and no fault
 abbrev pub Brings : List PlainRecord → Result PlainSnapshot ApplyError → Type 0
-Brings records (Ok policy) = policy.zones ≡ load_policy records
+Brings records (Ok policy) = policy_in policy ≡ load_policy records
 Brings records (Err (errors.Fault fault)) = ⊥
 Brings records (Err errors.OutOfMemory) = Unit {0}
 
 abbrev Applies : PlainSnapshot → Soa → List PlainRow → Result PlainSnapshot ApplyError → Type 0
 Applies empty soa rows result = IfSome (zone_at empty.zones 1) (λ zone. Gives result (with_zone empty 1 (apply_outcome zone (Whole soa rows))))
 
+abbrev under_given : PlainZones → PlainPolicy
+under_given zones = record { zones = zones; overrides = overrides_in (given_zones (origin ∷ [])) }
+
 brings_by : (records : List PlainRecord) (result : Result PlainSnapshot ApplyError) → length records < ROW_LIMIT
-    → Applies (new_snapshot (origin ∷ [])) load_soa (map row_of records) result → Brings records result
+    → Applies (new_snapshot (given_zones (origin ∷ []))) load_soa (map row_of records) result → Brings records result
 brings_by records (Ok policy) lt h =
     let rows = map row_of records in
     let less : length rows < ROW_LIMIT = omega (arith, length-map records row_of) in
     let taken = is_taken origin load_soa rows less in
     let zone = zone_of origin load_soa rows in
-    let whole : with_zone (new_snapshot (origin ∷ [])) 1 (Ok zone) ≡ Ok policy =
-    ap (λ (o : Result PlainZone ApplyFault). with_zone (new_snapshot (origin ∷ [])) 1 o) (sym taken) ∙ h in
+    let whole : with_zone (new_snapshot (given_zones (origin ∷ []))) 1 (Ok zone) ≡ Ok policy =
+    ap (λ (o : Result PlainZone ApplyFault). with_zone (new_snapshot (given_zones (origin ∷ []))) 1 o) (sym taken) ∙ h in
     let same = ok_is {E = ApplyFault} _ policy whole in
-    ap (λ (s : PlainSnapshot). s.zones) (sym same)
-    ∙ sym (after_one rows ∙ ap (λ (o : Result PlainZone ApplyFault). slice_set (unloaded origin ∷ []) (1 - 1) (zone_by (unloaded origin) o)) taken)
+    ap policy_in (sym same)
+    ∙ sym (ap under_given (after_one rows ∙ ap (λ (o : Result PlainZone ApplyFault). slice_set (unloaded origin ∷ []) (1 - 1) (zone_by (unloaded origin) o)) taken))
 brings_by records (Err (errors.Fault fault)) lt h =
     let rows = map row_of records in
     let less : length rows < ROW_LIMIT = omega (arith, length-map records row_of) in
     let taken = is_taken origin load_soa rows less in
-    let whole : with_zone (new_snapshot (origin ∷ [])) 1 (Ok (zone_of origin load_soa rows)) ≡ Err fault =
-    ap (λ (o : Result PlainZone ApplyFault). with_zone (new_snapshot (origin ∷ [])) 1 o) (sym taken) ∙ h in
+    let whole : with_zone (new_snapshot (given_zones (origin ∷ []))) 1 (Ok (zone_of origin load_soa rows)) ≡ Err fault =
+    ap (λ (o : Result PlainZone ApplyFault). with_zone (new_snapshot (given_zones (origin ∷ []))) 1 o) (sym taken) ∙ h in
     absurd cc
 brings_by records (Err errors.OutOfMemory) lt h = tt
 
 pub brings : (records : List PlainRecord) (empty : PlainSnapshot) (soa : Soa) (rows : List PlainRow) (result : Result PlainSnapshot ApplyError) → length records < ROW_LIMIT
-    → empty ≡ new_snapshot (origin ∷ []) → soa ≡ load_soa → rows ≡ map row_of records → Applies empty soa rows result → Brings records result
+    → empty ≡ new_snapshot (given_zones (origin ∷ [])) → soa ≡ load_soa → rows ≡ map row_of records → Applies empty soa rows result → Brings records result
 brings records empty soa rows result lt a b d h =
     let first = subst (λ (s : PlainSnapshot). Applies s soa rows result) a h in
-    let second = subst (λ (s : Soa). Applies (new_snapshot (origin ∷ [])) s rows result) b first in
-    brings_by records result lt (subst (λ (r : List PlainRow). Applies (new_snapshot (origin ∷ [])) load_soa r result) d second)
+    let second = subst (λ (s : Soa). Applies (new_snapshot (given_zones (origin ∷ []))) s rows result) b first in
+    brings_by records result lt (subst (λ (r : List PlainRow). Applies (new_snapshot (given_zones (origin ∷ []))) load_soa r result) d second)

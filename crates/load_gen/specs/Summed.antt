@@ -11,6 +11,7 @@ use Rattle.zone_rows.specs.declared.transfer.Transfer.TheVariants.{Whole}
 use Rattle.zone_rows.specs.declared.zone.Content.{Content}
 use Rattle.zone_rows.specs.declared.zone.PlainZone.{PlainZone}
 use Rattle.policy_snapshot.specs.declared.entry.Entry.{Entry}
+use Rattle.policy_override.specs.ZoneSet.{given_zones}
 use Rattle.policy_snapshot.specs.Policy.{PlainPolicy, policy_after, zone_at}
 use Rattle.upstream_link.specs.declared.facts.TheConstants.{FACT_LIMIT}
 use Rattle.reply_build.specs.declared.said.Said.TheVariants as said
@@ -46,9 +47,9 @@ load_soa =
 abbrev pub load_entry : List PlainRecord → Entry
 load_entry rows = record { zone = 1; transfer = Whole load_soa (map row_of rows) }
 
--- the policy of the one zone after that transfer
+-- the policy of the one zone after that transfer, whose rules do what it says
 abbrev pub load_policy : List PlainRecord → PlainPolicy
-load_policy rows = policy_after (origin ∷ []) (load_entry rows ∷ [])
+load_policy rows = policy_after (given_zones (origin ∷ [])) (load_entry rows ∷ [])
 
 -- the upstream, which answers a question so whatever was asked before
 abbrev pub upstream : Upstream
@@ -122,7 +123,7 @@ zone_rows (Some zone) = rows_in zone.content
 -- What all queries come to, under the policy of the rows.
 abbrev pub summary_under : PlainPolicy → List LoadQuery → Summary
 summary_under policy queries = record {
-  rows = zone_rows (zone_at policy 1);
+  rows = zone_rows (zone_at policy.zones 1);
   nxdomain = count_by is_nxdomain (map (turn_for policy) queries);
   nodata = count_by is_nodata (map (turn_for policy) queries);
   other = count_by is_other (map (turn_for policy) queries);

@@ -2,6 +2,7 @@
 
 ghost use Rattle.std.specs.Prelude.{◌≡◌, map, IfOk};
 ghost use Rattle.std.specs.Arc.{arc_value};
+ghost use Rattle.policy_snapshot.specs.Stands.{policy_in};
 ghost use Rattle.upstream_link.specs.declared.facts.TheConstants.{FACT_LIMIT};
 ghost use Rattle.load_gen.specs.Summed.{turn_for};
 ghost use Rattle.load_gen.specs.Summed as form;
@@ -50,7 +51,7 @@ fn turn_for(
     policy: &Arc<Snapshot, Global>,
     query: &LoadQuery,
 ) -> Result<Turn, AllocError>
-    ensures { IfOk result (λ turn. turn ≡ form.turn_for (arc_value policy.now).zones query.now) }
+    ensures { IfOk result (λ turn. turn ≡ form.turn_for (policy_in (arc_value policy.now)) query.now) }
 {
     let policy = Arc::try_clone(policy)?;
     let message = query.message.as_slice();
@@ -65,7 +66,7 @@ pub(crate) fn tally_under(
     queries: &[LoadQuery],
 ) -> Result<Tally, AllocError>
     ensures { IfOk result
-        (λ tally. tally ≡ tally_of (map (turn_for policy.now.zones) queries.now)) }
+        (λ tally. tally ≡ tally_of (map (turn_for (policy_in policy.now)) queries.now)) }
 {
     let own = Arc::new(alloc, policy.again(alloc)?)?;
     let mut tally = Tally::none();

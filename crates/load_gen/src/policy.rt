@@ -6,12 +6,14 @@ ghost use Rattle.zone_rows.specs.declared.zone.TheConstants.{ROW_LIMIT};
 ghost use Rattle.load_gen.specs.Loads.{IsIn};
 ghost use Rattle.load_gen.specs.Summed as form;
 ghost use Rattle.load_gen.specs.Summed.{load_policy, zone_rows};
+ghost use Rattle.policy_override.specs.ZoneSet.{given_zones};
 ghost use Rattle.policy_snapshot.specs.Policy.{zone_at};
-ghost use Rattle.policy_snapshot.specs.Stands.{new_snapshot};
+ghost use Rattle.policy_snapshot.specs.Stands.{new_snapshot, policy_in};
 
 use crate::names::written_name;
 use dns_name::Name;
 use dns_record::{Record, Row, Soa};
+use policy_override::{Override, ZoneSet};
 use policy_snapshot::Snapshot;
 use std::alloc::{AllocError, Global};
 use zone_rows::{ApplyError, Rows, Transfer};
@@ -44,19 +46,23 @@ fn rows_of(alloc: Global, records: &[Record]) -> Result<Rows, AllocError>
     Ok(rows)
 }
 
-// A policy of the one zone `rpz.example`, with nothing loaded.
+// A policy of the one zone `rpz.example`, with nothing loaded, whose rules do what it says.
 fn empty_policy(alloc: Global) -> Result<Snapshot, AllocError>
-    ensures { IfOk result (λ policy. policy ≡ new_snapshot (form.origin ∷ [])) }
+    ensures { IfOk result (λ policy. policy ≡ new_snapshot (given_zones (form.origin ∷ []))) }
 {
     let origin = written_name(alloc, b"rpz.example")?;
-    Snapshot::start(alloc, &[origin])
+    let zone = ZoneSet {
+        origin,
+        over: Override::Given,
+    };
+    Snapshot::start(alloc, &[zone])
 }
 
 /// The policy after the transfer of these rows.
 pub(crate) fn load_policy(alloc: Global, records: &[Record]) -> Result<Snapshot, AllocError>
     requires in_class { All IsIn records.now }
     requires few { length records.now < ROW_LIMIT }
-    ensures { IfOk result (λ policy. policy.zones ≡ form.load_policy records.now) }
+    ensures { IfOk result (λ policy. policy_in policy ≡ form.load_policy records.now) }
 {
     let empty = empty_policy(alloc)?;
     let transfer = Transfer::Whole {

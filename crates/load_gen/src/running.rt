@@ -4,6 +4,7 @@ ghost use Rattle.std.specs.Prelude.{◌≡◌, ◌≤◌, All, map, IfOk, IsOk, 
 ghost use Rattle.load_gen.specs.Summed as form;
 ghost use Rattle.load_gen.specs.Summed.{turn_for};
 ghost use Rattle.load_gen.specs.Tallied.{joined_parts, tally_of};
+ghost use Rattle.policy_snapshot.specs.Stands.{policy_in};
 
 use crate::answering::tally_under;
 use crate::load::{Load, LoadQuery};
@@ -52,12 +53,12 @@ fn tally_by<R: Threads + Sync>(
 ) -> Result<Tally, AllocError>
     requires { 1 ≤ workers }
     ensures { IfOk result
-        (λ tally. tally ≡ tally_of (map (turn_for policy.now.zones) queries.now)) }
+        (λ tally. tally ≡ tally_of (map (turn_for (policy_in policy.now)) queries.now)) }
 {
     let size = part_len(queries.len(), workers);
     let answer = |_start: usize, part: &[LoadQuery]| -> Result<Tally, AllocError>
         ensures { IfOk result
-            (λ tally. tally ≡ tally_of (map (turn_for policy.entry.now.zones) part.entry.now)) }
+            (λ tally. tally ≡ tally_of (map (turn_for (policy_in policy.entry.now)) part.entry.now)) }
     { tally_under(alloc, policy, part) };
     let parts = thread::map_chunks(rt, alloc, queries, size, &answer)?;
     joined(&parts)

@@ -10,7 +10,7 @@ use Rattle.axfr_apply.specs.declared.taken.Taken.{Taken}
 use Rattle.notify_poll.specs.Notifying.{brought_forward, changed_at, with_timer}
 use Rattle.notify_poll.specs.Timers.{noted}
 use Rattle.notify_poll.specs.declared.timer.Timer.{Timer}
-use Rattle.policy_snapshot.specs.Policy.{PlainPolicy, zone_at}
+use Rattle.policy_snapshot.specs.Policy.{PlainZones, zone_at}
 use Rattle.policy_snapshot.specs.Stands.{PlainSnapshot}
 use Rattle.policy_publish.specs.Lists.{Published}
 use Rattle.policy_feed.specs.Taking.{Ends}
@@ -36,7 +36,7 @@ there_if true there e some = absurd (true≢false e)
 there_if false there e some = some
 
 -- a policy has the zones of its numbers
-pub zone_there : (zones : PlainPolicy) (number : ℕ) → 1 ≤ number → number ≤ length zones → IsSome (zone_at zones number)
+pub zone_there : (zones : PlainZones) (number : ℕ) → 1 ≤ number → number ≤ length zones → IsSome (zone_at zones number)
 zone_there [] number some fits = absurd (omega arith)
 zone_there (zone ∷ zones) number some fits =
     let not_0 : (number == 0) ≡ false = grind (arith, nat_tests) in

@@ -19,8 +19,8 @@ where_ok (Err e) P Q R ok m f = absurd (true≢false ok)
 pub is_of_same : (store : Store) (shown next : Shown) → arc_value next.version ≡ arc_value shown.version → next.line ≡ shown.line → IsOf store shown → IsOf store next
 is_of_same store shown next version line is = record {
   book = ap (λ (l : Line). l.book) line ∙ is.book;
-  stands = subst (λ (v : PlainSnapshot). StandsFor store.origins v next.line.entries) (sym version)
-      (subst (λ (l : Line). StandsFor store.origins (arc_value shown.version) l.entries) (sym line) is.stands);
+  stands = subst (λ (v : PlainSnapshot). StandsFor store.settings v next.line.entries) (sym version)
+      (subst (λ (l : Line). StandsFor store.settings (arc_value shown.version) l.entries) (sym line) is.stands);
 }
 
 -- what clauses see of what is shown

@@ -7,9 +7,11 @@ use Rattle.zone_rows.specs.declared.transfer.Transfer.{Transfer}
 use Rattle.zone_rows.specs.declared.zone.PlainZone.{PlainZone}
 use Rattle.zone_rows.specs.Content.{unloaded}
 use Rattle.zone_rows.specs.Zone.{Gives, apply_outcome}
+use Rattle.policy_override.specs.declared.zone_set.ZoneSet.{ZoneSet}
+use Rattle.policy_override.specs.ZoneSet.{origins_in}
 use Rattle.policy_snapshot.specs.declared.entry.Entry.{Entry}
 use Rattle.std.specs.Option.{is_some}
-use Rattle.policy_snapshot.specs.Policy.{AreAccepted, AreTaken, PlainPolicy, TakesTransfer, policy_after, policy_with, zone_at}
+use Rattle.policy_snapshot.specs.Policy.{AreAccepted, AreTaken, PlainZones, TakesTransfer, zone_at, zones_behind, zones_with}
 use Rattle.policy_snapshot.specs.Stands.{PlainSnapshot, Stands, StandsFor, next_count, origins_of, with_zone}
 use Rattle.policy_snapshot.proofs.Standing.{origin_stays, place_of}
 use Rattle.policy_publish.specs.Publishing.{HasSize, Takes}
@@ -21,7 +23,7 @@ use Rattle.policy_publish.specs.declared.publication.Publication.{Publication}
 record IsNext (number : ℕ) (zone : PlainZone) (transfer : Transfer) (old new : PlainSnapshot) : Type 0 where
   next : PlainZone
   taken : apply_outcome zone transfer ≡ Ok next
-  version : record { zones = slice_set old.zones (number - 1) next; accepted = next_count old.accepted } ≡ new
+  version : record { zones = slice_set old.zones (number - 1) next; overrides = old.overrides; accepted = next_count old.accepted } ≡ new
 
 module _ (old : PlainSnapshot) (number : ℕ) (zone : PlainZone) (transfer : Transfer) where
   next_if : (outcome : Result PlainZone ApplyFault) (new : PlainSnapshot) → apply_outcome zone transfer ≡ outcome → with_zone old number outcome ≡ Ok new → IsNext number zone transfer old new
@@ -42,29 +44,31 @@ origins_stay number zone transfer old new at takes =
 
 -- ---- lists of accepted transfers
 
-taken_push : (policy : PlainPolicy) (entries : List Entry) (entry : Entry) → AreTaken policy entries → TakesTransfer (zone_at (fold policy_with policy entries) entry.zone) entry.transfer → AreTaken policy (entries ++ entry ∷ [])
+taken_push : (policy : PlainZones) (entries : List Entry) (entry : Entry) → AreTaken policy entries → TakesTransfer (zone_at (fold zones_with policy entries) entry.zone) entry.transfer → AreTaken policy (entries ++ entry ∷ [])
 taken_push policy [] entry are takes = (takes, tt)
-taken_push policy (first ∷ entries) entry are takes = (are.0, taken_push (policy_with policy first) entries entry are.1 takes)
+taken_push policy (first ∷ entries) entry are takes = (are.0, taken_push (zones_with policy first) entries entry are.1 takes)
 
-accepted_push : (origins : List (List (List ℕ))) (entries : List Entry) (entry : Entry) → AreAccepted origins entries → TakesTransfer (zone_at (policy_after origins entries) entry.zone) entry.transfer → AreAccepted origins (entries ++ entry ∷ [])
-unfolding policy_after
+accepted_push : (origins : List (List (List ℕ))) (entries : List Entry) (entry : Entry) → AreAccepted origins entries → TakesTransfer (zone_at (zones_behind origins entries) entry.zone) entry.transfer → AreAccepted origins (entries ++ entry ∷ [])
+unfolding zones_behind
 accepted_push origins entries entry are takes = taken_push (map unloaded origins) entries entry are takes
 
 takes_at : (found : Option PlainZone) (number : ℕ) (zone : PlainZone) (transfer : Transfer) (old new : PlainSnapshot) → found ≡ Some zone → IsNext number zone transfer old new → TakesTransfer found transfer
 takes_at found number zone transfer old new at takes = subst (λ (o : Option PlainZone). TakesTransfer o transfer) (sym at) (takes.next, takes.taken)
 
 -- the version after one more transfer stands for the list with it at the end
-stands_for_next : (origins : List (List (List ℕ))) (number : ℕ) (zone : PlainZone) (transfer : Transfer) (old new : PlainSnapshot) (entries : List Entry) → zone_at old.zones number ≡ Some zone → IsNext number zone transfer old new
-    → (Stands old entries → Stands new (entries ++ record { zone = number; transfer = transfer } ∷ [])) → StandsFor origins old entries
-    → StandsFor origins new (entries ++ record { zone = number; transfer = transfer } ∷ [])
-stands_for_next origins number zone transfer old new entries at takes goes stands =
+stands_for_next : (settings : List ZoneSet) (number : ℕ) (zone : PlainZone) (transfer : Transfer) (old new : PlainSnapshot) (entries : List Entry) → zone_at old.zones number ≡ Some zone → IsNext number zone transfer old new
+    → (Stands old entries → Stands new (entries ++ record { zone = number; transfer = transfer } ∷ [])) → StandsFor settings old entries
+    → StandsFor settings new (entries ++ record { zone = number; transfer = transfer } ∷ [])
+stands_for_next settings number zone transfer old new entries at takes goes stands =
     let entry : Entry = record { zone = number; transfer = transfer } in
-    let policy : old.zones ≡ policy_after origins entries = stands.stands.zones ∙ ap (λ (o : List (List (List ℕ))). policy_after o entries) stands.origins_are in
-    let here : zone_at (policy_after origins entries) number ≡ Some zone = ap (λ (p : PlainPolicy). zone_at p number) (sym policy) ∙ at in
+    let origins = origins_in settings in
+    let zones : old.zones ≡ zones_behind origins entries = stands.stands.zones ∙ ap (λ (o : List (List (List ℕ))). zones_behind o entries) stands.origins_are in
+    let here : zone_at (zones_behind origins entries) number ≡ Some zone = ap (λ (z : PlainZones). zone_at z number) (sym zones) ∙ at in
     record {
       origins_are = origins_stay number zone transfer old new at takes ∙ stands.origins_are;
+      overrides_are = sym (ap (λ (s : PlainSnapshot). s.overrides) takes.version) ∙ stands.overrides_are;
       stands = goes stands.stands;
-      accepted = accepted_push origins entries entry stands.accepted (takes_at (zone_at (policy_after origins entries) number) number zone transfer old new here takes);
+      accepted = accepted_push origins entries entry stands.accepted (takes_at (zone_at (zones_behind origins entries) number) number zone transfer old new here takes);
     }
 
 -- ---- the zone afterwards
@@ -113,17 +117,17 @@ module _ (number : ℕ) (transfer : Transfer) (old : PlainSnapshot) where
   pub still_there : (new : PlainSnapshot) → IsSome (zone_at old.zones number) → Applied old number transfer (zone_at old.zones number) (Ok new) → IsSome (zone_at new.zones number)
   still_there new some h = there_if (zone_at old.zones number) new refl some h
 
-  stands_if : (found : Option PlainZone) (origins : List (List (List ℕ))) (new : PlainSnapshot) (entries : List Entry) → zone_at old.zones number ≡ found → IsSome found → Applied old number transfer found (Ok new)
-      → (Stands old entries → Stands new (entries ++ record { zone = number; transfer = transfer } ∷ [])) → StandsFor origins old entries
-      → StandsFor origins new (entries ++ record { zone = number; transfer = transfer } ∷ [])
-  stands_if None origins new entries at some h goes stands = absurd (true≢false (sym some))
-  stands_if (Some zone) origins new entries at some h goes stands =
-      stands_for_next origins number zone transfer old new entries at (next_if old number zone transfer (apply_outcome zone transfer) new refl h) goes stands
+  stands_if : (found : Option PlainZone) (settings : List ZoneSet) (new : PlainSnapshot) (entries : List Entry) → zone_at old.zones number ≡ found → IsSome found → Applied old number transfer found (Ok new)
+      → (Stands old entries → Stands new (entries ++ record { zone = number; transfer = transfer } ∷ [])) → StandsFor settings old entries
+      → StandsFor settings new (entries ++ record { zone = number; transfer = transfer } ∷ [])
+  stands_if None settings new entries at some h goes stands = absurd (true≢false (sym some))
+  stands_if (Some zone) settings new entries at some h goes stands =
+      stands_for_next settings number zone transfer old new entries at (next_if old number zone transfer (apply_outcome zone transfer) new refl h) goes stands
 
-  pub stands_ok : (new : PlainSnapshot) (origins : List (List (List ℕ))) (entries : List Entry) → IsSome (zone_at old.zones number) → Applied old number transfer (zone_at old.zones number) (Ok new)
-      → (Stands old entries → Stands new (entries ++ record { zone = number; transfer = transfer } ∷ [])) → StandsFor origins old entries
-      → StandsFor origins new (entries ++ record { zone = number; transfer = transfer } ∷ [])
-  stands_ok new origins entries some h goes stands = stands_if (zone_at old.zones number) origins new entries refl some h goes stands
+  pub stands_ok : (new : PlainSnapshot) (settings : List ZoneSet) (entries : List Entry) → IsSome (zone_at old.zones number) → Applied old number transfer (zone_at old.zones number) (Ok new)
+      → (Stands old entries → Stands new (entries ++ record { zone = number; transfer = transfer } ∷ [])) → StandsFor settings old entries
+      → StandsFor settings new (entries ++ record { zone = number; transfer = transfer } ∷ [])
+  stands_ok new settings entries some h goes stands = stands_if (zone_at old.zones number) settings new entries refl some h goes stands
 
 -- ---- behind handles
 

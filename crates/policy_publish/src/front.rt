@@ -54,7 +54,7 @@ impl Plain<Entry, Entry, u64> for Add {
     ghost state = { λ entry. None };
 }
 
-/// Which store it is: the book of its publications, its origins, and how many readers it has. Each call of a program picks it.
+/// Which store it is: the book of its publications, the settings of its zones, and how many readers it has. Each call of a program picks it.
 pub trait StoreName {
     ghost use Rattle.policy_publish.specs.Stores.{Store};
 
@@ -66,7 +66,7 @@ impl StoreName for Brand {
 
     ghost store = { record {
       book = record { number = 0; log_name = 0; cells_name = 0 };
-      origins = [];
+      settings = [];
       readers = 1;
     } };
 }

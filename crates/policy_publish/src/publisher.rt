@@ -129,7 +129,7 @@ impl<N: StoreName> Publisher<N> {
         transfer: Transfer,
     ) -> Result<Publication, ApplyError>
         requires { IsSome (zone_at self.old.version.zones number) }
-        ensures stands { StandsFor N.store.origins self.new.version self.new.list }
+        ensures stands { StandsFor N.store.settings self.new.version self.new.list }
         ensures publishes { IfSome (zone_at self.old.version.zones number) (λ zone.
             Publishes number zone transfer result self.old self.new) }
     {

@@ -73,7 +73,7 @@ impl<N: StoreName> Model for PolicyReader<N> {
     ghost view = { λ r. record { seen = r.seen; told = r.told } };
 
     ghost invariant = { λ r. IfSome r.own
-        (λ version. StandsFor N.store.origins (arc_value version) r.seen ×
+        (λ version. StandsFor N.store.settings (arc_value version) r.seen ×
         IsPrefix r.told r.seen) };
 }
 
@@ -141,7 +141,7 @@ impl<N: StoreName> PolicyReader<N> {
     // The version that the reader has, once more; an error where it has none.
     fn own_again(&self) -> Result<Arc<Snapshot, Global>, AllocError>
         ensures stands { IfOk result
-            (λ version. StandsFor N.store.origins (arc_value version) self.now.seen) }
+            (λ version. StandsFor N.store.settings (arc_value version) self.now.seen) }
         ensures later { OnOk result (GoesOn self.now self.now.seen) }
     {
         match &self.own {
@@ -162,7 +162,7 @@ impl<N: StoreName> PolicyReader<N> {
     fn take(&mut self, shown: Shown) -> Result<Arc<Snapshot, Global>, AllocError>
         requires { IsOf N.store shown }
         ensures stands { IfOk result
-            (λ version. StandsFor N.store.origins (arc_value version) self.new.seen) }
+            (λ version. StandsFor N.store.settings (arc_value version) self.new.seen) }
         ensures later { OnOk result (GoesOn self.old self.new.seen) }
         ensures told { self.new.told ≡ self.old.told }
         ensures err { OnErr result (self.new ≡ self.old) }
@@ -183,10 +183,10 @@ impl<N: StoreName> PolicyReader<N> {
         version: &Snapshot,
         front: Front<N>,
     ) -> Result<Arc<Snapshot, Global>, AllocError>
-        requires stands { StandsFor N.store.origins version.now front }
+        requires stands { StandsFor N.store.settings version.now front }
         requires later { GoesOn self.old front }
         ensures stands { IfOk result
-            (λ version. StandsFor N.store.origins (arc_value version) self.new.seen) }
+            (λ version. StandsFor N.store.settings (arc_value version) self.new.seen) }
         ensures later { OnOk result (GoesOn self.old self.new.seen) }
         ensures told { self.new.told ≡ self.old.told }
         ensures err { OnErr result (self.new ≡ self.old) }
@@ -203,7 +203,7 @@ impl<N: StoreName> PolicyReader<N> {
     /// memory runs out, and is as it was then.
     pub fn pin(&mut self) -> Result<Arc<Snapshot, Global>, AllocError>
         ensures stands { IfOk result
-            (λ version. StandsFor N.store.origins (arc_value version) self.new.seen) }
+            (λ version. StandsFor N.store.settings (arc_value version) self.new.seen) }
         ensures later { OnOk result (GoesOn self.old self.new.seen) }
         ensures told { self.new.told ≡ self.old.told }
         ensures err { OnErr result (self.new ≡ self.old) }

@@ -10,8 +10,8 @@ use crate::front::{Front, Line, LogWriter, StoreName, open_book};
 use crate::publisher::Publisher;
 use crate::reader::PolicyReader;
 use crate::shown::Shown;
-use dns_name::Name;
 use ixfr_apply::Marks;
+use policy_override::{ZoneSet, ZoneSets, origins_of};
 use policy_snapshot::Snapshot;
 use std::alloc::{AllocError, Global};
 use std::marker::Model;
@@ -20,12 +20,13 @@ use std::sync::{Arc, Wait};
 /// How many readers a store has at most: one for each thread that answers queries.
 pub const READER_LIMIT: usize = 1_024;
 
-/// A store that has no name yet. Contracts see the book of its publications, the origins of its zones, and how many readers it has.
+/// A store that has no name yet. Contracts see the book of its publications, the origins of its zones with the override of each, and how many
+/// readers it has.
 #[derive(Drop)]
 pub struct Parts {
     log_writer: LogWriter,
     line: Line,
-    origins: Vec<Name>,
+    settings: ZoneSets,
     readers: usize,
 }
 
@@ -38,23 +39,23 @@ impl Model for Parts {
     ghost Value = { Store };
 
     ghost view = { λ p.
-        record { book = p.log_writer; origins = p.origins.items; readers = p.readers } };
+        record { book = p.log_writer; settings = p.settings; readers = p.readers } };
 
     ghost invariant = { λ p. (p.line.book ≡ p.log_writer) × (p.line.entries ≡ []) ×
-        (length p.origins.items ≤ ZONE_LIMIT) × (0 < p.readers) × (p.readers ≤ READER_LIMIT) };
+        (length p.settings ≤ ZONE_LIMIT) × (0 < p.readers) × (p.readers ≤ READER_LIMIT) };
 }
 
-/// A store with zones of these origins in this order, at most 32, and so many readers, 1 to 1,024. It waits for nobody and takes no memory.
-pub fn start_store(origins: Vec<Name>, readers: usize) -> Parts
-    requires origins { length origins.items ≤ ZONE_LIMIT }
+/// A store with zones of these settings in this order, at most 32, and so many readers, 1 to 1,024. It waits for nobody and takes no memory.
+pub fn start_store(settings: ZoneSets, readers: usize) -> Parts
+    requires settings { length settings ≤ ZONE_LIMIT }
     requires readers { (0 < readers) × (readers ≤ READER_LIMIT) }
-    ensures { (result.origins ≡ origins.items) × (result.readers ≡ readers) }
+    ensures { (result.settings ≡ settings) × (result.readers ≡ readers) }
 {
     let (log_writer, line) = open_book();
     Parts {
         log_writer,
         line,
-        origins,
+        settings,
         readers,
     }
 }
@@ -62,6 +63,7 @@ pub fn start_store(origins: Vec<Name>, readers: usize) -> Parts
 impl Parts {
     ghost use Rattle.std.specs.Prelude.{◌≡◌, [], IfOk, vec_len, All};
     ghost use Rattle.ixfr_apply.specs.Marks.{no_marks};
+    ghost use Rattle.policy_override.specs.ZoneSet.{origins_in};
     ghost use Rattle.policy_snapshot.specs.Stands.{StandsFor};
     ghost use Rattle.policy_publish.specs.Lists.{IsNew};
 
@@ -74,20 +76,21 @@ impl Parts {
     ) -> Result<(Publisher<N>, Vec<PolicyReader<N>>), AllocError>
         requires { self ≡ N.store }
         ensures list { IfOk result
-            (λ r. (r.0.list ≡ []) × StandsFor N.store.origins r.0.version []) }
-        ensures marks { IfOk result (λ r. r.0.marks ≡ no_marks N.store.origins) }
+            (λ r. (r.0.list ≡ []) × StandsFor N.store.settings r.0.version []) }
+        ensures marks { IfOk result (λ r. r.0.marks ≡ no_marks (origins_in N.store.settings)) }
         ensures readers { IfOk result (λ r. vec_len r.1 ≡ self.readers) }
         ensures new { IfOk result (λ r. All (λ k. IsNew k) r.1.items) }
     {
         let Parts {
             log_writer,
             line,
-            origins,
+            settings,
             readers,
         } = self;
         let front: Front<N> = Front::over(line.again());
+        let origins = origins_of(alloc, settings.as_slice())?;
         let marks = Marks::new(alloc, origins.as_slice())?;
-        let shown = first_shown(alloc, origins.as_slice(), line)?;
+        let shown = first_shown(alloc, settings.as_slice(), line)?;
         let publisher = Publisher::over(rt, alloc, shown, marks, log_writer, readers)?;
         match all_readers(alloc, &publisher, &front, readers) {
             Ok(all) => Ok((publisher, all)),
@@ -100,13 +103,13 @@ impl Parts {
 }
 
 // The version with nothing loaded, which stands for the line of no entry.
-fn first_shown(alloc: Global, origins: &[Name], line: Line) -> Result<Shown, AllocError>
-    requires limit { length origins.now ≤ ZONE_LIMIT }
+fn first_shown(alloc: Global, settings: &[ZoneSet], line: Line) -> Result<Shown, AllocError>
+    requires limit { length settings.now ≤ ZONE_LIMIT }
     requires empty { line.entries ≡ [] }
     ensures line { IfOk result (λ shown. shown.line ≡ line) }
-    ensures stands { IfOk result (λ shown. StandsFor origins.now (arc_value shown.version) []) }
+    ensures stands { IfOk result (λ shown. StandsFor settings.now (arc_value shown.version) []) }
 {
-    let version = Arc::new(alloc, Snapshot::start(alloc, origins)?)?;
+    let version = Arc::new(alloc, Snapshot::start(alloc, settings)?)?;
     Ok(Shown { version, line })
 }
 

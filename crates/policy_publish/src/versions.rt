@@ -5,6 +5,7 @@ ghost use Rattle.std.specs.Arc.{arc_value};
 ghost use Rattle.zone_rows.specs.Zone.{Fails, apply_outcome};
 ghost use Rattle.policy_snapshot.specs.declared.entry.Entry.{Entry};
 ghost use Rattle.policy_snapshot.specs.Policy.{zone_at};
+ghost use Rattle.policy_override.specs.declared.zone_set.ZoneSet.{ZoneSet};
 ghost use Rattle.policy_snapshot.specs.Stands.{StandsFor};
 ghost use Rattle.policy_publish.specs.Publishing.{HasSize, Takes};
 ghost use Rattle.policy_publish.specs.Shows.{IsOf};
@@ -54,9 +55,9 @@ fn version_after(
         Takes number zone transfer t.1 version.now t.0)) }
     ensures err { IfErr result (λ error. IfSome (zone_at version.now.zones number) (λ zone.
         Fails error (apply_outcome zone transfer))) }
-    ensures stands { IfOk result (λ t. (origins : List (List (List ℕ))) (entries : List Entry) →
-        StandsFor origins version.now entries →
-        StandsFor origins t.0 (entries ++ record { zone = number; transfer = transfer } ∷ [])) }
+    ensures stands { IfOk result (λ t. (settings : List ZoneSet) (entries : List Entry) →
+        StandsFor settings version.now entries →
+        StandsFor settings t.0 (entries ++ record { zone = number; transfer = transfer } ∷ [])) }
 {
     let next = version.apply(alloc, number, transfer)?;
     let size = size_of(&next, number);

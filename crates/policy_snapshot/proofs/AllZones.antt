@@ -25,14 +25,19 @@ use Rattle.upstream_link.specs.Facts.{PlainFacts}
 use Rattle.upstream_link.specs.Known.{HaveSameMembers}
 use Rattle.upstream_link.specs.Servers.{addresses_of, servers}
 use Rattle.policy_snapshot.specs.Hits.{hit_at, hits}
-use Rattle.policy_snapshot.specs.Lookup.{content_hit, zones_hit}
-use Rattle.policy_snapshot.specs.Rules.{PlainRule, content_rules, rules, rules_from}
+use Rattle.policy_snapshot.specs.Lookup.{content_hit, ruled_hit, zones_hit}
+use Rattle.policy_override.specs.declared.overrides.Override.{Override}
+use Rattle.policy_override.specs.Overrides.{over_at}
+use Rattle.policy_snapshot.specs.Policy.{PlainPolicy}
+use Rattle.policy_snapshot.specs.Rules.{PlainRule, content_rules, rules, rules_from, rules_under}
 use Rattle.policy_snapshot.specs.Sight.{sight_of}
 use Rattle.policy_snapshot.specs.Stands.{HaveRows}
 use Rattle.policy_snapshot.proofs.Members.{from_map, to_map}
 use Rattle.policy_snapshot.proofs.BestHits.{ComesBefore, RankLaws, best_of_both, best_of_same}
 use Rattle.policy_snapshot.proofs.OneZone.{OneServer, hits-append, index_rules, best_in_index}
-use Rattle.policy_snapshot.proofs.RuleRanks.{ZoneLaws, rule_with, rule_of, among_hits, content_zone, from_zone, are_hits}
+use Rattle.policy_snapshot.proofs.OverriddenRules.{best_under}
+use Rattle.policy_snapshot.proofs.RuleHits.{among_hits, rule_of}
+use Rattle.policy_snapshot.proofs.RuleRanks.{ZoneLaws, are_hits, from_zone, rule_with, under_zone}
 
 -- what the laws of an index and of ranks say, as one premise
 pub record Laws : Type 0 where
@@ -74,24 +79,31 @@ module _ (laws : Laws) (query : Query) (facts : PlainFacts) (position : ℕ) (na
       best_of_same _ _ _ (hits_within query facts position name _ _ into) (hits_within query facts position name _ _ back)
       (best_in_index laws.ranks laws.one_server query facts position name number soa lists all same_names same_addresses (rules_of origin content.rows) (laws.ordered origin content.rows))
 
-  zones_apart : (number : ℕ) (zone : PlainZone) (zones : List PlainZone) → ComesBefore (hits (content_rules number zone.origin zone.content) query facts position name) (hits (rules_from (number + 1) zones) query facts position name)
-  zones_apart number zone zones a b at_a at_b =
-      let x = rule_of query facts position name (content_rules number zone.origin zone.content) a at_a in
-      let y = rule_of query facts position name (rules_from (number + 1) zones) b at_b in
-      let zone_x = content_zone number zone.origin zone.content x.rule x.within in
-      let zone_y = from_zone (number + 1) zones y.rule y.within in
+  abbrev own : List Override → ℕ → PlainZone → List PlainRule
+  own overrides number zone = rules_under (over_at overrides number) (content_rules number zone.origin zone.content)
+
+  zones_apart : (overrides : List Override) (number : ℕ) (zone : PlainZone) (zones : List PlainZone) → ComesBefore (hits (own overrides number zone) query facts position name) (hits (rules_from overrides (number + 1) zones) query facts position name)
+  zones_apart overrides number zone zones a b at_a at_b =
+      let x = rule_of query facts position name (own overrides number zone) a at_a in
+      let y = rule_of query facts position name (rules_from overrides (number + 1) zones) b at_b in
+      let zone_x = under_zone (over_at overrides number) number zone x.rule x.within in
+      let zone_y = from_zone overrides (number + 1) zones y.rule y.within in
       ap (λ (h : PlainHit). precedes h.rank a.rank) (sym y.is)
       ∙ ap (λ (h : PlainHit). precedes (hit_at position y.rule).rank h.rank) (sym x.is)
       ∙ later_zone position x.rule.zone y.rule.zone y.rule.trigger x.rule.trigger (omega (arith, zone_x, zone_y))
 
-  zones_best : (number : ℕ) (zones : List PlainZone) → HaveRows zones → IsBest (hits (rules_from number zones) query facts position name) (zones_hit number (sight_of query facts position name lists all) zones)
-  zones_best number [] rows = refl
-  zones_best number (zone ∷ zones) rows =
-      subst (λ (l : List PlainHit). IsBest l (zones_hit number (sight_of query facts position name lists all) (zone ∷ zones))) (sym (hits-append query facts position name (content_rules number zone.origin zone.content) (rules_from (number + 1) zones)))
-      (best_of_both _ _ _ _ (content_best number zone.origin zone.content rows.0) (zones_best (number + 1) zones rows.1) (zones_apart number zone zones))
+  ruled_best : (overrides : List Override) (number : ℕ) (zone : PlainZone) → HasRows zone.content → IsBest (hits (own overrides number zone) query facts position name) (ruled_hit overrides number (sight_of query facts position name lists all) zone)
+  ruled_best overrides number zone rows =
+      best_under query facts position name (over_at overrides number) (content_rules number zone.origin zone.content) (content_hit number (sight_of query facts position name lists all) zone.origin zone.content) (content_best number zone.origin zone.content rows)
+
+  zones_best : (overrides : List Override) (number : ℕ) (zones : List PlainZone) → HaveRows zones → IsBest (hits (rules_from overrides number zones) query facts position name) (zones_hit overrides number (sight_of query facts position name lists all) zones)
+  zones_best overrides number [] rows = refl
+  zones_best overrides number (zone ∷ zones) rows =
+      subst (λ (l : List PlainHit). IsBest l (zones_hit overrides number (sight_of query facts position name lists all) (zone ∷ zones))) (sym (hits-append query facts position name (own overrides number zone) (rules_from overrides (number + 1) zones)))
+      (best_of_both _ _ _ _ (ruled_best overrides number zone rows.0) (zones_best overrides (number + 1) zones rows.1) (zones_apart overrides number zone zones))
 
   -- the hit that code finds is the best one
-  pub found_is_best : ZoneLaws → (zones : List PlainZone) → HaveRows zones → ((all : List PlainHit) (found : Option PlainHit) → AreHits all → IsBest all found → found ≡ best all)
-      → zones_hit 1 (sight_of query facts position name lists all) zones ≡ best (hits (rules zones) query facts position name)
-  found_is_best zone_laws zones rows only =
-      only (hits (rules zones) query facts position name) (zones_hit 1 (sight_of query facts position name lists all) zones) (are_hits zone_laws query facts position name zones rows) (zones_best 1 zones rows)
+  pub found_is_best : ZoneLaws → (policy : PlainPolicy) → HaveRows policy.zones → ((all : List PlainHit) (found : Option PlainHit) → AreHits all → IsBest all found → found ≡ best all)
+      → zones_hit policy.overrides 1 (sight_of query facts position name lists all) policy.zones ≡ best (hits (rules policy) query facts position name)
+  found_is_best zone_laws policy rows only =
+      only (hits (rules policy) query facts position name) (zones_hit policy.overrides 1 (sight_of query facts position name lists all) policy.zones) (are_hits zone_laws query facts position name policy rows) (zones_best policy.overrides 1 policy.zones rows)

@@ -22,7 +22,7 @@ use Rattle.zone_rows.specs.declared.zone.PlainZone.{PlainZone}
 use Rattle.policy_snapshot.specs.Knowing.{KnowsAll, no_summaries, zones_having}
 use Rattle.policy_snapshot.specs.Listing.{AreChangesAt, IsThere, KnowsPatterns, KnowsPrefixes, zones_before}
 use Rattle.policy_snapshot.specs.Lookup.{has_kind_in}
-use Rattle.policy_snapshot.specs.Policy.{PlainPolicy, zone_at}
+use Rattle.policy_snapshot.specs.Policy.{PlainZones, zone_at}
 use Rattle.policy_snapshot.specs.Summed.{KnowsZone, PlainSummaries, content_entries}
 use Rattle.policy_snapshot.specs.declared.new_zone.NewZone.{NewZone}
 use Rattle.policy_snapshot.proofs.ListedRules.{no_zone}
@@ -33,18 +33,18 @@ some_is x y e = cc e
 
 -- ---- a number that a zone has
 
-get_by : (found : Option PlainZone) (zones : PlainPolicy) (k : ℕ) → slice_get zones k ≡ found → IsSome found → k < length zones
+get_by : (found : Option PlainZone) (zones : PlainZones) (k : ℕ) → slice_get zones k ≡ found → IsSome found → k < length zones
 get_by None zones k e h = absurd (true≢false (sym h))
 get_by (Some zone) zones k e h = slice_get_within zones k zone e
 
-number_by : (b : Bool) (zones : PlainPolicy) (number : ℕ) → (number == 0) ≡ b → IsSome (cond b None (slice_get zones (number - 1))) → (1 ≤ number) × (number ≤ length zones)
+number_by : (b : Bool) (zones : PlainZones) (number : ℕ) → (number == 0) ≡ b → IsSome (cond b None (slice_get zones (number - 1))) → (1 ≤ number) × (number ≤ length zones)
 number_by true zones number e h = absurd (true≢false (sym h))
 number_by false zones number e h =
     let lt : number - 1 < length zones = get_by (slice_get zones (number - 1)) zones (number - 1) refl h in
     let some : 1 ≤ number = grind (arith, nat_tests, e) in
     (some, omega (arith, lt, some))
 
-pub number_there : (zones : PlainPolicy) (number : ℕ) → IsSome (zone_at zones number) → (1 ≤ number) × (number ≤ length zones)
+pub number_there : (zones : PlainZones) (number : ℕ) → IsSome (zone_at zones number) → (1 ≤ number) × (number ≤ length zones)
 number_there zones number there = number_by (number == 0) zones number refl there
 
 -- ---- rules of a kind
@@ -72,7 +72,7 @@ having_by n origin content s knows kinds.NsDname = knows.nsdname.having ∙ sym 
 having_by n origin content s knows kinds.NsIp = knows.nsip.having ∙ sym (some_any (content_entries origin content).nsip)
 
 -- the zones that have rules of a kind
-pub having_is : (zones : PlainPolicy) (s : PlainSummaries) (n : ℕ) (zone : PlainZone) (kind : Kind) → KnowsAll zones s → 1 ≤ n → n ≤ 32 → zone_at zones n ≡ Some zone
+pub having_is : (zones : PlainZones) (s : PlainSummaries) (n : ℕ) (zone : PlainZone) (kind : Kind) → KnowsAll zones s → 1 ≤ n → n ≤ 32 → zone_at zones n ≡ Some zone
     → has_zone (zones_having s kind) n ≡ has_kind_in kind zone.origin zone.content
 having_is zones s n zone kind knows some within e =
     having_by n zone.origin zone.content s (knows.each n zone some within e) kind ∙ sym (kind_in kind zone.origin zone.content)
@@ -105,7 +105,7 @@ knows_none origins = record {
 -- ---- by kinds
 
 -- what is known of a kind is known of it in all summaries, and the other way round
-module _ (zones : PlainPolicy) (s : PlainSummaries) where
+module _ (zones : PlainZones) (s : PlainSummaries) where
   pub client_known : KnowsAll zones s → KnowsPrefixes kinds.ClientIp zones s.client_ip
   client_known knows = record { each = λ n zone some within e. (knows.each n zone some within e).client_ip }
 

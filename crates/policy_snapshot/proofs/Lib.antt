@@ -1,3 +1,4 @@
+pub mod AliasData
 pub mod AllZones
 pub mod BestHits
 pub mod CandidateLoops
@@ -17,10 +18,13 @@ pub mod NewZones
 pub mod NothingPending
 pub mod OneKind
 pub mod OneZone
+pub mod OverriddenRules
 pub mod Passing
 pub mod PatternRules
 pub mod PrefixRules
+pub mod RuleHits
 pub mod RuleRanks
+pub mod RulesOfZones
 pub mod SameHits
 pub mod SameNext
 pub mod SightLemmas

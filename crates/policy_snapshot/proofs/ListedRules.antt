@@ -13,7 +13,7 @@ use Rattle.summary_index.specs.Knowing.{Knows}
 use Rattle.summary_index.specs.Summary.{PlainSummary, Standing, zones_at, zones_in}
 use Rattle.summary_index.specs.Zones.{has_zone}
 use Rattle.zone_rows.specs.declared.zone.PlainZone.{PlainZone}
-use Rattle.policy_snapshot.specs.Policy.{PlainPolicy, zone_at}
+use Rattle.policy_snapshot.specs.Policy.{PlainZones, zone_at}
 use Rattle.policy_snapshot.proofs.NewZones.{new_is, number_within, some_there, stays}
 
 -- ---- numbers and tests
@@ -121,29 +121,29 @@ module _ {K A : Type 0} (order : K → K → Ordering) (valid : K → Type 0) (r
   has_some zone = list_any (λ _. true) (rules zone)
 
   -- the summary knows the rules of each zone of the policy, whose number is from 1 to 32
-  abbrev pub KnowsEach : PlainPolicy → PlainSummary K → Type 0
+  abbrev pub KnowsEach : PlainZones → PlainSummary K → Type 0
   KnowsEach zones s = (n : ℕ) (zone : PlainZone) → 1 ≤ n → n ≤ 32 → zone_at zones n ≡ Some zone → Knows order valid n (rules zone) s
 
   -- these zones of the policy have rules
-  abbrev pub HaveSome : PlainPolicy → ℕ → Type 0
+  abbrev pub HaveSome : PlainZones → ℕ → Type 0
   HaveSome zones having = (n : ℕ) (zone : PlainZone) → 1 ≤ n → n ≤ 32 → zone_at zones n ≡ Some zone → has_zone having n ≡ has_some zone
 
   -- at each key stand, by number, the zones of the policy that have a rule there
-  abbrev pub StandEach : PlainPolicy → (K → ℕ → Bool) → Type 0
+  abbrev pub StandEach : PlainZones → (K → ℕ → Bool) → Type 0
   StandEach zones at = (key : K) → valid key → (n : ℕ) (zone : PlainZone) → 1 ≤ n → n ≤ 32 → zone_at zones n ≡ Some zone → at key n ≡ has_at zone key
 
   none_at : (zone : PlainZone) (key : K) → has_some zone ≡ false → has_at zone key ≡ false
   none_at zone key none = ap (λ (l : List (K × A)). is_some (lookup (is_at (order key)) l)) (none_is (rules zone) none)
 
   -- a kind that isn't listed
-  pub known_unlisted : (zones : PlainPolicy) (s : PlainSummary K) → HaveSome zones s.having → s.is_listed ≡ false → KnowsEach zones s
+  pub known_unlisted : (zones : PlainZones) (s : PlainSummary K) → HaveSome zones s.having → s.is_listed ≡ false → KnowsEach zones s
   known_unlisted zones s have unlisted n zone some within e = record {
     having = have n zone some within e;
     exact = λ listed. absurd (true≢false (sym listed ∙ unlisted));
   }
 
   -- a kind that is listed
-  pub known_listed : (zones : PlainPolicy) (s : PlainSummary K) → HaveSome zones s.having → StandEach zones (λ key n. has_zone (zones_at order key s.triggers) n) → KnowsEach zones s
+  pub known_listed : (zones : PlainZones) (s : PlainSummary K) → HaveSome zones s.having → StandEach zones (λ key n. has_zone (zones_at order key s.triggers) n) → KnowsEach zones s
   known_listed zones s have stand n zone some within e = record {
     having = have n zone some within e;
     exact = λ listed key is. stand key is n zone some within e;
@@ -151,8 +151,8 @@ module _ {K A : Type 0} (order : K → K → Ordering) (valid : K → Type 0) (r
 
   -- ---- a zone is another
 
-  module _ (zones : PlainPolicy) (number : ℕ) (new : PlainZone) (low : 1 ≤ number) (there : number ≤ length zones) where
-    abbrev after : PlainPolicy
+  module _ (zones : PlainZones) (number : ℕ) (new : PlainZone) (low : 1 ≤ number) (there : number ≤ length zones) where
+    abbrev after : PlainZones
     after = slice_set zones (number - 1) new
 
     known_by : (b : Bool) (s : PlainSummary K) → Knows order valid number (rules new) s → KnowsEach zones s
@@ -196,13 +196,13 @@ module _ {K A : Type 0} (order : K → K → Ordering) (valid : K → Type 0) (r
   -- ---- all zones, one by one
 
   -- At each key stand those of the first so many zones that have a rule there.
-  pub record ListedTo (zones : PlainPolicy) (k : ℕ) (at : K → ℕ → Bool) : Type 0 where
+  pub record ListedTo (zones : PlainZones) (k : ℕ) (at : K → ℕ → Bool) : Type 0 where
     pub each : (key : K) → valid key → (n : ℕ) (zone : PlainZone) → 1 ≤ n → n ≤ 32 → zone_at zones n ≡ Some zone → at key n ≡ (nat_le n k && has_at zone key)
 
-  pub listed_none : (zones : PlainPolicy) (at : K → ℕ → Bool) → ((key : K) (n : ℕ) → at key n ≡ false) → ListedTo zones 0 at
+  pub listed_none : (zones : PlainZones) (at : K → ℕ → Bool) → ((key : K) (n : ℕ) → at key n ≡ false) → ListedTo zones 0 at
   listed_none zones at none = record { each = λ key is n zone some within e. none key n ∙ ap (λ (b : Bool). b && has_at zone key) (sym (le_no n 0 some)) }
 
-  more_by : (b : Bool) (zones : PlainPolicy) (k : ℕ) (new : PlainZone) (at after : Bool) (key : K) (n : ℕ) (zone : PlainZone) → zone_at zones (k + 1) ≡ Some new → zone_at zones n ≡ Some zone
+  more_by : (b : Bool) (zones : PlainZones) (k : ℕ) (new : PlainZone) (at after : Bool) (key : K) (n : ℕ) (zone : PlainZone) → zone_at zones (k + 1) ≡ Some new → zone_at zones n ≡ Some zone
       → (n == (k + 1)) ≡ b → at ≡ (nat_le n k && has_at zone key) → after ≡ (at || (b && has_at new key)) → after ≡ (nat_le n (k + 1) && has_at zone key)
   more_by true zones k new at after key n zone there e here before w =
       let same : n ≡ k + 1 = eqb-true n (k + 1) here in
@@ -215,7 +215,7 @@ module _ {K A : Type 0} (order : K → K → Ordering) (valid : K → Type 0) (r
       w ∙ or_false at ∙ before ∙ ap (λ (b : Bool). b && has_at zone key) (sym (le_next n k here))
 
   -- and those of the next zone
-  pub listed_more : (zones : PlainPolicy) (k : ℕ) (new : PlainZone) (at after : K → ℕ → Bool) → zone_at zones (k + 1) ≡ Some new → ListedTo zones k at
+  pub listed_more : (zones : PlainZones) (k : ℕ) (new : PlainZone) (at after : K → ℕ → Bool) → zone_at zones (k + 1) ≡ Some new → ListedTo zones k at
       → ((key : K) → valid key → (n : ℕ) → 1 ≤ n → n ≤ 32 → after key n ≡ (at key n || (n == (k + 1) && has_at new key))) → ListedTo zones (k + 1) after
   listed_more zones k new at after there before merged = record {
     each = λ key is n zone some within e. more_by (n == (k + 1)) zones k new (at key n) (after key n) key n zone there e refl (before.each key is n zone some within e) (merged key is n some within);
@@ -227,12 +227,12 @@ module _ {K A : Type 0} (order : K → K → Ordering) (valid : K → Type 0) (r
   or_none false false c none = refl
 
   -- the next zone has none
-  pub listed_past : (zones : PlainPolicy) (k : ℕ) (new : PlainZone) (at : K → ℕ → Bool) → zone_at zones (k + 1) ≡ Some new → has_some new ≡ false → ListedTo zones k at → ListedTo zones (k + 1) at
+  pub listed_past : (zones : PlainZones) (k : ℕ) (new : PlainZone) (at : K → ℕ → Bool) → zone_at zones (k + 1) ≡ Some new → has_some new ≡ false → ListedTo zones k at → ListedTo zones (k + 1) at
   listed_past zones k new at there none before =
       listed_more zones k new at at there before (λ key is n some within. or_none (at key n) (n == (k + 1)) (has_at new key) (none_at new key none))
 
   -- all zones
-  pub listed_all : (zones : PlainPolicy) (k : ℕ) (at : K → ℕ → Bool) → length zones ≤ k → ListedTo zones k at → StandEach zones at
+  pub listed_all : (zones : PlainZones) (k : ℕ) (at : K → ℕ → Bool) → length zones ≤ k → ListedTo zones k at → StandEach zones at
   listed_all zones k at all listed key is n zone some within e =
       let last : n ≤ length zones = number_within zones n zone some e in
       listed.each key is n zone some within e ∙ ap (λ (b : Bool). b && has_at zone key) (le_yes n k (omega (arith, last, all)))
@@ -263,10 +263,10 @@ module _ {K A : Type 0} (order : K → K → Ordering) (valid : K → Type 0) (r
     }
 
     -- at other keys the zone has the rules that it had
-    abbrev pub AreKept : PlainPolicy → List T → Type 0
+    abbrev pub AreKept : PlainZones → List T → Type 0
     AreKept zones all = (old : PlainZone) → zone_at zones number ≡ Some old → (key : K) → valid key → list_any (same key) all ≡ false → has_at new key ≡ has_at old key
 
-    edited_by : (b d : Bool) (zones : PlainPolicy) (low : 1 ≤ number) (there : number ≤ length zones) (limit : number ≤ 32) (at : K → ℕ → Bool) (s : PlainSummary K) (all : List T) → KnowsEach zones s → s.is_listed ≡ true → AreKept zones all
+    edited_by : (b d : Bool) (zones : PlainZones) (low : 1 ≤ number) (there : number ≤ length zones) (limit : number ≤ 32) (at : K → ℕ → Bool) (s : PlainSummary K) (all : List T) → KnowsEach zones s → s.is_listed ≡ true → AreKept zones all
         → (key : K) → valid key → (n : ℕ) (zone : PlainZone) → (n == number) ≡ b → list_any (same key) all ≡ d → at key n ≡ cond (b && d) (has_at new key) (has_zone (zones_at order key s.triggers) n)
         → 1 ≤ n → n ≤ 32 → zone_at (slice_set zones (number - 1) new) n ≡ Some zone → at key n ≡ has_at zone key
     edited_by true true zones low there limit at s all knows listed kept key is n zone here any w some within e = w ∙ ap (λ (z : PlainZone). has_at z key) (new_is zones number n new low some zone here e)
@@ -281,7 +281,7 @@ module _ {K A : Type 0} (order : K → K → Ordering) (valid : K → Type 0) (r
         w ∙ (knows n zone some within (sym (stays zones number n new low some here) ∙ e)).exact listed key is
 
     -- what stands once all are edited
-    pub stand_edited : (zones : PlainPolicy) → 1 ≤ number → number ≤ length zones → number ≤ 32 → (at : K → ℕ → Bool) (s : PlainSummary K) (all : List T) → KnowsEach zones s → s.is_listed ≡ true → AreKept zones all
+    pub stand_edited : (zones : PlainZones) → 1 ≤ number → number ≤ length zones → number ≤ 32 → (at : K → ℕ → Bool) (s : PlainSummary K) (all : List T) → KnowsEach zones s → s.is_listed ≡ true → AreKept zones all
         → EditedTo (λ key n. has_zone (zones_at order key s.triggers) n) at all → StandEach (slice_set zones (number - 1) new) at
     stand_edited zones low there limit at s all knows listed kept edited key is n zone some within e =
         edited_by (n == number) (list_any (same key) all) zones low there limit at s all knows listed kept key is n zone refl refl (edited.each key is n some within) some within e

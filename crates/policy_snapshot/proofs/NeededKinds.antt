@@ -1,5 +1,5 @@
 -- Whether some rule that could decide needs something is told zone by zone, from the kinds of rules that each zone has.
-use Rattle.std.proofs.Common.{◌≡◌, ℕ, ◌+◌, ◌==◌, Bool, true, false, not, ◌&&◌, ◌||◌, ◌↔◌, Option, Some, None, is_some, List, [], ◌∷◌, map, refl, sym, ap, ◌∙◌, arith, nat_lt, eqb-true, true≢false}
+use Rattle.std.proofs.Common.{◌≡◌, ℕ, ◌+◌, ◌==◌, Bool, true, false, not, ◌&&◌, ◌||◌, ◌↔◌, Option, Some, None, is_some, List, [], ◌∷◌, map, refl, sym, ap, ◌∙◌, arith, nat_lt, eqb-true, true≢false, cond}
 use Rattle.std.specs.Prelude.{All, nat_le}
 use Rattle.std.proofs.Math.Bool.{or-false, or-true}
 use Rattle.std.proofs.lemmas.Bool.Decides.{nat_tests}
@@ -28,9 +28,13 @@ use Rattle.rpz_precedence.specs.Best.{PlainHit}
 use Rattle.rpz_precedence.specs.Rank.{kind_number}
 use Rattle.upstream_link.specs.Facts.{PlainFacts}
 use Rattle.upstream_link.specs.Question.{main_question}
-use Rattle.policy_snapshot.specs.Lookup.{has_kind_in, kind_could_decide, place_of_kind, zones_need}
+use Rattle.policy_snapshot.specs.Lookup.{has_kind_in, kind_could_decide, kind_could_rule, place_of_kind, zones_need}
 use Rattle.policy_snapshot.specs.Next.{needs_answer, needs_servers, needs_addresses, could_decide, is_needed, first_unknown, server_questions, unknown_address, if_needed, or_question, pending}
-use Rattle.policy_snapshot.specs.Rules.{PlainRule, content_rules, rules, rules_from}
+use Rattle.policy_override.specs.declared.overrides.Override.{Override}
+use Rattle.policy_override.specs.Override.{is_ruling}
+use Rattle.policy_override.specs.Overrides.{over_at}
+use Rattle.policy_snapshot.specs.Policy.{PlainPolicy}
+use Rattle.policy_snapshot.specs.Rules.{PlainRule, content_rules, rule_under, rules, rules_from, rules_under}
 use Rattle.policy_snapshot.specs.Stands.{HaveRows}
 use Rattle.policy_snapshot.proofs.Members.{here, there}
 use Rattle.policy_snapshot.proofs.ListTests.{any_at, any_same}
@@ -178,11 +182,35 @@ module _ (law : IndexLaw) (kind : Kind) where
       ∙ any_both (own_test index kind) could own
       ∙ ap (λ (b : Bool). b && could) (any_members (own_test index kind) own (rules_by_kind index) (law.listed origin content.rows rows) ∙ kind_listed index kind)
 
-  needs_from : (hit : Option PlainHit) (number : ℕ) (zones : List PlainZone) → HaveRows zones → list_any (test hit) (rules_from number zones) ≡ zones_need kind number hit zones
-  needs_from hit number [] rows = refl
-  needs_from hit number (zone ∷ zones) rows =
-      list_any-append (test hit) (content_rules number zone.origin zone.content) (rules_from (number + 1) zones)
-      ∙ (λ i. content_needs hit number zone.origin zone.content rows.0 i || needs_from hit (number + 1) zones rows.1 i)
+  -- an override leaves the zone and the trigger of a rule
+  could_under : (hit : Option PlainHit) (over : Override) (rule : PlainRule) → could_decide hit (rule_under over rule) ≡ could_decide hit rule
+  could_under None over rule = refl
+  could_under (Some hit) over rule = refl
+
+  under_if : (b : Bool) (hit : Option PlainHit) (over : Override) (own : List PlainRule) → list_any (test hit) (cond b (map (rule_under over) own) []) ≡ (b && list_any (test hit) own)
+  under_if true hit over own =
+      any_mapped (test hit) (rule_under over) own
+      ∙ any_same (λ r. test hit (rule_under over r)) (test hit) own (λ r at. ap (λ (c : Bool). is_of_kind kind r.trigger && c) (could_under hit over r))
+  under_if false hit over own = refl
+
+  swapped : (a b c : Bool) → (a && (b && c)) ≡ (b && (a && c))
+  swapped true b c = refl
+  swapped false true c = refl
+  swapped false false c = refl
+
+  ruled_needs : (overrides : List Override) (hit : Option PlainHit) (number : ℕ) (zone : PlainZone) → HasRows zone.content
+      → list_any (test hit) (rules_under (over_at overrides number) (content_rules number zone.origin zone.content)) ≡ (has_kind_in kind zone.origin zone.content && kind_could_rule overrides kind number hit)
+  ruled_needs overrides hit number zone rows =
+      let ruling = is_ruling (over_at overrides number) in
+      under_if ruling hit (over_at overrides number) (content_rules number zone.origin zone.content)
+      ∙ ap (λ (b : Bool). ruling && b) (content_needs hit number zone.origin zone.content rows)
+      ∙ swapped ruling (has_kind_in kind zone.origin zone.content) (kind_could_decide kind number hit)
+
+  needs_from : (overrides : List Override) (hit : Option PlainHit) (number : ℕ) (zones : List PlainZone) → HaveRows zones → list_any (test hit) (rules_from overrides number zones) ≡ zones_need overrides kind number hit zones
+  needs_from overrides hit number [] rows = refl
+  needs_from overrides hit number (zone ∷ zones) rows =
+      list_any-append (test hit) (rules_under (over_at overrides number) (content_rules number zone.origin zone.content)) (rules_from overrides (number + 1) zones)
+      ∙ (λ i. ruled_needs overrides hit number zone rows.0 i || needs_from overrides hit (number + 1) zones rows.1 i)
 
 -- ---- what is needed
 
@@ -229,42 +257,42 @@ or_second : (question other : Option Question) → is_some question ≡ false �
 or_second None other t = refl
 or_second (Some question) other t = absurd (true≢false t)
 
-abbrev main_part : List PlainZone → Query → PlainFacts → Option PlainHit → Option Question
-main_part zones query facts hit = if_needed (zones_need kinds.ResponseIp 1 hit zones) (first_unknown facts (main_question query ∷ []))
+abbrev main_part : PlainPolicy → Query → PlainFacts → Option PlainHit → Option Question
+main_part policy query facts hit = if_needed (zones_need policy.overrides kinds.ResponseIp 1 hit policy.zones) (first_unknown facts (main_question query ∷ []))
 
-abbrev owner_part : List PlainZone → PlainFacts → List (List ℕ) → Option PlainHit → Option Question
-owner_part zones facts name hit = if_needed (zones_need kinds.NsDname 1 hit zones || zones_need kinds.NsIp 1 hit zones) (first_unknown facts (server_questions name))
+abbrev owner_part : PlainPolicy → PlainFacts → List (List ℕ) → Option PlainHit → Option Question
+owner_part policy facts name hit = if_needed (zones_need policy.overrides kinds.NsDname 1 hit policy.zones || zones_need policy.overrides kinds.NsIp 1 hit policy.zones) (first_unknown facts (server_questions name))
 
-abbrev pub address_part : List PlainZone → PlainFacts → List (List ℕ) → Option PlainHit → Option Question
-address_part zones facts name hit = if_needed (zones_need kinds.NsIp 1 hit zones) (unknown_address facts name)
+abbrev pub address_part : PlainPolicy → PlainFacts → List (List ℕ) → Option PlainHit → Option Question
+address_part policy facts name hit = if_needed (zones_need policy.overrides kinds.NsIp 1 hit policy.zones) (unknown_address facts name)
 
-module _ (law : IndexLaw) (zones : List PlainZone) (rows : HaveRows zones) (query : Query) (facts : PlainFacts) (name : List (List ℕ)) (hit : Option PlainHit) where
-  answer_needed : is_needed needs_answer (rules zones) hit ≡ zones_need kinds.ResponseIp 1 hit zones
-  answer_needed = ap (λ (needs : Trigger → Bool). is_needed needs (rules zones) hit) (λ i t. answer_kind t i) ∙ needs_from law kinds.ResponseIp hit 1 zones rows
+module _ (law : IndexLaw) (policy : PlainPolicy) (rows : HaveRows policy.zones) (query : Query) (facts : PlainFacts) (name : List (List ℕ)) (hit : Option PlainHit) where
+  answer_needed : is_needed needs_answer (rules policy) hit ≡ zones_need policy.overrides kinds.ResponseIp 1 hit policy.zones
+  answer_needed = ap (λ (needs : Trigger → Bool). is_needed needs (rules policy) hit) (λ i t. answer_kind t i) ∙ needs_from law kinds.ResponseIp policy.overrides hit 1 policy.zones rows
 
-  servers_needed : is_needed needs_servers (rules zones) hit ≡ (zones_need kinds.NsDname 1 hit zones || zones_need kinds.NsIp 1 hit zones)
+  servers_needed : is_needed needs_servers (rules policy) hit ≡ (zones_need policy.overrides kinds.NsDname 1 hit policy.zones || zones_need policy.overrides kinds.NsIp 1 hit policy.zones)
   servers_needed =
-      ap (λ (needs : Trigger → Bool). is_needed needs (rules zones) hit) (λ i t. servers_kind t i)
-      ∙ needed_either (is_of_kind kinds.NsDname) (is_of_kind kinds.NsIp) hit (rules zones)
-      ∙ (λ i. needs_from law kinds.NsDname hit 1 zones rows i || needs_from law kinds.NsIp hit 1 zones rows i)
+      ap (λ (needs : Trigger → Bool). is_needed needs (rules policy) hit) (λ i t. servers_kind t i)
+      ∙ needed_either (is_of_kind kinds.NsDname) (is_of_kind kinds.NsIp) hit (rules policy)
+      ∙ (λ i. needs_from law kinds.NsDname policy.overrides hit 1 policy.zones rows i || needs_from law kinds.NsIp policy.overrides hit 1 policy.zones rows i)
 
-  addresses_needed : is_needed needs_addresses (rules zones) hit ≡ zones_need kinds.NsIp 1 hit zones
-  addresses_needed = ap (λ (needs : Trigger → Bool). is_needed needs (rules zones) hit) (λ i t. addresses_kind t i) ∙ needs_from law kinds.NsIp hit 1 zones rows
+  addresses_needed : is_needed needs_addresses (rules policy) hit ≡ zones_need policy.overrides kinds.NsIp 1 hit policy.zones
+  addresses_needed = ap (λ (needs : Trigger → Bool). is_needed needs (rules policy) hit) (λ i t. addresses_kind t i) ∙ needs_from law kinds.NsIp policy.overrides hit 1 policy.zones rows
 
-  parts : or_question (main_part zones query facts hit) (or_question (owner_part zones facts name hit) (address_part zones facts name hit)) ≡ pending (rules zones) query facts name hit
+  parts : or_question (main_part policy query facts hit) (or_question (owner_part policy facts name hit) (address_part policy facts name hit)) ≡ pending (rules policy) query facts name hit
   parts = λ i.
       or_question (if_needed (sym answer_needed i) (first_unknown facts (main_question query ∷ [])))
       (or_question (if_needed (sym servers_needed i) (first_unknown facts (server_questions name))) (if_needed (sym addresses_needed i) (unknown_address facts name)))
 
   -- what is asked first, second and last
-  pub main_asked : (main : Option Question) → main ≡ main_part zones query facts hit → is_some main ≡ true → main ≡ pending (rules zones) query facts name hit
-  main_asked main e t = or_first main (or_question (owner_part zones facts name hit) (address_part zones facts name hit)) t ∙ ap (λ (q : Option Question). or_question q (or_question (owner_part zones facts name hit) (address_part zones facts name hit))) e ∙ parts
+  pub main_asked : (main : Option Question) → main ≡ main_part policy query facts hit → is_some main ≡ true → main ≡ pending (rules policy) query facts name hit
+  main_asked main e t = or_first main (or_question (owner_part policy facts name hit) (address_part policy facts name hit)) t ∙ ap (λ (q : Option Question). or_question q (or_question (owner_part policy facts name hit) (address_part policy facts name hit))) e ∙ parts
 
-  later : (main rest : Option Question) → main ≡ main_part zones query facts hit → is_some main ≡ false → rest ≡ or_question (owner_part zones facts name hit) (address_part zones facts name hit) → rest ≡ pending (rules zones) query facts name hit
+  later : (main rest : Option Question) → main ≡ main_part policy query facts hit → is_some main ≡ false → rest ≡ or_question (owner_part policy facts name hit) (address_part policy facts name hit) → rest ≡ pending (rules policy) query facts name hit
   later main rest e t f = or_second main rest t ∙ (λ i. or_question (e i) (f i)) ∙ parts
 
-  pub owner_asked : (main owner : Option Question) → main ≡ main_part zones query facts hit → is_some main ≡ false → owner ≡ owner_part zones facts name hit → is_some owner ≡ true → owner ≡ pending (rules zones) query facts name hit
-  owner_asked main owner e t f u = later main owner e t (or_first owner (address_part zones facts name hit) u ∙ ap (λ (q : Option Question). or_question q (address_part zones facts name hit)) f)
+  pub owner_asked : (main owner : Option Question) → main ≡ main_part policy query facts hit → is_some main ≡ false → owner ≡ owner_part policy facts name hit → is_some owner ≡ true → owner ≡ pending (rules policy) query facts name hit
+  owner_asked main owner e t f u = later main owner e t (or_first owner (address_part policy facts name hit) u ∙ ap (λ (q : Option Question). or_question q (address_part policy facts name hit)) f)
 
-  pub address_asked : (main owner address : Option Question) → main ≡ main_part zones query facts hit → is_some main ≡ false → owner ≡ owner_part zones facts name hit → is_some owner ≡ false → address ≡ address_part zones facts name hit → address ≡ pending (rules zones) query facts name hit
+  pub address_asked : (main owner address : Option Question) → main ≡ main_part policy query facts hit → is_some main ≡ false → owner ≡ owner_part policy facts name hit → is_some owner ≡ false → address ≡ address_part policy facts name hit → address ≡ pending (rules policy) query facts name hit
   address_asked main owner address e t f u g = later main address e t (or_second owner address u ∙ (λ i. or_question (f i) (g i)))

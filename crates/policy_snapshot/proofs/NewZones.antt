@@ -6,7 +6,7 @@ use Rattle.std.proofs.lemmas.Bool.{eqb-true}
 use Rattle.std.proofs.lemmas.Bool.Decides.{nat_tests}
 use Rattle.std.proofs.lemmas.Option.{slice_get-map, slice_get_read, slice_get_within}
 use Rattle.zone_rows.specs.declared.zone.PlainZone.{PlainZone}
-use Rattle.policy_snapshot.specs.Policy.{PlainPolicy, zone_at}
+use Rattle.policy_snapshot.specs.Policy.{PlainZones, zone_at}
 
 module _ {X : Type 0} where
   some_is : (x y : X) → Some x ≡ Some y → x ≡ y
@@ -38,7 +38,7 @@ at_by : (b : Bool) (found : Option PlainZone) → b ≡ false → cond b None fo
 at_by true found e = absurd (true≢false e)
 at_by false found e = refl
 
-pub at_place : (zones : PlainPolicy) (n : ℕ) → 1 ≤ n → zone_at zones n ≡ slice_get zones (n - 1)
+pub at_place : (zones : PlainZones) (n : ℕ) → 1 ≤ n → zone_at zones n ≡ slice_get zones (n - 1)
 at_place zones n some = at_by (n == 0) (slice_get zones (n - 1)) (grind (arith, nat_tests, some))
 
 apart_by : (n number : ℕ) → (n == number) ≡ false → 1 ≤ n → 1 ≤ number → n - 1 ≡ number - 1 → ⊥
@@ -54,18 +54,18 @@ zone_here g ys k n y lt is e =
     ∙ ap (option_map g) (slice_get_read ys (length ys) k y refl lt is)
 
 -- a zone has each number up to that of the last
-pub some_there : (zones : PlainPolicy) (n : ℕ) → 1 ≤ n → n ≤ length zones → (zone : PlainZone) × (zone_at zones n ≡ Some zone)
+pub some_there : (zones : PlainZones) (n : ℕ) → 1 ≤ n → n ≤ length zones → (zone : PlainZone) × (zone_at zones n ≡ Some zone)
 some_there zones n some within =
     let found = get_there zones (n - 1) (omega (arith, some, within)) in
     (found.0, at_place zones n some ∙ found.1)
 
 -- and none has one behind
-pub number_within : (zones : PlainPolicy) (n : ℕ) (zone : PlainZone) → 1 ≤ n → zone_at zones n ≡ Some zone → n ≤ length zones
+pub number_within : (zones : PlainZones) (n : ℕ) (zone : PlainZone) → 1 ≤ n → zone_at zones n ≡ Some zone → n ≤ length zones
 number_within zones n zone some e =
     let lt : n - 1 < length zones = slice_get_within zones (n - 1) zone (sym (at_place zones n some) ∙ e) in
     omega (arith, lt, some)
 
-module _ (zones : PlainPolicy) (number n : ℕ) (new : PlainZone) (low : 1 ≤ number) (some : 1 ≤ n) where
+module _ (zones : PlainZones) (number n : ℕ) (new : PlainZone) (low : 1 ≤ number) (some : 1 ≤ n) where
   -- the new zone has its number
   pub is_new : (n == number) ≡ true → number ≤ length zones → zone_at (slice_set zones (number - 1) new) n ≡ Some new
   is_new at within =

@@ -38,7 +38,7 @@ use Rattle.zone_rows.specs.declared.zone.Content.{Content}
 use Rattle.zone_rows.specs.declared.zone.PlainZone.{PlainZone}
 use Rattle.policy_snapshot.specs.Listing.{AreSameElsewhere, IsThere, KnowsPatterns, ZonesHave, has_pattern, is_of_patterns, pattern_of_kind, pattern_trigger, zones_after, zones_before}
 use Rattle.policy_snapshot.specs.Lookup.{has_kind_in}
-use Rattle.policy_snapshot.specs.Policy.{PlainPolicy, zone_at}
+use Rattle.policy_snapshot.specs.Policy.{PlainZones, zone_at}
 use Rattle.policy_snapshot.specs.Summed.{content_entries}
 use Rattle.policy_snapshot.specs.declared.new_zone.NewZone.{NewZone}
 use Rattle.policy_snapshot.proofs.ListedRules.{EditedTo, HaveSome, ListedTo, StandEach, edited_here, edited_next, edited_none, have_after, known_as_before, known_listed, known_unlisted, listed_all, listed_more, listed_none, listed_past, marked_at, no_zone, nothing_at, stand_edited, stand_relisted}
@@ -249,7 +249,7 @@ limit : (next : NewZone) → IsThere next → next.number ≤ 32
 limit next there = omega (arith, there.within, there.limit)
 
 -- at each pattern stand those of the first so many zones that have a rule there
-abbrev pub NamesTo : Kind → PlainPolicy → ℕ → List (OctetFound ℕ Bool) → Type 0
+abbrev pub NamesTo : Kind → PlainZones → ℕ → List (OctetFound ℕ Bool) → Type 0
 NamesTo kind zones k entries = ListedTo pattern_order IsPattern (rules_in kind) zones k (λ p n. has_zone (zones_by_key (pattern_key p) entries) n)
 
 -- the zone stands at the patterns of these triggers as it has rules now; all else is as before
@@ -280,20 +280,20 @@ names_edited_more kind next before after last triggers k t lt is edited with =
     edited with
 
 module _ (kind : Kind) (of : is_of_patterns kind ≡ true) where
-  having_some : (zones : PlainPolicy) (having : ℕ) → ZonesHave kind zones having → HaveSome pattern_order IsPattern (rules_in kind) zones having
+  having_some : (zones : PlainZones) (having : ℕ) → ZonesHave kind zones having → HaveSome pattern_order IsPattern (rules_in kind) zones having
   having_some zones having have n zone some within e = have.each n zone some within e ∙ some_of kind zone of
 
   -- a kind that isn't listed
-  pub names_unlisted : (zones : PlainPolicy) (s : PlainSummary PlainPattern) → ZonesHave kind zones s.having → s.is_listed ≡ false → KnowsPatterns kind zones s
+  pub names_unlisted : (zones : PlainZones) (s : PlainSummary PlainPattern) → ZonesHave kind zones s.having → s.is_listed ≡ false → KnowsPatterns kind zones s
   names_unlisted zones s have unlisted = record { each = known_unlisted pattern_order IsPattern (rules_in kind) zones s (having_some zones s.having have) unlisted }
 
   -- one that is
-  pub names_listed : (zones : PlainPolicy) (s : PlainSummary PlainPattern) → ZonesHave kind zones s.having
+  pub names_listed : (zones : PlainZones) (s : PlainSummary PlainPattern) → ZonesHave kind zones s.having
       → StandEach pattern_order IsPattern (rules_in kind) zones (λ p n. has_zone (zones_at pattern_order p s.triggers) n) → KnowsPatterns kind zones s
   names_listed zones s have stand = record { each = known_listed pattern_order IsPattern (rules_in kind) zones s (having_some zones s.having have) stand }
 
   -- one that is listed from entries
-  pub names_from : (zones : PlainPolicy) (s : PlainSummary PlainPattern) (entries : List (OctetFound ℕ Bool)) → ZonesHave kind zones s.having
+  pub names_from : (zones : PlainZones) (s : PlainSummary PlainPattern) (entries : List (OctetFound ℕ Bool)) → ZonesHave kind zones s.having
       → ((p : PlainPattern) → IsKey p → zones_at pattern_order p s.triggers ≡ zones_by_key (pattern_key p) entries)
       → StandEach pattern_order IsPattern (rules_in kind) zones (λ p n. has_zone (zones_by_key (pattern_key p) entries) n) → KnowsPatterns kind zones s
   names_from zones s entries have at stand =
@@ -346,13 +346,13 @@ module _ (kind : Kind) (of : is_of_patterns kind ≡ true) where
 
   -- ---- listed from all zones
 
-  pub names_none : (zones : PlainPolicy) (entries : List (OctetFound ℕ Bool)) → entries ≡ [] → NamesTo kind zones 0 entries
+  pub names_none : (zones : PlainZones) (entries : List (OctetFound ℕ Bool)) → entries ≡ [] → NamesTo kind zones 0 entries
   names_none zones entries empty =
       listed_none pattern_order IsPattern (rules_in kind) zones (λ p n. has_zone (zones_by_key (pattern_key p) entries) n)
       (λ p n. ap (λ es. has_zone (zones_by_key (pattern_key p) es) n) empty ∙ no_zone n)
 
   -- and those of the next zone
-  pub names_more : (zones : PlainPolicy) (k number : ℕ) (new : PlainZone) (entries first after last : List (OctetFound ℕ Bool)) → first ≡ entries → last ≡ after → number ≡ k → zone_at zones (number + 1) ≡ Some new
+  pub names_more : (zones : PlainZones) (k number : ℕ) (new : PlainZone) (entries first after last : List (OctetFound ℕ Bool)) → first ≡ entries → last ≡ after → number ≡ k → zone_at zones (number + 1) ≡ Some new
       → NamesTo kind zones k entries
       → ((p : PlainPattern) → IsPattern p → (n : ℕ) → 1 ≤ n → n ≤ 32 → has_zone (zones_by_key (pattern_key p) after) n ≡ (has_zone (zones_by_key (pattern_key p) first) n || (n == (number + 1) && has_pattern kind new p)))
       → NamesTo kind zones (k + 1) last
@@ -366,7 +366,7 @@ module _ (kind : Kind) (of : is_of_patterns kind ≡ true) where
       ∙ ap (λ (m : ℕ). has_zone (zones_by_key (pattern_key p) entries) n || (n == (m + 1) && has_pattern kind new p)) count)
 
   -- the next zone has none
-  pub names_past : (zones : PlainPolicy) (having k number : ℕ) (entries last : List (OctetFound ℕ Bool)) → last ≡ entries → number ≡ k → k < length zones → length zones ≤ 32 → ZonesHave kind zones having
+  pub names_past : (zones : PlainZones) (having k number : ℕ) (entries last : List (OctetFound ℕ Bool)) → last ≡ entries → number ≡ k → k < length zones → length zones ≤ 32 → ZonesHave kind zones having
       → has_zone having (number + 1) ≡ false → NamesTo kind zones k entries → NamesTo kind zones (k + 1) last
   names_past zones having k number entries last equal count lt limit have none before =
       let new = some_there zones (k + 1) (omega arith) (omega (arith, lt)) in
@@ -375,7 +375,7 @@ module _ (kind : Kind) (of : is_of_patterns kind ≡ true) where
       subst (NamesTo kind zones (k + 1)) (sym equal) (listed_past pattern_order IsPattern (rules_in kind) zones k new.0 (λ p n. has_zone (zones_by_key (pattern_key p) entries) n) new.1 no_rule before)
 
   -- all zones
-  pub names_all : (zones : PlainPolicy) (k : ℕ) (entries last : List (OctetFound ℕ Bool)) → last ≡ entries → length zones ≤ k → NamesTo kind zones k entries
+  pub names_all : (zones : PlainZones) (k : ℕ) (entries last : List (OctetFound ℕ Bool)) → last ≡ entries → length zones ≤ k → NamesTo kind zones k entries
       → (t : PlainSummary PlainPattern) (having : ℕ) → ZonesHave kind zones having → t.having ≡ having
       → ((p : PlainPattern) → IsKey p → zones_at pattern_order p t.triggers ≡ zones_by_key (pattern_key p) last) → KnowsPatterns kind zones t
   names_all zones k entries last equal all listed t having have is at =

@@ -26,7 +26,7 @@ use Rattle.zone_rows.specs.declared.zone.Content.{Content}
 use Rattle.zone_rows.specs.declared.zone.PlainZone.{PlainZone}
 use Rattle.policy_snapshot.specs.Listing.{AreSameElsewhere, IsThere, KnowsPrefixes, ZonesHave, has_prefix, is_of_patterns, prefix_of_kind, prefix_trigger, zones_after, zones_before}
 use Rattle.policy_snapshot.specs.Lookup.{has_kind_in}
-use Rattle.policy_snapshot.specs.Policy.{PlainPolicy, zone_at}
+use Rattle.policy_snapshot.specs.Policy.{PlainZones, zone_at}
 use Rattle.policy_snapshot.specs.Summed.{AnyPrefix, content_entries}
 use Rattle.policy_snapshot.specs.declared.new_zone.NewZone.{NewZone}
 use Rattle.policy_snapshot.proofs.KnownZones.{some_any}
@@ -185,7 +185,7 @@ pub none_sorted : (es : List (PlainPrefix × Standing)) → es ≡ [] → IsStri
 none_sorted es e = subst (λ (l : List (PlainPrefix × Standing)). IsStrictlySortedBy prefix_order (keys_of l)) (sym e) sorted_none
 
 -- Entries in order that say which of the first so many zones, up to that of a number, have a rule at each prefix.
-pub record ListsTo (kind : Kind) (zones : PlainPolicy) (number k : ℕ) (es : List (PlainPrefix × Standing)) : Type 0 where
+pub record ListsTo (kind : Kind) (zones : PlainZones) (number k : ℕ) (es : List (PlainPrefix × Standing)) : Type 0 where
   pub count : number ≡ k
   pub sorted : IsStrictlySortedBy prefix_order (keys_of es)
   pub listed : ListedTo prefix_order AnyPrefix (rules_in kind) zones k (λ p n. has_zone (zones_at prefix_order p es) n)
@@ -225,26 +225,26 @@ module _ (kind : Kind) (next : NewZone) (having : ℕ) (before : PlainSummary Pl
   }
 
 module _ (kind : Kind) (of : is_of_patterns kind ≡ false) where
-  having_some : (zones : PlainPolicy) (having : ℕ) → ZonesHave kind zones having → HaveSome prefix_order AnyPrefix (rules_in kind) zones having
+  having_some : (zones : PlainZones) (having : ℕ) → ZonesHave kind zones having → HaveSome prefix_order AnyPrefix (rules_in kind) zones having
   having_some zones having have n zone some within e = have.each n zone some within e ∙ some_of kind zone of
 
   -- a kind that isn't listed
-  pub prefixes_unlisted : (zones : PlainPolicy) (s : PlainSummary PlainPrefix) → ZonesHave kind zones s.having → s.is_listed ≡ false → KnowsPrefixes kind zones s
+  pub prefixes_unlisted : (zones : PlainZones) (s : PlainSummary PlainPrefix) → ZonesHave kind zones s.having → s.is_listed ≡ false → KnowsPrefixes kind zones s
   prefixes_unlisted zones s have unlisted = record { each = known_unlisted prefix_order AnyPrefix (rules_in kind) zones s (having_some zones s.having have) unlisted }
 
   -- one that is
-  pub prefixes_listed : (zones : PlainPolicy) (s : PlainSummary PlainPrefix) → ZonesHave kind zones s.having
+  pub prefixes_listed : (zones : PlainZones) (s : PlainSummary PlainPrefix) → ZonesHave kind zones s.having
       → StandEach prefix_order AnyPrefix (rules_in kind) zones (λ p n. has_zone (zones_at prefix_order p s.triggers) n) → KnowsPrefixes kind zones s
   prefixes_listed zones s have stand = record { each = known_listed prefix_order AnyPrefix (rules_in kind) zones s (having_some zones s.having have) stand }
 
   -- one that is listed from entries
-  pub prefixes_from : (zones : PlainPolicy) (s : PlainSummary PlainPrefix) (entries : List (PlainPrefix × Standing)) → ZonesHave kind zones s.having
+  pub prefixes_from : (zones : PlainZones) (s : PlainSummary PlainPrefix) (entries : List (PlainPrefix × Standing)) → ZonesHave kind zones s.having
       → ((p : PlainPrefix) → zones_at prefix_order p s.triggers ≡ zones_at prefix_order p entries)
       → StandEach prefix_order AnyPrefix (rules_in kind) zones (λ p n. has_zone (zones_at prefix_order p entries) n) → KnowsPrefixes kind zones s
   prefixes_from zones s entries have at stand =
       prefixes_listed zones s have (λ p is n zone some within e. ap (λ (k : ℕ). has_zone k n) (at p) ∙ stand p is n zone some within e)
 
-  pub listed_if : {E : Type 0} (zones : PlainPolicy) (having : ℕ) (entries : List (PlainPrefix × Standing)) (r : Result (PlainSummary PlainPrefix) E) → ZonesHave kind zones having → IfOk r (λ s. s.having ≡ having)
+  pub listed_if : {E : Type 0} (zones : PlainZones) (having : ℕ) (entries : List (PlainPrefix × Standing)) (r : Result (PlainSummary PlainPrefix) E) → ZonesHave kind zones having → IfOk r (λ s. s.having ≡ having)
       → IfOk r (λ s. (p : PlainPrefix) → zones_at prefix_order p s.triggers ≡ zones_at prefix_order p entries)
       → StandEach prefix_order AnyPrefix (rules_in kind) zones (λ p n. has_zone (zones_at prefix_order p entries) n) → IfOk r (KnowsPrefixes kind zones)
   listed_if zones having entries (Ok s) have same at stand = prefixes_from zones s entries (subst (ZonesHave kind zones) (sym same) have) at stand
@@ -254,7 +254,7 @@ module _ (kind : Kind) (of : is_of_patterns kind ≡ false) where
   pub no_rules_in : (zone : PlainZone) → has_kind_in kind zone.origin zone.content ≡ false → list_any (λ _. true) (rules_in kind zone) ≡ false
   no_rules_in zone none = sym (some_of kind zone of) ∙ none
 
-  pub lists_none : (zones : PlainPolicy) (es : List (PlainPrefix × Standing)) → es ≡ [] → ListsTo kind zones 0 0 es
+  pub lists_none : (zones : PlainZones) (es : List (PlainPrefix × Standing)) → es ≡ [] → ListsTo kind zones 0 0 es
   lists_none zones es e = record {
     count = refl;
     sorted = none_sorted es e;
@@ -262,7 +262,7 @@ module _ (kind : Kind) (of : is_of_patterns kind ≡ false) where
   }
 
   -- with the rules of the next zone
-  pub lists_more : (zones : PlainPolicy) (number k : ℕ) (new : PlainZone) (es given made last : List (PlainPrefix × Standing)) → ListsTo kind zones number k es → zone_at zones (number + 1) ≡ Some new → given ≡ es → last ≡ made
+  pub lists_more : (zones : PlainZones) (number k : ℕ) (new : PlainZone) (es given made last : List (PlainPrefix × Standing)) → ListsTo kind zones number k es → zone_at zones (number + 1) ≡ Some new → given ≡ es → last ≡ made
       → IsStrictlySortedBy prefix_order (keys_of made)
       → ((p : PlainPrefix) (n : ℕ) → 1 ≤ n → n ≤ 32 → has_zone (zones_at prefix_order p made) n ≡ (has_zone (zones_at prefix_order p given) n || (n == number + 1 && has_prefix kind new p)))
       → ListsTo kind zones (number + 1) (k + 1) last
@@ -283,7 +283,7 @@ module _ (kind : Kind) (of : is_of_patterns kind ≡ false) where
   pub lists_past : (next : NewZone) (number k having : ℕ) (es last : List (PlainPrefix × Standing)) → IsThere next → ZonesHave kind (zones_after next) having → k < length next.zones.now → ListsTo kind (zones_after next) number k es → last ≡ es
       → has_zone having (number + 1) ≡ false → ListsTo kind (zones_after next) (number + 1) (k + 1) last
   lists_past next number k having es last there have lt lists to none =
-      let zones : PlainPolicy = zones_after next in
+      let zones : PlainZones = zones_after next in
       let size : length zones ≡ length next.zones.now = length-set (zones_before next) (next.number - 1) next.zone.now ∙ length-map next.zones.now arc_value in
       let within : k + 1 ≤ length zones = omega (arith, lt, size) in
       let limit : number + 1 ≤ 32 = omega (arith, lists.count, lt, there.limit, length-map next.zones.now arc_value) in
@@ -302,7 +302,7 @@ module _ (kind : Kind) (of : is_of_patterns kind ≡ false) where
   pub lists_all : (next : NewZone) (number k : ℕ) (es given : List (PlainPrefix × Standing)) → ListsTo kind (zones_after next) number k es → length next.zones.now ≤ k → given ≡ es
       → StandEach prefix_order AnyPrefix (rules_in kind) (zones_after next) (λ p n. has_zone (zones_at prefix_order p given) n)
   lists_all next number k es given lists all from =
-      let zones : PlainPolicy = zones_after next in
+      let zones : PlainZones = zones_after next in
       let size : length zones ≡ length next.zones.now = length-set (zones_before next) (next.number - 1) next.zone.now ∙ length-map next.zones.now arc_value in
       subst (λ (l : List (PlainPrefix × Standing)). StandEach prefix_order AnyPrefix (rules_in kind) zones (λ p n. has_zone (zones_at prefix_order p l) n)) (sym from)
       (listed_all prefix_order AnyPrefix (rules_in kind) zones k (λ p n. has_zone (zones_at prefix_order p es) n) (omega (arith, size, all)) lists.listed)

@@ -26,7 +26,7 @@ use Rattle.policy_snapshot.specs.Rules.{PlainRule}
 use Rattle.policy_snapshot.proofs.Members.{empty, none}
 use Rattle.policy_snapshot.proofs.ListTests.{all_at, all_if, any_at, any_same, any_weaker, both, both_first, both_second}
 use Rattle.policy_snapshot.proofs.NothingPending.{IsReady}
-use Rattle.policy_snapshot.proofs.RuleRanks.{among_hits, rule_of}
+use Rattle.policy_snapshot.proofs.RuleHits.{among_hits, rule_of}
 
 -- what the laws of facts say of these and more behind, as one premise
 pub record Stays (facts more : PlainFacts) : Type 0 where

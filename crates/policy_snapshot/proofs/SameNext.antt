@@ -1,7 +1,6 @@
 -- What comes next stays the same, whatever facts come behind, where it is no question.
 use Rattle.std.proofs.Common.{◌≡◌, ℕ, Bool, true, List, [], ◌∷◌, ◌++◌, length, take, drop, Option, Some, None, refl, sym, ap, ◌∙◌, true≢false}
 use Rattle.std.specs.Prelude.{IsTrue}
-use Rattle.zone_rows.specs.declared.zone.PlainZone.{PlainZone}
 use Rattle.dns_message.specs.declared.question.Question.{Question}
 use Rattle.dns_message.specs.declared.request.Query.{Query}
 use Rattle.rpz_precedence.specs.Best.{AreHits, IsBest, PlainHit, best}
@@ -11,6 +10,7 @@ use Rattle.upstream_link.specs.Facts.{Extends, PlainFacts, fact_about}
 use Rattle.upstream_link.specs.Question.{main_question}
 use Rattle.policy_snapshot.specs.Hits.{hits}
 use Rattle.policy_snapshot.specs.Next.{Next, next, next_along, next_at, next_behind, next_in_chain, or_next, pending, unless_pending}
+use Rattle.policy_snapshot.specs.Policy.{PlainPolicy}
 use Rattle.policy_snapshot.specs.Rules.{PlainRule, rules}
 use Rattle.policy_snapshot.specs.Stands.{HaveRows}
 use Rattle.policy_snapshot.specs.Settled.{is_settled}
@@ -89,21 +89,21 @@ pub record AllLaws : Type 0 where
   pub only : (hits : List PlainHit) (found : Option PlainHit) → AreHits hits → IsBest hits found → found ≡ best hits
   pub stays : (facts more : PlainFacts) → Extends facts more → Stays facts more
 
-module _ (laws : AllLaws) (zones : List PlainZone) (query : Query) where
-  best_hits : (facts : PlainFacts) → HaveRows zones → BestHits (rules zones) query facts
+module _ (laws : AllLaws) (policy : PlainPolicy) (query : Query) where
+  best_hits : (facts : PlainFacts) → HaveRows policy.zones → BestHits (rules policy) query facts
   best_hits facts rows = record {
-    is = λ position name. laws.is (hits (rules zones) query facts position name);
-    only = λ position name found. laws.only (hits (rules zones) query facts position name) found (are_hits laws.zone_laws query facts position name zones rows);
+    is = λ position name. laws.is (hits (rules policy) query facts position name);
+    only = λ position name found. laws.only (hits (rules policy) query facts position name) found (are_hits laws.zone_laws query facts position name policy rows);
   }
 
   module _ (facts more : PlainFacts) where
-    pub best_by_laws : (position : ℕ) (name : List (List ℕ)) → HaveRows zones → Extends facts more → pending (rules zones) query facts name (best (hits (rules zones) query facts position name)) ≡ None
-        → best (hits (rules zones) query more position name) ≡ best (hits (rules zones) query facts position name)
-    best_by_laws position name rows extends = best_stays (rules zones) query facts more (laws.stays facts more extends) (best_hits facts rows) (best_hits more rows) position name
+    pub best_by_laws : (position : ℕ) (name : List (List ℕ)) → HaveRows policy.zones → Extends facts more → pending (rules policy) query facts name (best (hits (rules policy) query facts position name)) ≡ None
+        → best (hits (rules policy) query more position name) ≡ best (hits (rules policy) query facts position name)
+    best_by_laws position name rows extends = best_stays (rules policy) query facts more (laws.stays facts more extends) (best_hits facts rows) (best_hits more rows) position name
 
-    pub none_by_laws : (position : ℕ) (name : List (List ℕ)) → HaveRows zones → Extends facts more → pending (rules zones) query facts name (best (hits (rules zones) query facts position name)) ≡ None
-        → pending (rules zones) query more name (best (hits (rules zones) query more position name)) ≡ None
-    none_by_laws position name rows extends = none_stays (rules zones) query facts more (laws.stays facts more extends) (best_hits facts rows) (best_hits more rows) position name
+    pub none_by_laws : (position : ℕ) (name : List (List ℕ)) → HaveRows policy.zones → Extends facts more → pending (rules policy) query facts name (best (hits (rules policy) query facts position name)) ≡ None
+        → pending (rules policy) query more name (best (hits (rules policy) query more position name)) ≡ None
+    none_by_laws position name rows extends = none_stays (rules policy) query facts more (laws.stays facts more extends) (best_hits facts rows) (best_hits more rows) position name
 
-    pub next_by_laws : HaveRows zones → Extends facts more → IsTrue (is_settled (next zones query facts)) → next zones query more ≡ next zones query facts
-    next_by_laws rows extends = next_stays (rules zones) query facts more (laws.stays facts more extends) (best_hits facts rows) (best_hits more rows)
+    pub next_by_laws : HaveRows policy.zones → Extends facts more → IsTrue (is_settled (next policy query facts)) → next policy query more ≡ next policy query facts
+    next_by_laws rows extends = next_stays (rules policy) query facts more (laws.stays facts more extends) (best_hits facts rows) (best_hits more rows)

@@ -20,17 +20,20 @@ use Rattle.zone_rows.specs.Repeats.{without_repeats}
 use Rattle.zone_rows.specs.Steps.{steps_outcome}
 use Rattle.zone_rows.specs.Zone.{Fails, Gives, newer_soa, fewer_rows, apply_outcome, apply_outcome_within}
 use Rattle.zone_index.specs.Indexed.{HasRows}
+use Rattle.policy_override.specs.declared.overrides.Override.{Override}
+use Rattle.policy_override.specs.declared.zone_set.ZoneSet.{ZoneSet}
+use Rattle.policy_override.specs.ZoneSet.{origins_in}
 use Rattle.policy_snapshot.specs.declared.entry.Entry.{Entry}
-use Rattle.policy_snapshot.specs.Policy.{AreAccepted, AreTaken, TakesTransfer, PlainPolicy, zone_at, zone_by, zone_after, with_zone_after, policy_with, policy_after}
+use Rattle.policy_snapshot.specs.Policy.{AreAccepted, AreTaken, TakesTransfer, PlainZones, zone_at, zone_by, zone_after, with_zone_after, zones_with, zones_behind}
 use Rattle.policy_snapshot.specs.Stands.{HaveRows, PlainSnapshot, Stands, next_count, count_of, origins_of, with_zone}
 
-pub policy_after-push : (origins : List (List (List ℕ))) (entries : List Entry) (entry : Entry) → policy_after origins (entries ++ entry ∷ []) ≡ policy_with (policy_after origins entries) entry
-unfolding policy_after
-policy_after-push origins entries entry = fold_push policy_with (map unloaded origins) entries entry
+pub zones_behind-push : (origins : List (List (List ℕ))) (entries : List Entry) (entry : Entry) → zones_behind origins (entries ++ entry ∷ []) ≡ zones_with (zones_behind origins entries) entry
+unfolding zones_behind
+zones_behind-push origins entries entry = fold_push zones_with (map unloaded origins) entries entry
 
-pub policy_after-none : (origins : List (List (List ℕ))) → policy_after origins [] ≡ map unloaded origins
-unfolding policy_after
-policy_after-none origins = refl
+pub zones_behind-none : (origins : List (List (List ℕ))) → zones_behind origins [] ≡ map unloaded origins
+unfolding zones_behind
+zones_behind-none origins = refl
 
 origin_if : (zone next : PlainZone) (soa : Result Soa ApplyFault) (rows : Result (List PlainRow) ApplyFault) → (soa >>= λ newer. rows >>= λ kept. Ok (record { origin = zone.origin; content = Some (record { soa = newer; rows = kept }) })) ≡ Ok next → next.origin ≡ zone.origin
 origin_if zone next (Ok soa) (Ok rows) e = let same : record { origin = zone.origin; content = Some (record { soa = soa; rows = rows }) } ≡ next = cc in sym (ap (λ (z : PlainZone). z.origin) same)
@@ -64,46 +67,46 @@ count_next : (n : ℕ) → next_count (count_of n) ≡ count_of (n + 1)
 count_next n = grind (arith, nat_tests)
 
 with_next : (zones : List PlainZone) (number : ℕ) (transfer : Transfer) (zone next : PlainZone) → zone_at zones number ≡ Some zone → apply_outcome zone transfer ≡ Ok next
-    → policy_with zones (record { zone = number; transfer = transfer }) ≡ slice_set zones (number - 1) next
+    → zones_with zones (record { zone = number; transfer = transfer }) ≡ slice_set zones (number - 1) next
 with_next zones number transfer zone next at e =
     ap (with_zone_after zones (record { zone = number; transfer = transfer })) at ∙ ap (λ (o : Result PlainZone ApplyFault). slice_set zones (number - 1) (zone_by zone o)) e
 
 -- the snapshot with the next zone stands for the list with the entry
 pub stands_next : (old : PlainSnapshot) (entries : List Entry) (number : ℕ) (transfer : Transfer) (zone next : PlainZone) → Stands old entries → zone_at old.zones number ≡ Some zone → apply_outcome zone transfer ≡ Ok next
-    → Stands (record { zones = slice_set old.zones (number - 1) next; accepted = next_count old.accepted }) (entries ++ record { zone = number; transfer = transfer } ∷ [])
+    → Stands (record { zones = slice_set old.zones (number - 1) next; overrides = old.overrides; accepted = next_count old.accepted }) (entries ++ record { zone = number; transfer = transfer } ∷ [])
 stands_next old entries number transfer zone next stands at e =
     let entry : Entry = record { zone = number; transfer = transfer } in
     let origins = origins_set old.zones (number - 1) zone next (place_of old.zones number zone at) (origin_stays zone next transfer e) in
     record {
       zones =
           sym (with_next old.zones number transfer zone next at e)
-          ∙ ap (λ (p : PlainPolicy). policy_with p entry) stands.zones
-          ∙ sym (policy_after-push (origins_of old.zones) entries entry)
-          ∙ ap (λ (o : List (List (List ℕ))). policy_after o (entries ++ entry ∷ [])) (sym origins);
+          ∙ ap (λ (p : PlainZones). zones_with p entry) stands.zones
+          ∙ sym (zones_behind-push (origins_of old.zones) entries entry)
+          ∙ ap (λ (o : List (List (List ℕ))). zones_behind o (entries ++ entry ∷ [])) (sym origins);
       accepted = ap next_count stands.accepted ∙ count_next (length entries) ∙ ap count_of (sym (length-append entries (entry ∷ [])));
     }
 
 -- one more transfer, as an entry of the list
-pub policy_next : (origins : List (List (List ℕ))) (entries : List Entry) (number : ℕ) (transfer : Transfer) (zone next : PlainZone) → zone_at (policy_after origins entries) number ≡ Some zone → apply_outcome zone transfer ≡ Ok next
-    → policy_after origins (entries ++ record { zone = number; transfer = transfer } ∷ []) ≡ slice_set (policy_after origins entries) (number - 1) next
+pub policy_next : (origins : List (List (List ℕ))) (entries : List Entry) (number : ℕ) (transfer : Transfer) (zone next : PlainZone) → zone_at (zones_behind origins entries) number ≡ Some zone → apply_outcome zone transfer ≡ Ok next
+    → zones_behind origins (entries ++ record { zone = number; transfer = transfer } ∷ []) ≡ slice_set (zones_behind origins entries) (number - 1) next
 policy_next origins entries number transfer zone next at e =
-    policy_after-push origins entries (record { zone = number; transfer = transfer }) ∙ with_next (policy_after origins entries) number transfer zone next at e
+    zones_behind-push origins entries (record { zone = number; transfer = transfer }) ∙ with_next (zones_behind origins entries) number transfer zone next at e
 
 -- ---- lists of accepted transfers
 
-taken_push : (policy : PlainPolicy) (entries : List Entry) (entry : Entry) → AreTaken policy entries → TakesTransfer (zone_at (fold policy_with policy entries) entry.zone) entry.transfer → AreTaken policy (entries ++ entry ∷ [])
+taken_push : (policy : PlainZones) (entries : List Entry) (entry : Entry) → AreTaken policy entries → TakesTransfer (zone_at (fold zones_with policy entries) entry.zone) entry.transfer → AreTaken policy (entries ++ entry ∷ [])
 taken_push policy [] entry are takes = (takes, tt)
-taken_push policy (first ∷ entries) entry are takes = (are.0, taken_push (policy_with policy first) entries entry are.1 takes)
+taken_push policy (first ∷ entries) entry are takes = (are.0, taken_push (zones_with policy first) entries entry are.1 takes)
 
 takes_at : (found : Option PlainZone) (zone next : PlainZone) (transfer : Transfer) → found ≡ Some zone → apply_outcome zone transfer ≡ Ok next → TakesTransfer found transfer
 takes_at found zone next transfer at e = subst (λ (o : Option PlainZone). TakesTransfer o transfer) (sym at) (next, e)
 
 -- one more transfer is accepted where its zone takes it
-pub accepted_next : (origins : List (List (List ℕ))) (entries : List Entry) (number : ℕ) (transfer : Transfer) (zone next : PlainZone) → AreAccepted origins entries → zone_at (policy_after origins entries) number ≡ Some zone → apply_outcome zone transfer ≡ Ok next
+pub accepted_next : (origins : List (List (List ℕ))) (entries : List Entry) (number : ℕ) (transfer : Transfer) (zone next : PlainZone) → AreAccepted origins entries → zone_at (zones_behind origins entries) number ≡ Some zone → apply_outcome zone transfer ≡ Ok next
     → AreAccepted origins (entries ++ record { zone = number; transfer = transfer } ∷ [])
-unfolding policy_after
+unfolding zones_behind
 accepted_next origins entries number transfer zone next are at e =
-    taken_push (map unloaded origins) entries (record { zone = number; transfer = transfer }) are (takes_at (zone_at (policy_after origins entries) number) zone next transfer at e)
+    taken_push (map unloaded origins) entries (record { zone = number; transfer = transfer }) are (takes_at (zone_at (zones_behind origins entries) number) zone next transfer at e)
 
 pub count_after : (n : ℕ) → next_count (count_of n) ≡ count_of (n + 1)
 count_after n = count_next n
@@ -112,13 +115,18 @@ length_with : (zones : List PlainZone) (entry : Entry) (found : Option PlainZone
 length_with zones entry None = refl
 length_with zones entry (Some zone) = length-set zones (entry.zone - 1) (zone_after zone entry.transfer)
 
-length_fold : (zones : List PlainZone) (entries : List Entry) → length (fold policy_with zones entries) ≡ length zones
+length_fold : (zones : List PlainZone) (entries : List Entry) → length (fold zones_with zones entries) ≡ length zones
 length_fold zones [] = refl
-length_fold zones (entry ∷ entries) = length_fold (policy_with zones entry) entries ∙ length_with zones entry (zone_at zones entry.zone)
+length_fold zones (entry ∷ entries) = length_fold (zones_with zones entry) entries ∙ length_with zones entry (zone_at zones entry.zone)
 
-pub policy_length : (origins : List (List (List ℕ))) (entries : List Entry) → length (policy_after origins entries) ≡ length origins
-unfolding policy_after
+pub policy_length : (origins : List (List (List ℕ))) (entries : List Entry) → length (zones_behind origins entries) ≡ length origins
+unfolding zones_behind
 policy_length origins entries = length_fold (map unloaded origins) entries ∙ length-map origins unloaded
+
+-- the zones of settings, with nothing loaded
+pub unloaded_in : (settings : List ZoneSet) → map (λ (s : ZoneSet). unloaded s.origin) settings ≡ map unloaded (origins_in settings)
+unloaded_in [] = refl
+unloaded_in (set ∷ settings) = ap (λ (zones : List PlainZone). unloaded set.origin ∷ zones) (unloaded_in settings)
 
 -- ---- rows that are rows
 
@@ -150,8 +158,9 @@ module _ {Y : Type 0} (g : Y → PlainZone) where
       ap (λ (z : List PlainZone). zone_at z number) (sym are) ∙ found ∙ ap Some (sym is_seen)
 
   -- the zones and the count are those of the snapshot with the next zone
-  pub record IsNext (old : PlainSnapshot) (items made : List Y) (accepted count number : ℕ) (transfer : Transfer) (item : Y) (seen next : PlainZone) : Type 0 where
-    pub view : record { zones = map g items; accepted = accepted } ≡ old
+  pub record IsNext (old : PlainSnapshot) (items made : List Y) (overrides carried : List Override) (accepted count number : ℕ) (transfer : Transfer) (item : Y) (seen next : PlainZone) : Type 0 where
+    pub view : record { zones = map g items; overrides = overrides; accepted = accepted } ≡ old
+    pub carried_is : overrides ≡ carried
     pub some : IsSome (zone_at old.zones number)
     pub is_item : item ≡ get_or items (number - 1) item
     pub is_seen : seen ≡ g item
@@ -159,7 +168,7 @@ module _ {Y : Type 0} (g : Y → PlainZone) where
     pub set : map g made ≡ slice_set (map g items) (number - 1) next
     pub counted : next_count accepted ≡ count
 
-  module _ (old : PlainSnapshot) (items made : List Y) (accepted count number : ℕ) (transfer : Transfer) (item : Y) (seen next : PlainZone) (is : IsNext old items made accepted count number transfer item seen next) where
+  module _ (old : PlainSnapshot) (items made : List Y) (overrides carried : List Override) (accepted count number : ℕ) (transfer : Transfer) (item : Y) (seen next : PlainZone) (is : IsNext old items made overrides carried accepted count number transfer item seen next) where
     zones_are : map g items ≡ old.zones
     zones_are = ap (λ (s : PlainSnapshot). s.zones) is.view
 
@@ -167,16 +176,17 @@ module _ {Y : Type 0} (g : Y → PlainZone) where
     seen_at = seen_there old.zones items number item seen zones_are is.some is.is_item is.is_seen
 
     abbrev set_next : PlainSnapshot
-    set_next = record { zones = slice_set old.zones (number - 1) next; accepted = next_count old.accepted }
+    set_next = record { zones = slice_set old.zones (number - 1) next; overrides = old.overrides; accepted = next_count old.accepted }
 
     abbrev made_next : PlainSnapshot
-    made_next = record { zones = map g made; accepted = count }
+    made_next = record { zones = map g made; overrides = carried; accepted = count }
 
     same_next : set_next ≡ made_next
     same_next =
         let new_zones : slice_set old.zones (number - 1) next ≡ map g made = ap (λ (z : List PlainZone). slice_set z (number - 1) next) (sym zones_are) ∙ sym is.set in
         let new_count : next_count old.accepted ≡ count = ap next_count (sym (ap (λ (s : PlainSnapshot). s.accepted) is.view)) ∙ is.counted in
-        λ i. record { zones = new_zones i; accepted = new_count i }
+        let new_overrides : old.overrides ≡ carried = sym (ap (λ (s : PlainSnapshot). s.overrides) is.view) ∙ is.carried_is in
+        λ i. record { zones = new_zones i; overrides = new_overrides i; accepted = new_count i }
 
     pub stands_after : (entries : List Entry) → Stands old entries → Stands made_next (entries ++ record { zone = number; transfer = transfer } ∷ [])
     stands_after entries stands =

@@ -1,5 +1,5 @@
 -- Servers and their addresses don't matter where no zone has rules about them.
-use Rattle.std.proofs.Common.{◌≡◌, ℕ, ◌+◌, Bool, true, false, ◌&&◌, ◌||◌, Option, Some, None, List, [], ◌∷◌, refl, sym, ap, subst, ◌∙◌, append-nil, arith, true≢false}
+use Rattle.std.proofs.Common.{◌≡◌, ℕ, ◌+◌, Bool, true, false, ◌&&◌, ◌||◌, Option, Some, None, List, [], ◌∷◌, refl, sym, ap, subst, ◌∙◌, append-nil, arith, true≢false, cond}
 use Rattle.std.specs.List.{Contains, flat_map}
 use Rattle.std.specs.Option.{option_map}
 use Rattle.std.specs.Prelude.{All, fold}
@@ -19,8 +19,12 @@ use Rattle.upstream_link.specs.Facts.{PlainFacts}
 use Rattle.upstream_link.specs.Known.{AreInOrder, AreListsOf, HaveSameMembers}
 use Rattle.upstream_link.specs.Servers.{addresses_of, servers}
 use Rattle.rpz_precedence.specs.Best.{PlainHit, AreHits, IsBest, best}
-use Rattle.policy_snapshot.specs.Lookup.{entry_hit, or_hit, better, best_over, client_hit, server_hit, address_hit, content_hit, zones_hit, has_kind_in, zones_need, AreListsIf}
+use Rattle.policy_snapshot.specs.Lookup.{entry_hit, or_hit, better, best_over, client_hit, server_hit, address_hit, content_hit, hit_under, ruled_hit, zones_hit, has_kind_in, zones_need, AreListsIf}
 use Rattle.policy_snapshot.specs.Hits.{hits}
+use Rattle.policy_override.specs.declared.overrides.Override.{Override}
+use Rattle.policy_override.specs.Override.{is_ruling}
+use Rattle.policy_override.specs.Overrides.{over_at}
+use Rattle.policy_snapshot.specs.Policy.{PlainPolicy}
 use Rattle.policy_snapshot.specs.Rules.{rules}
 use Rattle.policy_snapshot.specs.Sight.{PlainSight, sight_of}
 use Rattle.policy_snapshot.specs.Stands.{HaveRows}
@@ -61,6 +65,11 @@ with_true : (a : Bool) → (a && true) ≡ false → a ≡ false
 with_true true e = absurd (true≢false e)
 with_true false e = refl
 
+-- what is found under an override is the same, where the zone isn't disabled and has rules that could make a difference, or none
+same_under : (b has : Bool) (over : Override) (x y : Option PlainHit) → (has && (b && true)) ≡ false → (has ≡ false → x ≡ y) → cond b (option_map (hit_under over) x) None ≡ cond b (option_map (hit_under over) y) None
+same_under true has over x y e same = ap (option_map (hit_under over)) (same (with_true has e))
+same_under false has over x y e same = refl
+
 -- what an index finds, from what it finds by servers and by their addresses
 abbrev found_by : ℕ → PlainRecord → PlainSight → PlainRules → Option PlainHit → Option PlainHit → Option PlainHit
 found_by number soa sight rules server address =
@@ -86,17 +95,23 @@ module _ (s : PlainSight) where
       ap (λ (h : Option PlainHit). found_by number soa s rules h (best_over (address_hit s.position number soa rules) s.addresses))
       (no_servers s.position number soa rules all e ∙ sym (no_servers s.position number soa rules s.servers e))
 
-  same_by_addresses : (all : List Addr) (number : ℕ) (zones : List PlainZone) → zones_need NsIp number None zones ≡ false → zones_hit number (with_addresses s all) zones ≡ zones_hit number s zones
-  same_by_addresses all number [] e = refl
-  same_by_addresses all number (zone ∷ zones) e =
-      let parts = either_false (has_kind_in NsIp zone.origin zone.content && true) (zones_need NsIp (number + 1) None zones) e in
-      λ i. or_hit (same_address_hit number all zone.origin zone.content (with_true (has_kind_in NsIp zone.origin zone.content) parts.0) i) (same_by_addresses all (number + 1) zones parts.1 i)
+  same_by_addresses : (all : List Addr) (overrides : List Override) (number : ℕ) (zones : List PlainZone) → zones_need overrides NsIp number None zones ≡ false → zones_hit overrides number (with_addresses s all) zones ≡ zones_hit overrides number s zones
+  same_by_addresses all overrides number [] e = refl
+  same_by_addresses all overrides number (zone ∷ zones) e =
+      let has = has_kind_in NsIp zone.origin zone.content in
+      let over = over_at overrides number in
+      let parts = either_false (has && (is_ruling over && true)) (zones_need overrides NsIp (number + 1) None zones) e in
+      let here : ruled_hit overrides number (with_addresses s all) zone ≡ ruled_hit overrides number s zone = same_under (is_ruling over) has over (content_hit number (with_addresses s all) zone.origin zone.content) (content_hit number s zone.origin zone.content) parts.0 (same_address_hit number all zone.origin zone.content) in
+      λ i. or_hit (here i) (same_by_addresses all overrides (number + 1) zones parts.1 i)
 
-  same_by_servers : (all : List (List (List (List ℕ)))) (number : ℕ) (zones : List PlainZone) → zones_need NsDname number None zones ≡ false → zones_hit number (with_servers s all) zones ≡ zones_hit number s zones
-  same_by_servers all number [] e = refl
-  same_by_servers all number (zone ∷ zones) e =
-      let parts = either_false (has_kind_in NsDname zone.origin zone.content && true) (zones_need NsDname (number + 1) None zones) e in
-      λ i. or_hit (same_server_hit number all zone.origin zone.content (with_true (has_kind_in NsDname zone.origin zone.content) parts.0) i) (same_by_servers all (number + 1) zones parts.1 i)
+  same_by_servers : (all : List (List (List (List ℕ)))) (overrides : List Override) (number : ℕ) (zones : List PlainZone) → zones_need overrides NsDname number None zones ≡ false → zones_hit overrides number (with_servers s all) zones ≡ zones_hit overrides number s zones
+  same_by_servers all overrides number [] e = refl
+  same_by_servers all overrides number (zone ∷ zones) e =
+      let has = has_kind_in NsDname zone.origin zone.content in
+      let over = over_at overrides number in
+      let parts = either_false (has && (is_ruling over && true)) (zones_need overrides NsDname (number + 1) None zones) e in
+      let here : ruled_hit overrides number (with_servers s all) zone ≡ ruled_hit overrides number s zone = same_under (is_ruling over) has over (content_hit number (with_servers s all) zone.origin zone.content) (content_hit number s zone.origin zone.content) parts.0 (same_server_hit number all zone.origin zone.content) in
+      λ i. or_hit (here i) (same_by_servers all overrides (number + 1) zones parts.1 i)
 
 -- ---- what code looks at
 
@@ -106,10 +121,10 @@ itself xs = λ x. (λ at. at, λ at. at)
 alone : {X : Type 0} (xs : List X) → HaveSameMembers (flat_map (λ list. list) (xs ∷ [])) xs
 alone xs = λ x. (subst (λ l. Contains l x) (append-nil xs), subst (λ l. Contains l x) (sym (append-nil xs)))
 
-module _ (laws : Laws) (zone_laws : ZoneLaws) (query : Query) (facts : PlainFacts) (position : ℕ) (name : List (List ℕ)) (zones : List PlainZone) (rows : HaveRows zones)
+module _ (laws : Laws) (zone_laws : ZoneLaws) (query : Query) (facts : PlainFacts) (position : ℕ) (name : List (List ℕ)) (policy : PlainPolicy) (rows : HaveRows policy.zones)
     (only : (all : List PlainHit) (found : Option PlainHit) → AreHits all → IsBest all found → found ≡ best all) where
   abbrev Found : List (List (List (List ℕ))) → List Addr → Type 0
-  Found lists all = zones_hit 1 (sight_of query facts position name lists all) zones ≡ best (hits (rules zones) query facts position name)
+  Found lists all = zones_hit policy.overrides 1 (sight_of query facts position name lists all) policy.zones ≡ best (hits (rules policy) query facts position name)
 
   -- the servers and addresses that are known, as they stand in the definitions
   abbrev own_names : List (List (List (List ℕ)))
@@ -119,27 +134,27 @@ module _ (laws : Laws) (zone_laws : ZoneLaws) (query : Query) (facts : PlainFact
   own_addresses = addresses_of facts (servers facts name)
 
   by_all : (lists : List (List (List (List ℕ)))) (all : List Addr) → AreListsOf lists (servers facts name) → HaveSameMembers all (addresses_of facts (servers facts name)) → Found lists all
-  by_all lists all are same = found_is_best laws query facts position name lists all are.same same zone_laws zones rows only
+  by_all lists all are same = found_is_best laws query facts position name lists all are.same same zone_laws policy rows only
 
-  by_kinds : (has_names has_addresses : Bool) → zones_need NsDname 1 None zones ≡ has_names → zones_need NsIp 1 None zones ≡ has_addresses → (lists : List (List (List (List ℕ)))) (all : List Addr)
+  by_kinds : (has_names has_addresses : Bool) → zones_need policy.overrides NsDname 1 None policy.zones ≡ has_names → zones_need policy.overrides NsIp 1 None policy.zones ≡ has_addresses → (lists : List (List (List (List ℕ)))) (all : List Addr)
       → AreListsIf (has_names || has_addresses) lists (servers facts name) → (has_addresses ≡ true → (found : List (List (List ℕ))) → AreListsOf lists found → HaveSameMembers all (addresses_of facts found)) → (has_addresses ≡ false → all ≡ [])
       → Found lists all
   by_kinds true true d i lists all are same none = by_all lists all are (same refl (servers facts name) are)
   by_kinds false true d i lists all are same none = by_all lists all are (same refl (servers facts name) are)
   by_kinds true false d i lists all are same none =
-      ap (λ (l : List Addr). zones_hit 1 (sight_of query facts position name lists l) zones) (none refl)
-      ∙ same_by_addresses (sight_of query facts position name lists own_addresses) [] 1 zones i
+      ap (λ (l : List Addr). zones_hit policy.overrides 1 (sight_of query facts position name lists l) policy.zones) (none refl)
+      ∙ same_by_addresses (sight_of query facts position name lists own_addresses) [] policy.overrides 1 policy.zones i
       ∙ by_all lists own_addresses are (itself own_addresses)
   by_kinds false false d i lists all are same none =
-      (λ k. zones_hit 1 (sight_of query facts position name (are k) (none refl k)) zones)
-      ∙ same_by_servers (sight_of query facts position name own_names []) [] 1 zones d
-      ∙ same_by_addresses (sight_of query facts position name own_names own_addresses) [] 1 zones i
-      ∙ found_is_best laws query facts position name own_names own_addresses (alone (servers facts name)) (itself own_addresses) zone_laws zones rows only
+      (λ k. zones_hit policy.overrides 1 (sight_of query facts position name (are k) (none refl k)) policy.zones)
+      ∙ same_by_servers (sight_of query facts position name own_names []) [] policy.overrides 1 policy.zones d
+      ∙ same_by_addresses (sight_of query facts position name own_names own_addresses) [] policy.overrides 1 policy.zones i
+      ∙ found_is_best laws query facts position name own_names own_addresses (alone (servers facts name)) (itself own_addresses) zone_laws policy rows only
 
   -- the hit of what code looks at is the best one
-  pub found : (lists : List (List (List (List ℕ)))) (all : List Addr) → AreListsIf (zones_need NsDname 1 None zones || zones_need NsIp 1 None zones) lists (servers facts name)
-      → (zones_need NsIp 1 None zones ≡ true → (found : List (List (List ℕ))) → AreListsOf lists found → HaveSameMembers all (addresses_of facts found)) → (zones_need NsIp 1 None zones ≡ false → all ≡ []) → Found lists all
-  found lists all are same none = by_kinds (zones_need NsDname 1 None zones) (zones_need NsIp 1 None zones) refl refl lists all are same none
+  pub found : (lists : List (List (List (List ℕ)))) (all : List Addr) → AreListsIf (zones_need policy.overrides NsDname 1 None policy.zones || zones_need policy.overrides NsIp 1 None policy.zones) lists (servers facts name)
+      → (zones_need policy.overrides NsIp 1 None policy.zones ≡ true → (found : List (List (List ℕ))) → AreListsOf lists found → HaveSameMembers all (addresses_of facts found)) → (zones_need policy.overrides NsIp 1 None policy.zones ≡ false → all ≡ []) → Found lists all
+  found lists all are same none = by_kinds (zones_need policy.overrides NsDname 1 None policy.zones) (zones_need policy.overrides NsIp 1 None policy.zones) refl refl lists all are same none
 
 -- the lists that code looks at are in order
 pub lists_in_order : (b : Bool) (lists : List (List (List (List ℕ)))) (names : List (List (List ℕ))) → AreListsIf b lists names → All AreInOrder lists

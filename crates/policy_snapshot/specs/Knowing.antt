@@ -4,7 +4,7 @@ use Rattle.trigger_codec.specs.declared.trigger.Kind.{Kind}
 use Rattle.trigger_codec.specs.declared.trigger.Kind.TheVariants as kinds
 use Rattle.summary_index.specs.Summary.{no_rules}
 use Rattle.zone_rows.specs.declared.zone.PlainZone.{PlainZone}
-use Rattle.policy_snapshot.specs.Policy.{PlainPolicy, zone_at}
+use Rattle.policy_snapshot.specs.Policy.{PlainZones, zone_at}
 use Rattle.policy_snapshot.specs.Summed.{KnowsZone, PlainSummaries, content_entries}
 
 -- no zone has rules
@@ -26,6 +26,6 @@ zones_having s kinds.NsDname = s.nsdname.having
 zones_having s kinds.NsIp = s.nsip.having
 
 -- The summaries know the rules of each zone of the policy, whose number is from 1 to 32.
-pub record KnowsAll (zones : PlainPolicy) (s : PlainSummaries) : Type 0 where
+pub record KnowsAll (zones : PlainZones) (s : PlainSummaries) : Type 0 where
   pub each : (n : ℕ) (zone : PlainZone) → 1 ≤ n → n ≤ 32 → zone_at zones n ≡ Some zone →
       KnowsZone n (content_entries zone.origin zone.content) s

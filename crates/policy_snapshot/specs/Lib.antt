@@ -1,5 +1,6 @@
 pub mod Policy
 pub mod Stands
+pub mod Overridden
 pub mod Rules
 pub mod Hits
 pub mod Next

@@ -22,15 +22,15 @@ use Rattle.zone_index.specs.Listed.{is_same}
 use Rattle.zone_index.specs.declared.changes.Changes.{Changes}
 use Rattle.zone_rows.specs.declared.zone.PlainZone.{PlainZone}
 use Rattle.policy_snapshot.specs.Lookup.{has_kind_in}
-use Rattle.policy_snapshot.specs.Policy.{PlainPolicy, zone_at}
+use Rattle.policy_snapshot.specs.Policy.{PlainZones, zone_at}
 use Rattle.policy_snapshot.specs.Summed.{AnyPrefix, content_entries}
 use Rattle.policy_snapshot.specs.declared.new_zone.NewZone.{NewZone}
 
 -- the policy before a zone is another, and behind it
-abbrev pub zones_before : NewZone → PlainPolicy
+abbrev pub zones_before : NewZone → PlainZones
 zones_before next = map arc_value next.zones.now
 
-abbrev pub zones_after : NewZone → PlainPolicy
+abbrev pub zones_after : NewZone → PlainZones
 zones_after next = slice_set (zones_before next) (next.number - 1) next.zone.now
 
 -- a zone has this number, and there are at most 32
@@ -51,7 +51,7 @@ pub record AreSameElsewhere (next : NewZone) (triggers : List Trigger) : Type 0 
       content_rule next.zone.now.origin next.zone.now.content t ≡ content_rule old.origin old.content t
 
 -- these zones, of those of the policy, have rules of the kind
-pub record ZonesHave (kind : Kind) (zones : PlainPolicy) (having : ℕ) : Type 0 where
+pub record ZonesHave (kind : Kind) (zones : PlainZones) (having : ℕ) : Type 0 where
   pub each : (n : ℕ) (zone : PlainZone) → 1 ≤ n → n ≤ 32 → zone_at zones n ≡ Some zone →
       has_zone having n ≡ has_kind_in kind zone.origin zone.content
 
@@ -64,12 +64,12 @@ is_of_patterns kinds.NsDname = true
 is_of_patterns kinds.NsIp = false
 
 -- A summary of a kind of patterns knows the rules of each zone of the policy, whose number is from 1 to 32.
-pub record KnowsPatterns (kind : Kind) (zones : PlainPolicy) (s : PlainSummary PlainPattern) : Type 0 where
+pub record KnowsPatterns (kind : Kind) (zones : PlainZones) (s : PlainSummary PlainPattern) : Type 0 where
   pub each : (n : ℕ) (zone : PlainZone) → 1 ≤ n → n ≤ 32 → zone_at zones n ≡ Some zone →
       Knows pattern_order IsPattern n (pattern_rules (content_entries zone.origin zone.content) kind) s
 
 -- The same of a kind of prefixes.
-pub record KnowsPrefixes (kind : Kind) (zones : PlainPolicy) (s : PlainSummary PlainPrefix) : Type 0 where
+pub record KnowsPrefixes (kind : Kind) (zones : PlainZones) (s : PlainSummary PlainPrefix) : Type 0 where
   pub each : (n : ℕ) (zone : PlainZone) → 1 ≤ n → n ≤ 32 → zone_at zones n ≡ Some zone →
       Knows prefix_order AnyPrefix n (prefix_rules (content_entries zone.origin zone.content) kind) s
 

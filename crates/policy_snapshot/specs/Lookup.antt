@@ -20,6 +20,10 @@ use Rattle.zone_index.specs.Rules.{rules_of}
 use Rattle.rpz_precedence.specs.Best.{PlainHit}
 use Rattle.rpz_precedence.specs.Rank.{kind_number, precedes}
 use Rattle.upstream_link.specs.Known.{AreListsOf}
+use Rattle.policy_override.specs.declared.overrides.Override.{Override}
+use Rattle.policy_override.specs.Override.{is_ruling}
+use Rattle.policy_override.specs.Overrides.{over_at}
+use Rattle.policy_snapshot.specs.Overridden.{action_under}
 use Rattle.policy_snapshot.specs.Sight.{PlainSight}
 
 -- the hit of an entry of an index
@@ -84,11 +88,25 @@ content_hit number sight origin (Some content) =
 abbrev pub zone_hit : ℕ → PlainSight → PlainZone → Option PlainHit
 zone_hit number sight zone = content_hit number sight zone.origin zone.content
 
+-- a hit under the override of its zone, which may put another action into the place of its own
+abbrev pub hit_under : Override → PlainHit → PlainHit
+hit_under over hit =
+    record { rank = hit.rank; action = action_under over hit.soa hit.action; soa = hit.soa }
+
+-- what is found in a zone under its override: nothing where it is disabled
+abbrev pub found_under : Override → Option PlainHit → Option PlainHit
+found_under over found = if is_ruling over then option_map (hit_under over) found else None
+
+-- the best hit of a zone of this number under these overrides
+abbrev pub ruled_hit : List Override → ℕ → PlainSight → PlainZone → Option PlainHit
+ruled_hit overrides number sight zone =
+    found_under (over_at overrides number) (zone_hit number sight zone)
+
 -- the best hit among the rules of zones that are numbered from this number on: that of the first zone that has one
-abbrev pub zones_hit : ℕ → PlainSight → List PlainZone → Option PlainHit
-zones_hit number sight [] = None
-zones_hit number sight (zone ∷ zones) =
-    or_hit (zone_hit number sight zone) (zones_hit (number + 1) sight zones)
+abbrev pub zones_hit : List Override → ℕ → PlainSight → List PlainZone → Option PlainHit
+zones_hit overrides number sight [] = None
+zones_hit overrides number sight (zone ∷ zones) =
+    or_hit (ruled_hit overrides number sight zone) (zones_hit overrides (number + 1) sight zones)
 
 -- the kinds in order of precedence
 abbrev pub place_of_kind : Kind → ℕ
@@ -110,12 +128,17 @@ abbrev pub has_kind_in : Kind → Name → Option Content → Bool
 has_kind_in kind origin None = false
 has_kind_in kind origin (Some content) = has_kind (rules_of origin content.rows) kind
 
+-- the zone of this number isn't disabled, and a rule of this kind in it could decide in place of the hit
+abbrev pub kind_could_rule : List Override → Kind → ℕ → Option PlainHit → Bool
+kind_could_rule overrides kind number hit =
+    is_ruling (over_at overrides number) && kind_could_decide kind number hit
+
 -- some zone of those that are numbered from this number on has such rules, which could decide in place of the hit
-abbrev pub zones_need : Kind → ℕ → Option PlainHit → List PlainZone → Bool
-zones_need kind number hit [] = false
-zones_need kind number hit (zone ∷ zones) =
-    (has_kind_in kind zone.origin zone.content && kind_could_decide kind number hit)
-    || zones_need kind (number + 1) hit zones
+abbrev pub zones_need : List Override → Kind → ℕ → Option PlainHit → List PlainZone → Bool
+zones_need overrides kind number hit [] = false
+zones_need overrides kind number hit (zone ∷ zones) =
+    (has_kind_in kind zone.origin zone.content && kind_could_rule overrides kind number hit)
+    || zones_need overrides kind (number + 1) hit zones
 
 -- servers are looked at in lists where some zone has rules about them
 abbrev pub AreListsIf : Bool → List (List Name) → List Name → Type 0

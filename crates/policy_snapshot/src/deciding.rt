@@ -15,10 +15,11 @@ ghost use Rattle.policy_snapshot.specs.Next.{pending};
 ghost use Rattle.policy_snapshot.specs.Rules.{rules};
 ghost use Rattle.policy_snapshot.specs.Settled.{IsSettled};
 ghost use Rattle.policy_snapshot.specs.Sight.{sight_seen};
+ghost use Rattle.policy_snapshot.specs.Stands.{policy_in};
 
 use crate::candidates::{a_zone_that_is_no_candidate_has_no_hit, candidates};
 use crate::laws::nothing_unasked_could_matter;
-use crate::lookup::hit_if;
+use crate::overriding::ruled_hit;
 use crate::questions::{is_known, unknown_address, unknown_owner};
 use crate::sight::Sight;
 use crate::snapshot::Snapshot;
@@ -52,7 +53,7 @@ impl Snapshot {
         name: &Name,
     ) -> Result<Option<Hit<'_>>, AllocError>
         ensures { IfOk result (λ hit. option_map hit_seen hit
-            ≡ best (hits (rules self.now.zones) query.now facts.now position name.now)) }
+            ≡ best (hits (rules (policy_in self.now)) query.now facts.now position name.now)) }
     {
         a_rule_does_what_its_rows_do();
         an_index_has_the_rules_of_its_zone();
@@ -88,12 +89,12 @@ impl Snapshot {
         hit: &Option<Hit<'_>>,
     ) -> Result<Option<Question>, AllocError>
         ensures question { IfOk result (λ question. question
-            ≡ pending (rules self.now.zones) query.now facts.now name.now
+            ≡ pending (rules (policy_in self.now)) query.now facts.now name.now
             (option_map hit_seen hit.now)) }
         ensures settled { IfOk result (λ question. (position : ℕ) → question ≡ None →
             option_map hit_seen hit.now
-            ≡ best (hits (rules self.now.zones) query.now facts.now position name.now) →
-            IsSettled (rules self.now.zones) query.now facts.now position name.now) }
+            ≡ best (hits (rules (policy_in self.now)) query.now facts.now position name.now) →
+            IsSettled (rules (policy_in self.now)) query.now facts.now position name.now) }
     {
         nothing_unasked_could_matter();
         // called for its clause: the rows of the zones are rows
@@ -111,7 +112,7 @@ impl Snapshot {
         hit: &Option<Hit<'_>>,
     ) -> Result<Option<Question>, AllocError>
         ensures { IfOk result (λ question. question
-            ≡ pending (rules self.now.zones) query.now facts.now name.now
+            ≡ pending (rules (policy_in self.now)) query.now facts.now name.now
             (option_map hit_seen hit.now)) }
     {
         an_index_has_the_rules_of_its_zone();
@@ -137,7 +138,7 @@ impl Snapshot {
     ) -> Result<Option<Question>, AllocError>
         ensures { IfOk result (λ question. question
             ≡ next.if_needed
-            (form.zones_need kinds.ResponseIp 1 (option_map hit_seen hit.now) self.now.zones)
+            (form.zones_need self.now.overrides kinds.ResponseIp 1 (option_map hit_seen hit.now) self.now.zones)
             (next.first_unknown facts.now (questions.main_question query.now ∷ []))) }
     {
         if !self.needs(Kind::ResponseIp, hit)
@@ -157,8 +158,8 @@ impl Snapshot {
         hit: &Option<Hit<'_>>,
     ) -> Result<Option<Question>, AllocError>
         ensures { IfOk result (λ question. question ≡ next.if_needed
-            (form.zones_need kinds.NsDname 1 (option_map hit_seen hit.now) self.now.zones
-            || form.zones_need kinds.NsIp 1 (option_map hit_seen hit.now) self.now.zones)
+            (form.zones_need self.now.overrides kinds.NsDname 1 (option_map hit_seen hit.now) self.now.zones
+            || form.zones_need self.now.overrides kinds.NsIp 1 (option_map hit_seen hit.now) self.now.zones)
             (next.first_unknown facts.now (next.server_questions name.now))) }
     {
         if self.needs(Kind::NsDname, hit) || self.needs(Kind::NsIp, hit) {
@@ -178,7 +179,7 @@ impl Snapshot {
     ) -> Result<Option<Question>, AllocError>
         ensures { IfOk result (λ question. question
             ≡ next.if_needed
-            (form.zones_need kinds.NsIp 1 (option_map hit_seen hit.now) self.now.zones)
+            (form.zones_need self.now.overrides kinds.NsIp 1 (option_map hit_seen hit.now) self.now.zones)
             (next.unknown_address facts.now name.now)) }
     {
         if self.needs(Kind::NsIp, hit) {
@@ -196,8 +197,8 @@ impl Snapshot {
         name: &Name,
     ) -> Result<ServerLists<'f>, AllocError>
         ensures { IfOk result
-            (λ lists. form.AreListsIf (form.zones_need kinds.NsDname 1 None self.now.zones
-            || form.zones_need kinds.NsIp 1 None self.now.zones) lists
+            (λ lists. form.AreListsIf (form.zones_need self.now.overrides kinds.NsDname 1 None self.now.zones
+            || form.zones_need self.now.overrides kinds.NsIp 1 None self.now.zones) lists
             (names.servers facts.now name.now)) }
     {
         if self.needs(Kind::NsDname, &None) || self.needs(Kind::NsIp, &None) {
@@ -215,11 +216,11 @@ impl Snapshot {
         lists: &ServerLists<'_>,
     ) -> Result<Vec<Addr>, AllocError>
         ensures some { IfOk result
-            (λ all. IsTrue (form.zones_need kinds.NsIp 1 None self.now.zones) →
+            (λ all. IsTrue (form.zones_need self.now.overrides kinds.NsIp 1 None self.now.zones) →
             (servers : List (List (List ℕ))) → AreListsOf lists.now servers →
             HaveSameMembers all.items (names.addresses_of facts.now servers)) }
         ensures none { IfOk result
-            (λ all. form.zones_need kinds.NsIp 1 None self.now.zones ≡ false → all.items ≡ []) }
+            (λ all. form.zones_need self.now.overrides kinds.NsIp 1 None self.now.zones ≡ false → all.items ≡ []) }
     {
         if self.needs(Kind::NsIp, &None) {
             server_addresses(alloc, facts, lists)
@@ -233,13 +234,14 @@ impl Snapshot {
         requires name { sight.now.lower.now ≡ lowered sight.now.name.now }
         requires servers { All AreInOrder (map (λ list. list.now) sight.now.servers.now) }
         ensures { option_map hit_seen result
-            ≡ form.zones_hit 1 (sight_seen sight.now) self.now.zones }
+            ≡ form.zones_hit self.now.overrides 1 (sight_seen sight.now) self.now.zones }
     {
         a_zone_that_is_no_candidate_has_no_hit();
         let summaries = self.summaries();
         summaries.qname.in_order();
         summaries.nsdname.in_order();
         let all = self.zones();
+        let overrides = self.overrides();
         let zones = candidates(summaries, sight);
         if zones.is_empty() {
             return None;
@@ -247,7 +249,7 @@ impl Snapshot {
         let mut number = 0;
         for zone in all {
             number += 1;
-            let hit = hit_if(zones, number, zone, sight);
+            let hit = ruled_hit(zones, overrides, number, zone, sight);
             if hit.is_some() {
                 return hit;
             }
@@ -255,9 +257,9 @@ impl Snapshot {
         None
     }
 
-    // Whether some zone has rules of this kind that could decide in place of the hit.
+    // Whether some zone that isn't disabled has rules of this kind that could decide in place of the hit.
     fn needs(&self, kind: Kind, hit: &Option<Hit<'_>>) -> bool
-        ensures { result ≡ form.zones_need kind 1 (option_map hit_seen hit.now) self.now.zones }
+        ensures { result ≡ form.zones_need self.now.overrides kind 1 (option_map hit_seen hit.now) self.now.zones }
     {
         let all = self.zones();
         let zones = having(self.summaries(), kind);
@@ -267,11 +269,19 @@ impl Snapshot {
         let mut number = 0;
         for _zone in all {
             number += 1;
-            if zones.has(number) && could_decide(kind, number, hit) {
+            if zones.has(number) && self.could_rule(kind, number, hit) {
                 return true;
             }
         }
         false
+    }
+
+    // Whether the zone of this number isn't disabled, and a rule of this kind in it could decide in place of the hit.
+    fn could_rule(&self, kind: Kind, number: u32, hit: &Option<Hit<'_>>) -> bool
+        ensures { result
+            ≡ form.kind_could_rule self.now.overrides kind number (option_map hit_seen hit.now) }
+    {
+        self.overrides().at(number).is_ruling() && could_decide(kind, number, hit)
     }
 }
 

@@ -9,6 +9,7 @@ mod lookup;
 mod name_listing;
 mod new_zone;
 mod old_zone;
+mod overriding;
 mod prefix_listing;
 mod questions;
 mod sight;

@@ -1,9 +1,8 @@
 //! The best hit among the rules of one zone.
 
-ghost use Rattle.std.specs.Prelude.{◌≡◌, ◌≤◌, All, None, false, map, option_map};
+ghost use Rattle.std.specs.Prelude.{◌≡◌, All, map, option_map};
 ghost use Rattle.dns_name.specs.Labels.{lowered};
 ghost use Rattle.rpz_precedence.specs.Seen.{hit_seen};
-ghost use Rattle.summary_index.specs.Zones.{has_zone};
 ghost use Rattle.upstream_link.specs.Known.{AreInOrder};
 ghost use Rattle.policy_snapshot.specs.Lookup as form;
 ghost use Rattle.policy_snapshot.specs.Lookup.{best_over};
@@ -16,34 +15,12 @@ use dns_record::Record;
 use ip_prefix::Addr;
 use qname_index::LookupName;
 use rpz_precedence::{Hit, TriggerRef, before};
-use summary_index::Zones;
 use upstream_link::Names;
 use zone_index::{Rules, Zone};
 
-/// The best hit among the rules of a zone of this number, which isn't looked at where it is none of the candidates.
-pub(crate) fn hit_if<'a>(
-    candidates: Zones,
-    number: u32,
-    zone: &'a Zone,
-    sight: &Sight<'_>,
-) -> Option<Hit<'a>>
-    requires some { 1 ≤ number }
-    requires within { number ≤ 32 }
-    requires name { sight.now.lower.now ≡ lowered sight.now.name.now }
-    requires servers { All AreInOrder (map (λ list. list.now) sight.now.servers.now) }
-    requires passed { has_zone candidates number ≡ false →
-        form.zone_hit number (sight_seen sight.now) zone.now ≡ None }
-    ensures { option_map hit_seen result ≡ form.zone_hit number (sight_seen sight.now) zone.now }
-{
-    if !candidates.has(number) {
-        return None;
-    }
-    zone_hit(number, zone, sight)
-}
-
-// The best hit among the rules of a zone of this number. Its time is that of some look-ups, linear in the number of
-// records, servers and addresses where the zone has rules about them.
-fn zone_hit<'a>(number: u32, zone: &'a Zone, sight: &Sight<'_>) -> Option<Hit<'a>>
+/// The best hit among the rules of a zone of this number. Its time is that of some look-ups, linear in the number of
+/// records, servers and addresses where the zone has rules about them.
+pub(crate) fn zone_hit<'a>(number: u32, zone: &'a Zone, sight: &Sight<'_>) -> Option<Hit<'a>>
     requires name { sight.now.lower.now ≡ lowered sight.now.name.now }
     requires servers { All AreInOrder (map (λ list. list.now) sight.now.servers.now) }
     ensures { option_map hit_seen result ≡ form.zone_hit number (sight_seen sight.now) zone.now }

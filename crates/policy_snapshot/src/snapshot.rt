@@ -16,6 +16,7 @@ use crate::new_zone::NewZone;
 use crate::old_zone::OldZone;
 use crate::summaries::{most_rows, no_summaries, shared_summaries, summaries_after};
 use dns_name::Name;
+use policy_override::{Overrides, ZoneSet};
 use std::alloc::{AllocError, Global};
 use std::marker::Model;
 use std::sync::Arc;
@@ -24,12 +25,14 @@ use trigger_codec::ByKind;
 use zone_index::{Changes, Zone};
 use zone_rows::{ApplyError, Transfer};
 
-/// The ordered zones of a policy as they are after a list of accepted transfers, each taken as a whole. Nothing changes it: a
-/// transfer makes a new snapshot, which shares the zones that the transfer doesn't change. Contracts see the zones as plain
-/// ones, and how many transfers were accepted, up to 2^64 - 1.
+/// The ordered zones of a policy as they are after a list of accepted transfers, each taken as a whole, and the operator's override of
+/// each. Nothing changes it: a transfer makes a new snapshot, which shares the zones that the transfer doesn't change, and all
+/// overrides. Contracts see the zones as plain ones, the overrides, and how many transfers were accepted, up to 2^64 - 1.
 pub struct Snapshot {
     // The first of them is zone 1.
     zones: Vec<Arc<Zone, Global>>,
+    // In the same order.
+    overrides: Arc<Overrides, Global>,
     // What is known of their rules together.
     summaries: Arc<ByKind<PrefixSummary, NameSummary>, Global>,
     accepted: u64,
@@ -40,6 +43,7 @@ impl Drop for Snapshot {
     fn drop(self) {
         let Snapshot {
             zones: _,
+            overrides: _,
             summaries: _,
             accepted: _,
         } = self;
@@ -55,7 +59,11 @@ impl Model for Snapshot {
 
     ghost Value = { PlainSnapshot };
 
-    ghost view = { λ s. record { zones = map arc_value s.zones.items; accepted = s.accepted } };
+    ghost view = { λ s. record {
+      zones = map arc_value s.zones.items;
+      overrides = arc_value s.overrides;
+      accepted = s.accepted;
+    } };
 
     ghost invariant = { λ s. (length s.zones.items ≤ ZONE_LIMIT)
         × (HaveRows (map arc_value s.zones.items)
@@ -63,18 +71,20 @@ impl Model for Snapshot {
 }
 
 impl Snapshot {
-    /// Zones of these origins in this order, with nothing loaded. There are at most 32.
-    pub fn start(alloc: Global, origins: &[Name]) -> Result<Self, AllocError>
-        requires { length origins.now ≤ ZONE_LIMIT }
-        ensures { IfOk result (λ snapshot. snapshot ≡ new_snapshot origins.now) }
+    /// Zones of these settings in this order, with nothing loaded. There are at most 32.
+    pub fn start(alloc: Global, settings: &[ZoneSet]) -> Result<Self, AllocError>
+        requires { length settings.now ≤ ZONE_LIMIT }
+        ensures { IfOk result (λ snapshot. snapshot ≡ new_snapshot settings.now) }
     {
-        let mut zones = Vec::with_capacity(alloc, origins.len())?;
-        for origin in origins {
-            zones.push(empty_zone(alloc, origin)?)?;
+        let mut zones = Vec::with_capacity(alloc, settings.len())?;
+        for set in settings {
+            zones.push(empty_zone(alloc, &set.origin)?)?;
         }
+        let overrides = Arc::new(alloc, Overrides::of(alloc, settings)?)?;
         let summaries = shared_summaries(alloc, no_summaries(alloc))?;
         Ok(Snapshot {
             zones,
+            overrides,
             summaries,
             accepted: 0,
         })
@@ -101,10 +111,12 @@ impl Snapshot {
     pub fn again(&self, alloc: Global) -> Result<Snapshot, AllocError>
         ensures { IfOk result (λ copy. copy ≡ self.now) }
     {
+        let overrides = Arc::try_clone(&self.overrides)?;
         let summaries = Arc::try_clone(&self.summaries)?;
         let zones = shared(alloc, &self.zones)?;
         Ok(Snapshot {
             zones,
+            overrides,
             summaries,
             accepted: self.accepted,
         })
@@ -117,6 +129,13 @@ impl Snapshot {
         ensures rows { HaveRows self.now.zones }
     {
         self.zones.as_slice()
+    }
+
+    /// The operator's override of each zone.
+    pub(crate) fn overrides(&self) -> &Overrides
+        ensures { result.now ≡ self.now.overrides }
+    {
+        &self.overrides
     }
 
     /// What is known of the rules of all zones together.
@@ -155,7 +174,8 @@ impl Snapshot {
     }
 
     /// The policy after one more transfer of the zone of this number, whole or in steps, or why the zone can't take it. The
-    /// other zones are shared, and this snapshot stays as it is. Its time is that of `Zone::apply`.
+    /// other zones are shared, and this snapshot stays as it is. Its time is that of `Zone::apply_changes`, and that of what is known of all
+    /// zones: some steps for each trigger whose rules change, or, where these are many, a merge of the rules of all zones of the kind.
     pub fn apply(
         &self,
         alloc: Global,
@@ -176,8 +196,10 @@ impl Snapshot {
         let _index = zone.index();
         let summaries = self.summaries_with(alloc, number, &zone, &changes)?;
         let zones = with_zone_at(alloc, &self.zones, place, zone)?;
+        let overrides = Arc::try_clone(&self.overrides)?;
         Ok(Snapshot {
             zones,
+            overrides,
             summaries,
             accepted: self.accepted.saturating_add(1),
         })

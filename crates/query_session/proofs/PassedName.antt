@@ -15,14 +15,14 @@ use Rattle.query_session.specs.Session.{IsPassed, PassesName}
 
 -- the law of what wasn't asked: the best hit, and that nothing is pending, stay
 abbrev pub BestStays : Type 0
-BestStays = (zones : PlainPolicy) (query : Query) (facts more : PlainFacts) (position : ℕ) (name : List (List ℕ)) → HaveRows zones → Extends facts more
-    → pending (rules zones) query facts name (best (hits (rules zones) query facts position name)) ≡ None
-    → best (hits (rules zones) query more position name) ≡ best (hits (rules zones) query facts position name)
+BestStays = (policy : PlainPolicy) (query : Query) (facts more : PlainFacts) (position : ℕ) (name : List (List ℕ)) → HaveRows policy.zones → Extends facts more
+    → pending (rules policy) query facts name (best (hits (rules policy) query facts position name)) ≡ None
+    → best (hits (rules policy) query more position name) ≡ best (hits (rules policy) query facts position name)
 
 abbrev pub NoneStays : Type 0
-NoneStays = (zones : PlainPolicy) (query : Query) (facts more : PlainFacts) (position : ℕ) (name : List (List ℕ)) → HaveRows zones → Extends facts more
-    → pending (rules zones) query facts name (best (hits (rules zones) query facts position name)) ≡ None
-    → pending (rules zones) query more name (best (hits (rules zones) query more position name)) ≡ None
+NoneStays = (policy : PlainPolicy) (query : Query) (facts more : PlainFacts) (position : ℕ) (name : List (List ℕ)) → HaveRows policy.zones → Extends facts more
+    → pending (rules policy) query facts name (best (hits (rules policy) query facts position name)) ≡ None
+    → pending (rules policy) query more name (best (hits (rules policy) query more position name)) ≡ None
 
 unless_none : (name : List (List ℕ)) (hit : Option PlainHit) (question : Option Question) → unless_pending [] name hit question ≡ None → (hit ≡ None) × (question ≡ None)
 unless_none name hit (Some question) e = absurd cc
@@ -32,16 +32,16 @@ unless_none name None None e = (refl, refl)
 both_none : (name : List (List ℕ)) (hit : Option PlainHit) (question : Option Question) → hit ≡ None → question ≡ None → unless_pending [] name hit question ≡ None
 both_none name hit question h q = ap (unless_pending [] name hit) q ∙ ap (λ (o : Option PlainHit). unless_pending [] name o None) h
 
-name_passed : (zones : PlainPolicy) (query : Query) (facts more : PlainFacts) → HaveRows zones → BestStays → NoneStays → Extends facts more → PassesName zones query facts → PassesName zones query more
-name_passed zones query facts more rows best_stays none_stays extends passes =
+name_passed : (policy : PlainPolicy) (query : Query) (facts more : PlainFacts) → HaveRows policy.zones → BestStays → NoneStays → Extends facts more → PassesName policy query facts → PassesName policy query more
+name_passed policy query facts more rows best_stays none_stays extends passes =
     let name = query.question.name in
-    let hit = best (hits (rules zones) query facts 0 name) in
-    let none = unless_none name hit (pending (rules zones) query facts name hit) passes in
-    both_none name (best (hits (rules zones) query more 0 name)) (pending (rules zones) query more name (best (hits (rules zones) query more 0 name)))
-    (best_stays zones query facts more 0 name rows extends none.1 ∙ none.0)
-    (none_stays zones query facts more 0 name rows extends none.1)
+    let hit = best (hits (rules policy) query facts 0 name) in
+    let none = unless_none name hit (pending (rules policy) query facts name hit) passes in
+    both_none name (best (hits (rules policy) query more 0 name)) (pending (rules policy) query more name (best (hits (rules policy) query more 0 name)))
+    (best_stays policy query facts more 0 name rows extends none.1 ∙ none.0)
+    (none_stays policy query facts more 0 name rows extends none.1)
 
-pub still_passed : (zones : PlainPolicy) (incoming : Incoming) (facts more : PlainFacts) → HaveRows zones → BestStays → NoneStays → Extends facts more → IsPassed zones incoming facts → IsPassed zones incoming more
-still_passed zones Silent facts more rows best_stays none_stays extends passes = tt
-still_passed zones (Refuse message) facts more rows best_stays none_stays extends passes = tt
-still_passed zones (Asks query) facts more rows best_stays none_stays extends passes = name_passed zones query facts more rows best_stays none_stays extends passes
+pub still_passed : (policy : PlainPolicy) (incoming : Incoming) (facts more : PlainFacts) → HaveRows policy.zones → BestStays → NoneStays → Extends facts more → IsPassed policy incoming facts → IsPassed policy incoming more
+still_passed policy Silent facts more rows best_stays none_stays extends passes = tt
+still_passed policy (Refuse message) facts more rows best_stays none_stays extends passes = tt
+still_passed policy (Asks query) facts more rows best_stays none_stays extends passes = name_passed policy query facts more rows best_stays none_stays extends passes

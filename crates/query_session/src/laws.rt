@@ -51,7 +51,7 @@ pub fn what_is_obtained_is_kept()
 /// in all.
 pub fn a_reply_stands()
     ensures { (policy : PlainPolicy) (incoming : Incoming) (facts more : PlainFacts) →
-        HaveRows policy → Extends facts more → length more ≤ FACT_LIMIT →
+        HaveRows policy.zones → Extends facts more → length more ≤ FACT_LIMIT →
         IsTrue (is_said (turn_by policy incoming facts)) →
         turn_by policy incoming more ≡ turn_by policy incoming facts }
 {

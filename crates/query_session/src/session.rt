@@ -5,6 +5,7 @@ ghost use Rattle.dns_message.specs.declared.question.Question as questions;
 ghost use Rattle.dns_message.specs.Request.{incoming_of};
 ghost use Rattle.upstream_link.specs.declared.fact.Fact as told;
 ghost use Rattle.upstream_link.specs.Facts.{AreKept, PlainFacts};
+ghost use Rattle.policy_snapshot.specs.Stands.{policy_in};
 ghost use Rattle.reply_build.specs.Short.{SaysShort};
 ghost use Rattle.query_session.specs.Session.{AsksAnew, IsPassed, after_fact, after_turn, awaiting, new_session, question_in as asks, turn_of};
 
@@ -34,20 +35,21 @@ pub struct Session {
 
 impl Model for Session {
     ghost use Rattle.std.specs.Prelude.{◌≡◌, true};
+    ghost use Rattle.policy_snapshot.specs.Stands.{policy_in};
     ghost use Rattle.query_session.specs.Session.{AsksAnew, IsPassed};
     ghost use Rattle.query_session.specs.State.{SessionState};
 
     ghost Value = { SessionState };
 
     ghost view = { λ s. record {
-      policy = s.policy.value.zones;
+      policy = policy_in s.policy.value;
       incoming = s.incoming;
       facts = s.facts;
       asked = s.asked;
     } };
 
     ghost invariant = { λ s. AsksAnew s.facts s.asked
-        × (s.passed ≡ true → IsPassed s.policy.value.zones s.incoming s.facts) };
+        × (s.passed ≡ true → IsPassed (policy_in s.policy.value) s.incoming s.facts) };
 }
 
 impl Session {
@@ -61,7 +63,7 @@ impl Session {
         transport: Transport,
     ) -> Result<Self, AllocError>
         ensures { IfOk result (λ session. session
-            ≡ new_session policy.value.zones (incoming_of message.now client transport)) }
+            ≡ new_session (policy_in policy.value) (incoming_of message.now client transport)) }
     {
         let incoming = classify(alloc, message, client, transport)?;
         Ok(Session {

@@ -4,6 +4,7 @@ ghost use Rattle.std.specs.Prelude.{◌≡◌, ◌≤◌, [], ◌∷◌, length,
 ghost use Rattle.dns_message.specs.declared.question.Question.{Question};
 ghost use Rattle.policy_snapshot.specs.Next.{next, next_along, next_at, next_behind, next_in_chain};
 ghost use Rattle.policy_snapshot.specs.Rules.{rules};
+ghost use Rattle.policy_snapshot.specs.Stands.{policy_in};
 ghost use Rattle.query_session.specs.Session.{PassesName, turn_by_next, within_fact_limit};
 ghost use Rattle.reply_build.specs.Short.{SaysShort};
 ghost use Rattle.upstream_link.specs.Chain as chains;
@@ -28,12 +29,12 @@ pub(crate) fn turn_about(
     facts: &Facts,
     passed: bool,
 ) -> Result<(Turn, bool), AllocError>
-    requires { passed ≡ true → PassesName policy.now.zones query.now facts.now }
+    requires { passed ≡ true → PassesName (policy_in policy.now) query.now facts.now }
     ensures turn { IfOk result (λ turn. turn.0
         ≡ within_fact_limit query.now facts.now
-        (turn_by_next query.now facts.now (next policy.now.zones query.now facts.now))) }
+        (turn_by_next query.now facts.now (next (policy_in policy.now) query.now facts.now))) }
     ensures passes { IfOk result
-        (λ turn. turn.1 ≡ true → PassesName policy.now.zones query.now facts.now) }
+        (λ turn. turn.1 ≡ true → PassesName (policy_in policy.now) query.now facts.now) }
     ensures short { IfOk result (λ turn. SaysShort turn.0) }
 {
     let (turn, passes) = unlimited_turn(alloc, policy, query, facts, passed)?;
@@ -66,11 +67,11 @@ fn unlimited_turn(
     facts: &Facts,
     passed: bool,
 ) -> Result<(Turn, bool), AllocError>
-    requires { passed ≡ true → PassesName policy.now.zones query.now facts.now }
+    requires { passed ≡ true → PassesName (policy_in policy.now) query.now facts.now }
     ensures turn { IfOk result (λ turn. turn.0
-        ≡ turn_by_next query.now facts.now (next policy.now.zones query.now facts.now)) }
+        ≡ turn_by_next query.now facts.now (next (policy_in policy.now) query.now facts.now)) }
     ensures passes { IfOk result
-        (λ turn. turn.1 ≡ true → PassesName policy.now.zones query.now facts.now) }
+        (λ turn. turn.1 ≡ true → PassesName (policy_in policy.now) query.now facts.now) }
     ensures short { IfOk result (λ turn. SaysShort turn.0) }
 {
     if passed {
@@ -94,7 +95,7 @@ fn turn_at(
 ) -> Result<Option<Turn>, AllocError>
     requires { length before.now ≤ limits.CHAIN_LIMIT }
     ensures turn { IfOk result (λ turn. turn ≡ option_map (turn_by_next query.now facts.now)
-        (next_at (rules policy.now.zones) query.now facts.now before.now name.now)) }
+        (next_at (rules (policy_in policy.now)) query.now facts.now before.now name.now)) }
     ensures short { IfOk result (λ turn. IfSome turn SaysShort) }
 {
     match policy.best(alloc, query, facts, before.len() as u32, name) {
@@ -125,7 +126,7 @@ fn turn_behind(
     facts: &Facts,
 ) -> Result<Turn, AllocError>
     ensures turn { IfOk result (λ turn. turn ≡ turn_by_next query.now facts.now
-        (next_behind (rules policy.now.zones) query.now facts.now
+        (next_behind (rules (policy_in policy.now)) query.now facts.now
         (fact_about facts.now (questions.main_question query.now)))) }
     ensures short { IfOk result SaysShort }
 {
@@ -144,7 +145,7 @@ fn turn_by_fact(
     fact: &Fact,
 ) -> Result<Turn, AllocError>
     ensures turn { IfOk result (λ turn. turn ≡ turn_by_next query.now facts.now
-        (next_in_chain (rules policy.now.zones) query.now facts.now
+        (next_in_chain (rules (policy_in policy.now)) query.now facts.now
         (chains.chain (questions.main_question query.now) fact.now))) }
     ensures short { IfOk result SaysShort }
 {
@@ -179,7 +180,7 @@ fn turn_along(
 ) -> Result<Turn, AllocError>
     requires { length names.now ≤ limits.CHAIN_LIMIT }
     ensures turn { IfOk result (λ turn. turn ≡ turn_by_next query.now facts.now
-        (next_along (rules policy.now.zones) query.now facts.now
+        (next_along (rules (policy_in policy.now)) query.now facts.now
         (take 1 names.now) (drop 1 names.now))) }
     ensures short { IfOk result SaysShort }
 {

@@ -10,6 +10,7 @@ use Rattle.upstream_link.specs.Fact.{fact_from}
 use Rattle.upstream_link.specs.Facts.{AreKept, IsKept, PlainFacts}
 use Rattle.upstream_link.specs.Life.{with_age}
 use Rattle.upstream_link.specs.Vouched.{PlainLearned, fact_at}
+use Rattle.policy_override.specs.declared.zone_set.ZoneSet.{ZoneSet}
 use Rattle.policy_snapshot.specs.Policy.{PlainPolicy}
 use Rattle.rpz_core.specs.declared.event.Event.{Event}
 use Rattle.rpz_core.specs.Answered.{AreAnswered, no_more, one_more}
@@ -33,11 +34,11 @@ module _ (said : WhatIsSaidIsKept) where
   said_now : (octets : List ℕ) (id : ℕ) (question : Question) → IsKept (fact_from octets id question)
   said_now octets id question = subst IsKept (new_fact octets id question) (said octets id question 0)
 
-  pub obtained_kept : (origins : List (List (List ℕ))) (primaries : List (Option Addr)) (worker : ℕ) (events : List Event) (policy : PlainPolicy) (incoming : Incoming) (facts : PlainFacts) → AreObtained origins primaries worker events policy incoming facts → AreKept facts
-  obtained_kept origins primaries worker _ _ _ _ (comes events world transport client message facts reached known) = kept_later _ _ _ _ [] facts known tt
-  obtained_kept origins primaries worker _ _ _ _ (given events world message pending facts reached at before asks known) =
-      kept_later _ _ _ _ _ facts known (kept_push pending.facts pending.question (fact_from message pending.id pending.question) (obtained_kept origins primaries worker events pending.policy pending.incoming pending.facts before) (said_now message pending.id pending.question))
-  obtained_kept origins primaries worker _ _ _ _ (failed events world pending facts reached at before asks known) =
-      kept_later _ _ _ _ _ facts known (kept_push pending.facts pending.question (Broken Failed) (obtained_kept origins primaries worker events pending.policy pending.incoming pending.facts before) tt)
-  obtained_kept origins primaries worker _ _ _ _ (waits events event world next pending reached at after still before) =
-      obtained_kept origins primaries worker events pending.policy pending.incoming pending.facts before
+  pub obtained_kept : (settings : List ZoneSet) (primaries : List (Option Addr)) (worker : ℕ) (events : List Event) (policy : PlainPolicy) (incoming : Incoming) (facts : PlainFacts) → AreObtained settings primaries worker events policy incoming facts → AreKept facts
+  obtained_kept settings primaries worker _ _ _ _ (comes events world transport client message facts reached known) = kept_later _ _ _ _ [] facts known tt
+  obtained_kept settings primaries worker _ _ _ _ (given events world message pending facts reached at before asks known) =
+      kept_later _ _ _ _ _ facts known (kept_push pending.facts pending.question (fact_from message pending.id pending.question) (obtained_kept settings primaries worker events pending.policy pending.incoming pending.facts before) (said_now message pending.id pending.question))
+  obtained_kept settings primaries worker _ _ _ _ (failed events world pending facts reached at before asks known) =
+      kept_later _ _ _ _ _ facts known (kept_push pending.facts pending.question (Broken Failed) (obtained_kept settings primaries worker events pending.policy pending.incoming pending.facts before) tt)
+  obtained_kept settings primaries worker _ _ _ _ (waits events event world next pending reached at after still before) =
+      obtained_kept settings primaries worker events pending.policy pending.incoming pending.facts before

@@ -6,6 +6,7 @@ use Rattle.ip_prefix.specs.declared.Addr.{Addr}
 use Rattle.notify_poll.specs.Notifying.{answer_to, brought_forward}
 use Rattle.notify_poll.specs.Timers.{due_zone}
 use Rattle.policy_snapshot.specs.Policy.{zone_at}
+use Rattle.policy_override.specs.ZoneSet.{origins_in}
 use Rattle.rpz_core.specs.declared.event.CoreFault.{CoreFault}
 use Rattle.rpz_core.specs.declared.event.Event.{Event}
 use Rattle.rpz_core.specs.declared.event.Event.TheVariants.{Transfer, Full, Query, Give, Fail, Notify, Due, Clock}
@@ -36,7 +37,7 @@ sessions_leave w next (Err fault) out e = absurd (no_fault fault next out e)
 pub others_leave : (w next : World) (event : Event) (out : Output) → world_step w event ≡ Ok (next, out) → LeavesTimers event → next.timers ≡ w.timers
 unfolding world_step
 others_leave w next (Transfer number stream) out e h = absurd h
-others_leave w next (Full number) out e h = full_leaves w next number (zone_at (policy_of w) number) out e
+others_leave w next (Full number) out e h = full_leaves w next number (zone_at (policy_of w).zones number) out e
 others_leave w next (Query worker transport client message) out e h = sessions_leave w next (take_query w.clock w.sessions (policy_of w) worker transport client message) out e
 others_leave w next (Give worker message) out e h = sessions_leave w next (take_answer w.clock w.sessions worker message) out e
 others_leave w next (Fail worker) out e h = sessions_leave w next (take_failure w.clock w.sessions worker) out e
@@ -44,7 +45,7 @@ others_leave w next (Notify client message) out e h = absurd h
 others_leave w next Due out e h = stay w (w, output.Due (unwrap_or (due_zone w.timers w.clock) 0)) next out refl e
 others_leave w next (Clock seconds) out e h = stay w (clock_step w seconds) next out refl e
 
-pub unnamed_leaves : (w next : World) (client : Addr) (message : List ℕ) (out : Output) → world_step w (Notify client message) ≡ Ok (next, out) → (answer_to message client w.origins w.timers).1 ≡ None → next.timers ≡ w.timers
+pub unnamed_leaves : (w next : World) (client : Addr) (message : List ℕ) (out : Output) → world_step w (Notify client message) ≡ Ok (next, out) → (answer_to message client (origins_in w.settings) w.timers).1 ≡ None → next.timers ≡ w.timers
 unfolding world_step
 unnamed_leaves w next client message out e none = stay w (notify_step w client message) next out (ap (brought_forward w.clock w.timers) none) e
 

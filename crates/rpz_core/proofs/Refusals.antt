@@ -35,8 +35,8 @@ by_pending w goes_on (Some (Some pending)) f = (λ e. absurd cc, λ e. absurd cc
 
 pub refused_by_state : (w : World) (e : Event) (f : CoreFault) → (world_step w e ≡ Err f) ↔ (fault_of w e ≡ Some f)
 unfolding world_step
-refused_by_state w (Transfer number stream) f = by_transfer w number stream (zone_at (policy_of w) number) f
-refused_by_state w (Full number) f = by_full w number (zone_at (policy_of w) number) f
+refused_by_state w (Transfer number stream) f = by_transfer w number stream (zone_at (policy_of w).zones number) f
+refused_by_state w (Full number) f = by_full w number (zone_at (policy_of w).zones number) f
 refused_by_state w (Query worker transport client message) f = by_query w (policy_of w) worker (incoming_of message client transport) (slice_get w.sessions.workers worker) f
 refused_by_state w (Give worker message) f = by_pending w (answered_step w.clock w.sessions worker message) (slice_get w.sessions.workers worker) f
 refused_by_state w (Fail worker) f = by_pending w (λ pending. resumed_step w.clock w.sessions worker pending (Broken Failed)) (slice_get w.sessions.workers worker) f

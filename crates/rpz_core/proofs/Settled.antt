@@ -5,7 +5,7 @@ use Rattle.std.proofs.lemmas.Bool.{cond_both, eqb-false}
 use Rattle.std.proofs.lemmas.List.{length-set}
 use Rattle.axfr_apply.specs.declared.transfer_request.Wanted.{Wanted}
 use Rattle.zone_rows.specs.declared.zone.PlainZone.{PlainZone}
-use Rattle.policy_snapshot.specs.Policy.{PlainPolicy, zone_at}
+use Rattle.policy_snapshot.specs.Policy.{PlainZones, zone_at}
 use Rattle.policy_snapshot.specs.Stands.{PlainSnapshot}
 use Rattle.rpz_core.specs.declared.event.CoreFault.{CoreFault}
 use Rattle.rpz_core.specs.declared.event.Output.{Output}
@@ -97,7 +97,7 @@ transferred core now number stream zone offered marked mark polling wanted first
     subst (λ (z : Option PlainZone). transfer_step core number stream z ≡ Ok (now, out)) (sym there) (ap (λ (g : CoreState × Output). let r : Result (CoreState × Output) CoreFault = Ok g in r) gives)
 
 -- the zone of a number that there is
-pub number_bounds : (policy : PlainPolicy) (number : ℕ) (zone : PlainZone) → Some zone ≡ zone_at policy number → (1 ≤ number) × (number ≤ length policy)
+pub number_bounds : (policy : PlainZones) (number : ℕ) (zone : PlainZone) → Some zone ≡ zone_at policy number → (1 ≤ number) × (number ≤ length policy)
 number_bounds policy number zone =
     cond_both (number == 0) _ _ (λ (found : Option PlainZone). Some zone ≡ found → (1 ≤ number) × (number ≤ length policy))
     (λ t e. absurd cc)

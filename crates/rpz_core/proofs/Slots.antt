@@ -8,7 +8,7 @@ use Rattle.dns_message.specs.declared.request.Incoming.{Incoming}
 use Rattle.upstream_link.specs.declared.fact.Fact.{Fact}
 use Rattle.upstream_link.specs.Facts.{PlainFacts}
 use Rattle.upstream_link.specs.Vouched.{PlainLearned, fact_at}
-use Rattle.policy_snapshot.specs.Policy.{PlainPolicy, zone_at}
+use Rattle.policy_snapshot.specs.Policy.{PlainPolicy, PlainZones, zone_at}
 use Rattle.zone_rows.specs.declared.zone.PlainZone.{PlainZone}
 use Rattle.reply_build.specs.declared.turn.Turn.{Turn}
 use Rattle.reply_build.specs.declared.turn.Turn.TheVariants.{Ask, Said}
@@ -95,5 +95,5 @@ set_if true zone other before after e f = absurd cc
 set_if false zone other before after e f = f e
 
 -- the zone of a number that was put there
-pub zone_set : (zones : PlainPolicy) (number : ℕ) (zone next : PlainZone) → zone_at zones number ≡ Some zone → zone_at (slice_set zones (number - 1) next) number ≡ Some next
+pub zone_set : (zones : PlainZones) (number : ℕ) (zone next : PlainZone) → zone_at zones number ≡ Some zone → zone_at (slice_set zones (number - 1) next) number ≡ Some next
 zone_set zones number zone next at = set_if (number == 0) zone next (slice_get zones (number - 1)) (slice_get (slice_set zones (number - 1) next) (number - 1)) at (λ e. set_get zones (number - 1) zone next e)

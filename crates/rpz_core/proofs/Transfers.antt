@@ -56,13 +56,13 @@ keeps_marks w next number other stream (Some z) out e differs =
     let same = gave (world_after_offer w number z offered).0 next (offer_output number offered) out e in
     subst (λ (x : World). mark_at x.marks other ≡ mark_at w.marks other) same.0 (get_or-set_other w.marks (number - 1) (other - 1) _ false differs)
 
--- nor the origins or the clock
-pub keeps_clock : (w next : World) (number : ℕ) (stream : List ℕ) (found : Option PlainZone) (out : Output) → transfer_step w number stream found ≡ Ok (next, out) → (next.origins ≡ w.origins) × (next.clock ≡ w.clock)
+-- nor the settings or the clock
+pub keeps_clock : (w next : World) (number : ℕ) (stream : List ℕ) (found : Option PlainZone) (out : Output) → transfer_step w number stream found ≡ Ok (next, out) → (next.settings ≡ w.settings) × (next.clock ≡ w.clock)
 keeps_clock w next number stream None out e = absurd (failed _ next out e)
 keeps_clock w next number stream (Some z) out e =
     let offered = offer 0 (mark_at w.marks number) z stream in
     let same = gave (world_after_offer w number z offered).0 next (offer_output number offered) out e in
-    subst (λ (x : World). (x.origins ≡ w.origins) × (x.clock ≡ w.clock)) same.0 (refl, refl)
+    subst (λ (x : World). (x.settings ≡ w.settings) × (x.clock ≡ w.clock)) same.0 (refl, refl)
 
 faulty : (w : World) (number zone : ℕ) (why : Refusal) (z : PlainZone) (o : Offer) → offer_output number o ≡ Refused zone why
     → changed_at (after_poll (polling_of z o) w.clock) w.timers (number - 1) ≡ changed_at (after_poll Faulty w.clock) w.timers (number - 1)

@@ -28,8 +28,8 @@ fact_fault (Some (Some pending)) = None
 
 -- Why an event is refused in a world, if it is.
 abbrev pub fault_of : World → Event → Option CoreFault
-fault_of world (Transfer number stream) = zone_fault (zone_at (policy_of world) number)
-fault_of world (Full number) = zone_fault (zone_at (policy_of world) number)
+fault_of world (Transfer number stream) = zone_fault (zone_at (policy_of world).zones number)
+fault_of world (Full number) = zone_fault (zone_at (policy_of world).zones number)
 fault_of world (Query worker transport client message) =
     query_fault (slice_get world.sessions.workers worker)
 fault_of world (Give worker message) = fact_fault (slice_get world.sessions.workers worker)

@@ -4,9 +4,11 @@ use Rattle.std.specs.Option.{unwrap_or}
 use Rattle.std.specs.declared.alloc.AllocError.{AllocError}
 use Rattle.dns_name.specs.Labels.{Name}
 use Rattle.ip_prefix.specs.declared.Addr.{Addr}
+use Rattle.policy_override.specs.declared.zone_set.ZoneSet.{ZoneSet}
+use Rattle.policy_override.specs.ZoneSet.{origins_in, overrides_in}
 use Rattle.zone_rows.specs.declared.zone.PlainZone.{PlainZone}
 use Rattle.policy_snapshot.specs.Policy.{zone_at}
-use Rattle.policy_snapshot.specs.Stands.{PlainSnapshot, new_snapshot, next_count, count_of}
+use Rattle.policy_snapshot.specs.Stands.{PlainSnapshot, count_of, new_snapshot, next_count, policy_in}
 use Rattle.rpz_core.specs.declared.event.CoreError.{CoreError}
 use Rattle.rpz_core.specs.declared.event.CoreError.TheVariants as errors
 use Rattle.rpz_core.specs.declared.event.CoreFault.{CoreFault}
@@ -32,12 +34,12 @@ pub record CoreState : Type 0 where
   pub sessions : SessionsState
   pub clock : ℕ
 
-abbrev pub new_core : List Name → List (Option Addr) → CoreState
-new_core origins primaries =
+abbrev pub new_core : List ZoneSet → List (Option Addr) → CoreState
+new_core settings primaries =
     record {
-      origins = origins;
-      policy = new_snapshot origins;
-      marks = no_marks origins;
+      origins = origins_in settings;
+      policy = new_snapshot settings;
+      marks = no_marks (origins_in settings);
       timers = first_timers primaries 0;
       sessions = no_sessions;
       clock = 0;
@@ -47,8 +49,13 @@ new_core origins primaries =
 abbrev pub state_of : World → CoreState
 state_of world =
     record {
-      origins = world.origins;
-      policy = record { zones = policy_of world; accepted = count_of (length world.accepted) };
+      origins = origins_in world.settings;
+      policy =
+          record {
+            zones = (policy_of world).zones;
+            overrides = overrides_in world.settings;
+            accepted = count_of (length world.accepted);
+          };
       marks = world.marks;
       timers = world.timers;
       sessions = world.sessions;
@@ -59,6 +66,7 @@ abbrev pub with_zone : PlainSnapshot → ℕ → PlainZone → PlainSnapshot
 with_zone policy number zone =
     record {
       zones = slice_set policy.zones (number - 1) zone;
+      overrides = policy.overrides;
       accepted = next_count policy.accepted;
     }
 
@@ -154,7 +162,7 @@ core_step core (event.Transfer number stream) =
 core_step core (event.Full number) = full_step core number (zone_at core.policy.zones number)
 core_step core (event.Query worker transport client message) =
     with_sessions core
-    (take_query core.clock core.sessions core.policy.zones worker transport client message)
+    (take_query core.clock core.sessions (policy_in core.policy) worker transport client message)
 core_step core (event.Give worker message) =
     with_sessions core (take_answer core.clock core.sessions worker message)
 core_step core (event.Fail worker) =

@@ -1,8 +1,9 @@
 -- The world of the core, and what each event does to it.
 use Rattle.std.specs.Prelude.{ℕ, ◌-◌, Bool, true, List, [], ◌∷◌, ◌++◌, Option, Some, None, Result, Ok, Err}
 use Rattle.std.specs.Option.{unwrap_or}
-use Rattle.dns_name.specs.Labels.{Name}
 use Rattle.ip_prefix.specs.declared.Addr.{Addr}
+use Rattle.policy_override.specs.declared.zone_set.ZoneSet.{ZoneSet}
+use Rattle.policy_override.specs.ZoneSet.{origins_in}
 use Rattle.zone_rows.specs.declared.zone.PlainZone.{PlainZone}
 use Rattle.policy_snapshot.specs.declared.entry.Entry.{Entry}
 use Rattle.policy_snapshot.specs.Policy.{PlainPolicy, zone_at, policy_after}
@@ -22,23 +23,23 @@ use Rattle.notify_poll.specs.Timers.{after_poll, due_zone, first_timers}
 use Rattle.rpz_core.specs.Offer.{offer_output, polling_of}
 use Rattle.rpz_core.specs.Sessions.{SessionsState, no_sessions, take_query, take_answer, take_failure}
 
--- the origins of the policy's zones, the accepted transfers in order, which zones are marked, so that all of them is asked for
+-- the origins of the policy's zones with the override of each, the accepted transfers in order, which zones are marked, so that all of them is asked for
 -- next, the timer of each zone, the workers with their pending queries, what is cached, and the clock in seconds
 pub record World : Type 0 where
-  pub origins : List Name
+  pub settings : List ZoneSet
   pub accepted : List Entry
   pub marks : List Bool
   pub timers : List Timer
   pub sessions : SessionsState
   pub clock : ℕ
 
--- zones of these origins with these primaries, nothing of which is loaded; all of them are due
-abbrev pub new_world : List Name → List (Option Addr) → World
-new_world origins primaries =
+-- zones of these settings with these primaries, nothing of which is loaded; all of them are due
+abbrev pub new_world : List ZoneSet → List (Option Addr) → World
+new_world settings primaries =
     record {
-      origins = origins;
+      settings = settings;
       accepted = [];
-      marks = no_marks origins;
+      marks = no_marks (origins_in settings);
       timers = first_timers primaries 0;
       sessions = no_sessions;
       clock = 0;
@@ -46,7 +47,7 @@ new_world origins primaries =
 
 -- the policy after the transfers accepted so far
 abbrev pub policy_of : World → PlainPolicy
-policy_of world = policy_after world.origins world.accepted
+policy_of world = policy_after world.settings world.accepted
 
 -- the accepted transfers after an offer: a transfer that is taken is one entry more; any other stream adds none
 abbrev pub accepted_after : List Entry → ℕ → Offer → List Entry
@@ -60,7 +61,7 @@ abbrev pub world_after_offer : World → ℕ → PlainZone → Offer → World �
 world_after_offer world number zone offered =
     let marked = mark_at world.marks number in (
       record {
-        origins = world.origins;
+        settings = world.settings;
         accepted = accepted_after world.accepted number offered;
         marks = with_mark world.marks number (mark_after marked (wanted_of marked zone.content)
             offered);
@@ -83,7 +84,7 @@ full_step world number None = Err fault.NoZone
 full_step world number (Some zone) =
     Ok (
       record {
-        origins = world.origins;
+        settings = world.settings;
         accepted = world.accepted;
         marks = with_mark world.marks number true;
         timers = world.timers;
@@ -98,7 +99,7 @@ abbrev pub with_sessions : World → Result (SessionsState × Output) CoreFault 
 with_sessions world (Ok next) =
     Ok (
       record {
-        origins = world.origins;
+        settings = world.settings;
         accepted = world.accepted;
         marks = world.marks;
         timers = world.timers;
@@ -113,7 +114,7 @@ with_sessions world (Err fault) = Err fault
 abbrev pub clock_step : World → ℕ → World × Output
 clock_step world seconds = (
   record {
-    origins = world.origins;
+    settings = world.settings;
     accepted = world.accepted;
     marks = world.marks;
     timers = world.timers;
@@ -127,7 +128,7 @@ clock_step world seconds = (
 abbrev pub with_timers : World → List Timer → World
 with_timers world timers =
     record {
-      origins = world.origins;
+      settings = world.settings;
       accepted = world.accepted;
       marks = world.marks;
       timers = timers;
@@ -143,7 +144,7 @@ notified_output notified.Silent = output.Hush
 -- A message that comes as a NOTIFY changes the timer alone of the zone that it brings forward, if it names one.
 abbrev pub notify_step : World → Addr → List ℕ → World × Output
 notify_step world client message =
-    let answer = answer_to message client world.origins world.timers in (
+    let answer = answer_to message client (origins_in world.settings) world.timers in (
       with_timers world (brought_forward world.clock world.timers answer.1),
       notified_output (as_notified answer.0),
     )
@@ -155,8 +156,8 @@ notify_step world client message =
 -- tells the second.
 unfoldable pub world_step : World → Event → Result (World × Output) CoreFault
 world_step world (Transfer number stream) =
-    transfer_step world number stream (zone_at (policy_of world) number)
-world_step world (Full number) = full_step world number (zone_at (policy_of world) number)
+    transfer_step world number stream (zone_at (policy_of world).zones number)
+world_step world (Full number) = full_step world number (zone_at (policy_of world).zones number)
 world_step world (Query worker transport client message) =
     with_sessions world
     (take_query world.clock world.sessions (policy_of world) worker transport client message)

@@ -1,7 +1,6 @@
 //! Laws of the world and its steps. Each function is its clauses, and does nothing.
 
 ghost use Rattle.std.specs.Prelude.{◌≡◌, ◌≢◌, ◌↔◌, ◌-◌, ℕ, List, ◌∷◌, Contains, length, slice_get, Option, Some, None, Ok, Err};
-ghost use Rattle.dns_name.specs.Labels.{Name};
 ghost use Rattle.answer_cache.specs.Recent.{AreApart, HaveSameEntries, live_entry};
 ghost use Rattle.dns_message.specs.declared.question.Question.{Question};
 ghost use Rattle.dns_message.specs.declared.request.Incoming.{Incoming};
@@ -9,6 +8,8 @@ ghost use Rattle.ip_prefix.specs.declared.Addr.{Addr};
 ghost use Rattle.notify_poll.specs.Notifying.{answer_to, changed_at};
 ghost use Rattle.notify_poll.specs.Timers.{after_poll};
 ghost use Rattle.notify_poll.specs.declared.timer.Polling.TheVariants.{Faulty};
+ghost use Rattle.policy_override.specs.declared.zone_set.ZoneSet.{ZoneSet};
+ghost use Rattle.policy_override.specs.ZoneSet.{origins_in};
 ghost use Rattle.policy_snapshot.specs.Policy.{AreAccepted, PlainPolicy};
 ghost use Rattle.query_session.specs.Session.{turn_by};
 ghost use Rattle.reply_build.specs.declared.said.Said.{Said};
@@ -39,37 +40,37 @@ use query_session::laws::what_is_obtained_is_kept;
 /// is what the policy asks. The policy is that after the transfers that were accepted when the query came, each of which its zone
 /// took as those before it left the policy.
 pub fn each_reply_is_the_policys_answer()
-    ensures origins { (origins : List Name) (primaries : List (Option Addr))
-        (events : List Event) (world : World) → Reaches origins primaries events world →
-        world.origins ≡ origins }
-    ensures accepted { (origins : List Name) (primaries : List (Option Addr))
-        (events : List Event) (world : World) → Reaches origins primaries events world →
-        AreAccepted world.origins world.accepted }
-    ensures pending { (origins : List Name) (primaries : List (Option Addr))
+    ensures settings { (settings : List ZoneSet) (primaries : List (Option Addr))
+        (events : List Event) (world : World) → Reaches settings primaries events world →
+        world.settings ≡ settings }
+    ensures accepted { (settings : List ZoneSet) (primaries : List (Option Addr))
+        (events : List Event) (world : World) → Reaches settings primaries events world →
+        AreAccepted (origins_in world.settings) world.accepted }
+    ensures pending { (settings : List ZoneSet) (primaries : List (Option Addr))
         (events : List Event) (world : World) (worker : ℕ) (pending : PendingQuery) →
-        Reaches origins primaries events world → IsPendingAt world worker pending →
-        IsPendingAs origins primaries events world worker pending }
-    ensures cached { (origins : List Name) (primaries : List (Option Addr))
+        Reaches settings primaries events world → IsPendingAt world worker pending →
+        IsPendingAs settings primaries events world worker pending }
+    ensures cached { (settings : List ZoneSet) (primaries : List (Option Addr))
         (events : List Event) (world : World) (entry : PlainLearned) →
-        Reaches origins primaries events world → Contains world.sessions.cached entry →
-        IsLearned origins primaries events entry }
-    ensures apart { (origins : List Name) (primaries : List (Option Addr))
-        (events : List Event) (world : World) → Reaches origins primaries events world →
+        Reaches settings primaries events world → Contains world.sessions.cached entry →
+        IsLearned settings primaries events entry }
+    ensures apart { (settings : List ZoneSet) (primaries : List (Option Addr))
+        (events : List Event) (world : World) → Reaches settings primaries events world →
         AreApart world.sessions.cached }
-    ensures kept { (origins : List Name) (primaries : List (Option Addr)) (worker : ℕ)
+    ensures kept { (settings : List ZoneSet) (primaries : List (Option Addr)) (worker : ℕ)
         (events : List Event) (policy : PlainPolicy) (incoming : Incoming)
         (facts : PlainFacts) →
-        AreObtained origins primaries worker events policy incoming facts → AreKept facts }
-    ensures asks { (origins : List Name) (primaries : List (Option Addr))
+        AreObtained settings primaries worker events policy incoming facts → AreKept facts }
+    ensures asks { (settings : List ZoneSet) (primaries : List (Option Addr))
         (events : List Event) (event : Event) (world next : World) (worker : ℕ)
-        (message : List ℕ) → Reaches origins primaries events world →
+        (message : List ℕ) → Reaches settings primaries events world →
         world_step world event ≡ Ok (next, output.Ask worker message) →
         IsAskedAs next worker message }
-    ensures replies { (origins : List Name) (primaries : List (Option Addr))
+    ensures replies { (settings : List ZoneSet) (primaries : List (Option Addr))
         (events : List Event) (event : Event) (world next : World) (worker : ℕ)
-        (said : Said) → Reaches origins primaries events world →
+        (said : Said) → Reaches settings primaries events world →
         world_step world event ≡ Ok (next, said_output worker said) →
-        IsAnsweredAs origins primaries (event ∷ events) next worker said }
+        IsAnsweredAs settings primaries (event ∷ events) next worker said }
 {
     a_policy_takes_transfers_one_by_one();
     what_is_obtained_is_kept();
@@ -95,11 +96,11 @@ pub fn the_core_does_what_the_world_does()
         core_step (state_of world) event ≡ as_core_outcome (world_step world event) }
 {}
 
-/// No event opens a zone, or changes the number of marks, of timers or of workers.
+/// No event opens a zone, changes the override of one, or changes the number of marks, of timers or of workers.
 pub fn an_event_keeps_the_zones_and_the_workers()
-    ensures origins { (world next : World) (event : Event) (out : Output) →
+    ensures settings { (world next : World) (event : Event) (out : Output) →
         world_step world event ≡ Ok (next, out) →
-        next.origins ≡ world.origins }
+        next.settings ≡ world.settings }
     ensures marks { (world next : World) (event : Event) (out : Output) →
         world_step world event ≡ Ok (next, out) →
         length next.marks ≡ length world.marks }
@@ -113,7 +114,7 @@ pub fn an_event_keeps_the_zones_and_the_workers()
 
 /// A transfer that is refused adds nothing to the accepted ones, and so leaves the policy: it changes nothing but the mark and the
 /// zone's timer, by which the zone is polled again after its last retry. No transfer changes the mark or the timer of another zone,
-/// or a pending query, which keeps the policy that it came under; nor the zones' origins, the cache or the clock.
+/// or a pending query, which keeps the policy that it came under; nor the zones' origins and overrides, the cache or the clock.
 pub fn a_refused_transfer_changes_nothing_but_the_mark()
     ensures accepted { (world next : World) (number zone : ℕ) (stream : List ℕ) (why : Refusal) →
         world_step world (Transfer number stream) ≡ Ok (next, output.Refused zone why) →
@@ -130,9 +131,9 @@ pub fn a_refused_transfer_changes_nothing_but_the_mark()
     ensures pending { (world next : World) (number : ℕ) (stream : List ℕ) (out : Output) →
         world_step world (Transfer number stream) ≡ Ok (next, out) →
         next.sessions ≡ world.sessions }
-    ensures origins { (world next : World) (number : ℕ) (stream : List ℕ) (out : Output) →
+    ensures settings { (world next : World) (number : ℕ) (stream : List ℕ) (out : Output) →
         world_step world (Transfer number stream) ≡ Ok (next, out) →
-        next.origins ≡ world.origins }
+        next.settings ≡ world.settings }
     ensures clock { (world next : World) (number : ℕ) (stream : List ℕ) (out : Output) →
         world_step world (Transfer number stream) ≡ Ok (next, out) →
         next.clock ≡ world.clock }
@@ -146,7 +147,7 @@ pub fn only_a_transfer_or_a_notify_moves_a_timer()
         next.timers ≡ world.timers }
     ensures unnamed { (world next : World) (client : Addr) (message : List ℕ) (out : Output) →
         world_step world (Notify client message) ≡ Ok (next, out) →
-        (answer_to message client world.origins world.timers).1 ≡ None →
+        (answer_to message client (origins_in world.settings) world.timers).1 ≡ None →
         next.timers ≡ world.timers }
     ensures notify { (world next : World) (client : Addr) (message : List ℕ) (out : Output) →
         world_step world (Notify client message) ≡ Ok (next, out) →

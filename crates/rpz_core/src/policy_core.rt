@@ -17,6 +17,7 @@ use dns_name::{Name, Octets};
 use ip_prefix::Addr;
 use ixfr_apply::{Marks, wanted};
 use notify_poll::{Notified, PollCore, Polling};
+use policy_override::{ZoneSet, origins_of};
 use policy_snapshot::Snapshot;
 use policy_snapshot::laws::a_policy_takes_transfers_one_by_one;
 use std::alloc::{AllocError, Global};
@@ -56,28 +57,28 @@ impl Model for Core {
 }
 
 impl Core {
-    /// Zones of these origins in this order, at most 32, with nothing loaded, each of which has its primary or none. All of them are
+    /// Zones of these settings in this order, at most 32, with nothing loaded, each of which has its primary or none. All of them are
     /// due, and no query is pending.
     pub fn start(
         alloc: Global,
-        origins: &[Name],
+        settings: &[ZoneSet],
         primaries: &[Option<Addr>],
     ) -> Result<Self, AllocError>
-        requires limit { length origins.now ≤ ZONE_LIMIT }
-        requires primaries { length primaries.now ≡ length origins.now }
-        ensures core { IfOk result (λ core. core ≡ new_core origins.now primaries.now) }
+        requires limit { length settings.now ≤ ZONE_LIMIT }
+        requires primaries { length primaries.now ≡ length settings.now }
+        ensures core { IfOk result (λ core. core ≡ new_core settings.now primaries.now) }
         ensures world { IfOk result
-            (λ core. core ≡ state_of (new_world origins.now primaries.now)) }
+            (λ core. core ≡ state_of (new_world settings.now primaries.now)) }
     {
         a_policy_takes_transfers_one_by_one();
-        let names = copied(alloc, origins)?;
-        let policy = Arc::new(alloc, Snapshot::start(alloc, origins)?)?;
-        let marks = Marks::new(alloc, origins)?;
+        let origins = origins_of(alloc, settings)?;
+        let policy = Arc::new(alloc, Snapshot::start(alloc, settings)?)?;
+        let marks = Marks::new(alloc, &origins)?;
         let timers = PollCore::start(alloc, primaries, 0)?;
         let sessions = Sessions::new(alloc)?;
         Ok(Core {
             alloc,
-            origins: names,
+            origins,
             policy,
             marks,
             timers,
@@ -259,22 +260,4 @@ fn notified_output(notified: Notified) -> Output
         Notified::Reply(message) => Output::Notified { message },
         Notified::Silent => Output::Hush,
     }
-}
-
-// The same names.
-fn copied(alloc: Global, origins: &[Name]) -> Result<Vec<Name>, AllocError>
-    ensures { IfOk result (λ names. names.items ≡ origins.now) }
-{
-    let mut names = Vec::with_capacity(alloc, origins.len())?;
-    for origin in origins {
-        names.push(again(origin)?)?;
-    }
-    Ok(names)
-}
-
-// The same name.
-fn again(name: &Name) -> Result<Name, AllocError>
-    ensures { IfOk result (λ copy. copy ≡ name.now) }
-{
-    name.clone()
 }

@@ -1,6 +1,7 @@
 //! The workers with their pending queries.
 
 ghost use Rattle.std.specs.Prelude.{◌≡◌, map, true, Some, None, IfOk, OnOk, OnErr, is_some, slice_get, slice_index_or, slice_set};
+ghost use Rattle.policy_snapshot.specs.Stands.{policy_in};
 ghost use Rattle.rpz_core.specs.declared.event.Output.TheVariants as out;
 ghost use Rattle.rpz_core.specs.Sessions.{PendingQuery, answered_step, with_learned, learned_by, next_turn, no_sessions, resumed_step, said_output, take_answer, take_failure, take_query, uncached, with_worker};
 ghost use Rattle.rpz_core.specs.State.{StepsBare, TurnsBare, TurnsOrPutsBack};
@@ -96,7 +97,7 @@ impl Sessions {
         message: &[u8],
     ) -> Result<Output, CoreError>
         ensures { StepsBare uncached
-            (take_query now self.old policy.now.value.zones worker transport client message.now)
+            (take_query now self.old (policy_in policy.now.value) worker transport client message.now)
             result self.old self.new }
     {
         match self.workers.get(worker as usize) {

@@ -2,6 +2,9 @@
 use Rattle.std.proofs.Common.{◌≡◌, ℕ, zero, suc, ◌+◌, ◌-◌, ◌==◌, ◌<◌, ◌≤◌, Bool, true, false, if◌then◌else◌, nat_lt, List, [], ◌∷◌, ◌++◌, Option, Some, None, Result, Ok, Err, length, map, replicate, refl, sym, ap, subst, ◌∙◌, arith, append-nil, append_assoc}
 use Rattle.std.proofs.lemmas.Bool.Decides.{nat_tests}
 use Rattle.std.specs.Prelude.{IsOk, is_some, slice_get, slice_index_or}
+use Rattle.std.proofs.lemmas.List.{length-map}
+use Rattle.policy_override.specs.declared.zone_set.ZoneSet.{ZoneSet}
+use Rattle.policy_override.specs.ZoneSet.{origins_in}
 use Rattle.ip_prefix.specs.declared.Addr.{Addr}
 use Rattle.script_codec.specs.declared.line.Line.{Line}
 use Rattle.script_codec.specs.declared.line.Line.TheVariants.{Zone, Primary, Transfer, Full, Query, Give, Fail, Notify, Due, Clock}
@@ -27,19 +30,19 @@ use Rattle.rpz_core.specs.Sessions.{PendingQuery}
 use Rattle.rpz_core.specs.World.{World, policy_of, world_step}
 use Rattle.rpz_core.proofs.Outputs.{step_keeps}
 use Rattle.rpz_core.proofs.Refusals.{refused_by_state}
-use Rattle.rpz_program.specs.Opened.{OpenZones, with_origin, with_primary}
+use Rattle.rpz_program.specs.Opened.{OpenZones, with_primary, with_open_zone}
 use Rattle.rpz_program.specs.Script.{ScriptWorld, opened, answering, IsReached, at_start, after_line, event_of, event_read, state_in, with_event, world_in, zones_opened, shown_outcome, event_outcome, zone_outcome, primary_outcome, world_after_line, step, text_outcome, too_long, too_many}
 
 -- ---- events lead to a world that is reached, and it has its workers
 
 abbrev IsLed : OpenZones → List Event → ScriptWorld → Type 0
 IsLed zones events (opened these) = (these ≡ zones) × (events ≡ [])
-IsLed zones events (answering world) = Reaches zones.origins zones.primaries events world
+IsLed zones events (answering world) = Reaches zones.settings zones.primaries events world
 
-events_in : (zones : OpenZones) (events : List Event) (w : ScriptWorld) → IsLed zones events w → Reaches zones.origins zones.primaries events (world_in w)
+events_in : (zones : OpenZones) (events : List Event) (w : ScriptWorld) → IsLed zones events w → Reaches zones.settings zones.primaries events (world_in w)
 events_in zones events (opened these) h =
-    subst (λ (es : List Event). Reaches zones.origins zones.primaries es (world_in (opened these))) (sym h.1)
-    (subst (λ (zs : OpenZones). Reaches zs.origins zs.primaries [] (world_in (opened these))) h.0 begins)
+    subst (λ (es : List Event). Reaches zones.settings zones.primaries es (world_in (opened these))) (sym h.1)
+    (subst (λ (zs : OpenZones). Reaches zs.settings zs.primaries [] (world_in (opened these))) h.0 begins)
 events_in zones events (answering world) h = h
 
 -- a line that is no event
@@ -47,12 +50,12 @@ stays : (zones : OpenZones) (events : List Event) (w : ScriptWorld) → IsLed zo
 stays zones events (opened these) h = (refl, h.1)
 stays zones events (answering world) h = h
 
-worker_count : (origins : List (List (List ℕ))) (primaries : List (Option Addr)) (events : List Event) (world : World) → Reaches origins primaries events world → length world.sessions.workers ≡ WORKERS
-worker_count origins primaries _ _ begins = refl
-worker_count origins primaries _ _ (goes_on events e world next out before is) = (step_keeps world next e out is).workers ∙ worker_count origins primaries events world before
+worker_count : (settings : List ZoneSet) (primaries : List (Option Addr)) (events : List Event) (world : World) → Reaches settings primaries events world → length world.sessions.workers ≡ WORKERS
+worker_count settings primaries _ _ begins = refl
+worker_count settings primaries _ _ (goes_on events e world next out before is) = (step_keeps world next e out is).workers ∙ worker_count settings primaries events world before
 
 workers_in : (zones : OpenZones) (events : List Event) (w : ScriptWorld) → IsLed zones events w → length (world_in w).sessions.workers ≡ WORKERS
-workers_in zones events w h = worker_count zones.origins zones.primaries events (world_in w) (events_in zones events w h)
+workers_in zones events w h = worker_count zones.settings zones.primaries events (world_in w) (events_in zones events w h)
 
 abbrev Outcome : Type 0
 Outcome = Result (ScriptWorld × List ℕ) LineFault
@@ -77,16 +80,16 @@ module _ (zones : OpenZones) where
   given_goes : (events : List Event) (given next : ScriptWorld) (octets : List ℕ) → IsLed (zones_opened given zones) events given → Goes events next (Ok (given, octets))
   given_goes events given next octets h out is = subst (λ (w : ScriptWorld). IsLed (zones_opened w zones) events w) (done_is given next octets out is) h
 
-  event_if : (events : List Event) (world : World) (next : ScriptWorld) (e : Event) (r : Result (World × Output) CoreFault) → Reaches zones.origins zones.primaries events world → world_step world e ≡ r → Goes (e ∷ events) next (outcome_along answering (shown_outcome r))
+  event_if : (events : List Event) (world : World) (next : ScriptWorld) (e : Event) (r : Result (World × Output) CoreFault) → Reaches zones.settings zones.primaries events world → world_step world e ≡ r → Goes (e ∷ events) next (outcome_along answering (shown_outcome r))
   event_if events world next e (Ok given) h is = given_goes (e ∷ events) (answering given.0) next _ (goes_on events e world given.0 given.1 h is)
   event_if events world next e (Err fault) h is = λ out same. absurd cc
 
   event_goes : (events : List Event) (w next : ScriptWorld) (e : Event) → IsLed zones events w → Goes (e ∷ events) next (event_outcome w e)
   event_goes events w next e h = event_if events (world_in w) next e (world_step (world_in w) e) (events_in zones events w h) refl
 
-  zone_goes : (events : List Event) (w next : ScriptWorld) (origin : List (List ℕ)) → IsLed zones events w → Goes events next (zone_outcome w origin)
-  zone_goes events (opened these) next origin h = given_goes events (opened (with_origin these origin)) next [] (refl, h.1)
-  zone_goes events (answering world) next origin h = λ out is. absurd cc
+  zone_goes : (events : List Event) (w next : ScriptWorld) (zone : ZoneSet) → IsLed zones events w → Goes events next (zone_outcome w zone)
+  zone_goes events (opened these) next zone h = given_goes events (opened (with_open_zone these zone)) next [] (refl, h.1)
+  zone_goes events (answering world) next zone h = λ out is. absurd cc
 
   primary_goes : (events : List Event) (w next : ScriptWorld) (zone : ℕ) (address : Addr) → IsLed zones events w → Goes events next (primary_outcome w zone address)
   primary_goes events (opened these) next zone address h = given_goes events (opened (with_primary these zone address)) next [] (refl, h.1)
@@ -94,7 +97,7 @@ module _ (zones : OpenZones) where
 
   line_goes : (events : List Event) (w next : ScriptWorld) (line : Line) → IsLed zones events w → Goes (with_event (event_of line) events) next (world_after_line w line)
   unfolding world_after_line
-  line_goes events w next (Zone origin) h = zone_goes events w next origin h
+  line_goes events w next (Zone origin over) h = zone_goes events w next (record { origin = origin; over = over }) h
   line_goes events w next (Primary zone address) h = primary_goes events w next zone address h
   line_goes events w next (Transfer zone stream) h = event_goes events w next (event.Transfer zone stream) h
   line_goes events w next (Full zone) h = event_goes events w next (event.Full zone) h
@@ -117,7 +120,7 @@ reached_led _ _ _ _ (after_line lines more zones after events all world next tex
     (subst (λ (zs : OpenZones). IsLed zs (with_event (event_read (unnumbered_line text (state_in world))) events) next) (sym zones_are)
     (text_goes zones events world next (unnumbered_line text (state_in world)) (reached_led lines zones events world before) out is))
 
-pub reached_events : (lines : List (List ℕ)) (zones : OpenZones) (events : List Event) (w : ScriptWorld) → IsReached lines zones events w → Reaches zones.origins zones.primaries events (world_in w)
+pub reached_events : (lines : List (List ℕ)) (zones : OpenZones) (events : List Event) (w : ScriptWorld) → IsReached lines zones events w → Reaches zones.settings zones.primaries events (world_in w)
 reached_events lines zones events w reached = events_in zones events w (reached_led lines zones events w reached)
 
 -- ---- the world after lines is reached
@@ -195,12 +198,12 @@ pending_in : (w : ScriptWorld) (k : ℕ) → is_pending (state_in w) k ≡ slice
 pending_in (opened zones) k = sym (none_pending WORKERS k)
 pending_in (answering world) k = refl
 
-zones_in : (w : ScriptWorld) → length (policy_of (world_in w)) ≡ zone_count (state_in w)
-zones_in (opened zones) = policy_length zones.origins []
-zones_in (answering world) = policy_length world.origins world.accepted
+zones_in : (w : ScriptWorld) → length (policy_of (world_in w)).zones ≡ zone_count (state_in w)
+zones_in (opened zones) = policy_length (origins_in zones.settings) []
+zones_in (answering world) = policy_length (origins_in world.settings) world.accepted ∙ length-map world.settings (λ (zone : ZoneSet). zone.origin)
 
-zone_found : (w : ScriptWorld) (number : ℕ) → IsZone (state_in w) number → zone_fault (zone_at (policy_of (world_in w)) number) ≡ None
-zone_found w number h = number_there (policy_of (world_in w)) number h.0 (subst (λ (n : ℕ). number ≤ n) (sym (zones_in w)) h.1)
+zone_found : (w : ScriptWorld) (number : ℕ) → IsZone (state_in w) number → zone_fault (zone_at (policy_of (world_in w)).zones number) ≡ None
+zone_found w number h = number_there (policy_of (world_in w)).zones number h.0 (subst (λ (n : ℕ). number ≤ n) (sym (zones_in w)) h.1)
 
 abbrev HasWorkers : ScriptWorld → Type 0
 HasWorkers w = length (world_in w).sessions.workers ≡ WORKERS
@@ -223,7 +226,7 @@ event_done_if world e (Err fault) h is = let faulty = (refused_by_state world e 
 event_done : (w : ScriptWorld) (e : Event) → fault_of (world_in w) e ≡ None → IsOk (event_outcome w e)
 event_done w e h = event_done_if (world_in w) e (world_step (world_in w) e) h refl
 
-zone_done : (w : ScriptWorld) (origin : List (List ℕ)) → MayOpen (state_in w) origin → IsOk (zone_outcome w origin)
+zone_done : (w : ScriptWorld) (zone : ZoneSet) → MayOpen (state_in w) zone.origin → IsOk (zone_outcome w zone)
 zone_done (opened zones) origin h = refl
 zone_done (answering world) origin h = absurd h
 
@@ -233,7 +236,7 @@ primary_done (answering world) zone address h = absurd h
 
 within_done : (w : ScriptWorld) (line : Line) → HasWorkers w → IsWithin (state_in w) line → IsOk (world_after_line w line)
 unfolding world_after_line
-within_done w (Zone origin) has h = zone_done w origin h.1
+within_done w (Zone origin over) has h = zone_done w (record { origin = origin; over = over }) h.1
 within_done w (Primary zone address) has h = primary_done w zone address h.1
 within_done w (Transfer zone stream) has h = event_done w (event.Transfer zone stream) (zone_found w zone h)
 within_done w (Full zone) has h = event_done w (event.Full zone) (zone_found w zone h)

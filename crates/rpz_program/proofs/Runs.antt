@@ -2,6 +2,7 @@
 use Rattle.std.proofs.Common.{◌≡◌, ℕ, List, [], ◌∷◌, ◌++◌, Bool, true, false, Option, Some, Result, Ok, Err, refl, sym, ◌∙◌, ap, subst, arith, inl, inr}
 use Rattle.std.specs.Prelude.{IfOk, OnErr, OnOk, ◌⊎◌}
 use Rattle.std.proofs.lemmas.List.{append-nil}
+use Rattle.policy_override.specs.ZoneSet.{origins_in}
 use Rattle.edge_io.specs.Chain.{Stage}
 use Rattle.edge_io.specs.Edge.{WritesPrefix, appended}
 use Rattle.edge_io.specs.Told.{ComesNext}
@@ -209,11 +210,11 @@ stops_too one other turns gathering before after each (inr s) =
     inr (record { stages = s.stages; lines = s.lines; last = s.last; run = each s.stages s.lines s.last s.run; written = s.written })
 
 -- a run from where a server begins
-pub begins_so : (start : ServerStart) (feeder : PlainFeeder) (published : Published) (second : ℕ) (moments : Option (List ℕ)) → feeder ≡ first_feeder start.origins start.primaries published second → published ≡ nothing_published start.origins → ComesNext start.moments second moments
+pub begins_so : (start : ServerStart) (feeder : PlainFeeder) (published : Published) (second : ℕ) (moments : Option (List ℕ)) → feeder ≡ first_feeder (origins_in start.zones) start.primaries published second → published ≡ nothing_published start.zones → ComesNext start.moments second moments
     → (stages : List (Stage ServerState RunTurn)) (lines : List ℕ) (last : ServerState) → RunsOn start.plan second (server_state feeder start.told start.faults start.ids moments second (opens_at_once start.plan)) stages lines last → RunsTo start stages lines last
 begins_so start feeder published second moments feeder_is published_is moment stages lines last runs =
-    let same : feeder ≡ first_feeder start.origins start.primaries (nothing_published start.origins) second =
-    feeder_is ∙ ap (λ (p : Published). first_feeder start.origins start.primaries p second) published_is in
+    let same : feeder ≡ first_feeder (origins_in start.zones) start.primaries (nothing_published start.zones) second =
+    feeder_is ∙ ap (λ (p : Published). first_feeder (origins_in start.zones) start.primaries p second) published_is in
     record {
       second = second;
       moments = moments;

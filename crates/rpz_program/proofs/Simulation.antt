@@ -1,6 +1,9 @@
 -- The stage does in its state what the world of the script does.
 use Rattle.std.proofs.Common.{◌≡◌, ℕ, List, Option, Some, None, Result, Ok, Err, map, refl, sym, ap, ◌∙◌}
 use Rattle.std.specs.Prelude.{is_some}
+use Rattle.std.proofs.lemmas.List.{length-map}
+use Rattle.policy_override.specs.declared.zone_set.ZoneSet.{ZoneSet}
+use Rattle.policy_override.specs.ZoneSet.{origins_in, overrides_in}
 use Rattle.ip_prefix.specs.declared.Addr.{Addr}
 use Rattle.script_codec.specs.declared.line.Line.{Line}
 use Rattle.script_codec.specs.declared.line.Line.TheVariants.{Zone, Primary, Transfer, Full, Query, Give, Fail, Notify, Due, Clock}
@@ -9,8 +12,8 @@ use Rattle.script_codec.specs.Line.{unnumbered_line}
 use Rattle.script_codec.specs.State.{PlainState}
 use Rattle.script_codec.specs.State as state
 use Rattle.script_loop.specs.Abstraction.{outcome_along}
-use Rattle.policy_snapshot.specs.Policy.{PlainPolicy}
-use Rattle.policy_snapshot.proofs.Standing.{policy_after-none, policy_length}
+use Rattle.policy_snapshot.specs.Policy.{PlainZones}
+use Rattle.policy_snapshot.proofs.Standing.{policy_length, zones_behind-none}
 use Rattle.rpz_core.specs.declared.event.CoreFault.{CoreFault}
 use Rattle.rpz_core.specs.declared.event.Event.{Event}
 use Rattle.rpz_core.specs.declared.event.Event.TheVariants as event
@@ -30,15 +33,15 @@ start_seen = refl
 -- lines are read by the same
 state_seen : (w : ScriptWorld) → stage.state_in (stage_of w) ≡ script.state_in w
 state_seen (opened zones) = refl
-state_seen (answering world) = ap (λ (n : ℕ). state.running n (map is_some world.sessions.workers)) (policy_length world.origins world.accepted)
+state_seen (answering world) = ap (λ (n : ℕ). state.running n (map is_some world.sessions.workers)) (policy_length (origins_in world.settings) world.accepted ∙ length-map world.settings (λ (zone : ZoneSet). zone.origin))
 
-new_state : List (List (List ℕ)) → List (Option Addr) → PlainPolicy → CoreState
-new_state origins primaries zones = record (new_core origins primaries) { policy = record { zones = zones; accepted = 0 } }
+new_state : List ZoneSet → List (Option Addr) → PlainZones → CoreState
+new_state settings primaries zones = record (new_core settings primaries) { policy = record { zones = zones; overrides = overrides_in settings; accepted = 0 } }
 
 -- the core begins, or runs, in the state of the world
 core_seen : (w : ScriptWorld) → core_in (stage_of w) ≡ state_of (world_in w)
 unfolding new_state
-core_seen (opened zones) = sym (ap (new_state zones.origins zones.primaries) (policy_after-none zones.origins))
+core_seen (opened zones) = sym (ap (new_state zones.settings zones.primaries) (zones_behind-none (origins_in zones.settings)))
 core_seen (answering world) = refl
 
 output_seen : (r : Result (World × Output) CoreFault) → outcome_along Running (shown_outcome (as_core_outcome r)) ≡ outcome_along stage_of (outcome_along answering (shown_outcome r))
@@ -51,9 +54,9 @@ event_seen w e =
     ∙ ap (λ (r : Result (CoreState × Output) CoreFault). outcome_along Running (shown_outcome r)) (core.step_seen (world_in w) e)
     ∙ output_seen (world_step (world_in w) e)
 
-zone_seen : (w : ScriptWorld) (origin : List (List ℕ)) → stage_zone (stage_of w) origin ≡ outcome_along stage_of (zone_outcome w origin)
-zone_seen (opened zones) origin = refl
-zone_seen (answering world) origin = refl
+zone_seen : (w : ScriptWorld) (zone : ZoneSet) → stage_zone (stage_of w) zone ≡ outcome_along stage_of (zone_outcome w zone)
+zone_seen (opened zones) zone = refl
+zone_seen (answering world) zone = refl
 
 primary_seen : (w : ScriptWorld) (zone : ℕ) (address : Addr) → stage_primary (stage_of w) zone address ≡ outcome_along stage_of (primary_outcome w zone address)
 primary_seen (opened zones) zone address = refl
@@ -61,7 +64,7 @@ primary_seen (answering world) zone address = refl
 
 line_seen : (w : ScriptWorld) (line : Line) → stage_line (stage_of w) line ≡ outcome_along stage_of (world_after_line w line)
 unfolding stage_line world_after_line
-line_seen w (Zone origin) = zone_seen w origin
+line_seen w (Zone origin over) = zone_seen w (record { origin = origin; over = over })
 line_seen w (Primary zone address) = primary_seen w zone address
 line_seen w (Transfer zone stream) = event_seen w (event.Transfer zone stream)
 line_seen w (Full zone) = event_seen w (event.Full zone)

@@ -1,21 +1,21 @@
 -- The zones that the lines of a script open before its first event.
 use Rattle.std.specs.Prelude.{ℕ, ◌-◌, List, [], ◌∷◌, ◌++◌, Option, Some, None, slice_set}
-use Rattle.dns_name.specs.Labels.{Name}
 use Rattle.ip_prefix.specs.declared.Addr.{Addr}
+use Rattle.policy_override.specs.declared.zone_set.ZoneSet.{ZoneSet}
 
--- the origin of each zone in order, zone 1 first, and its primary, where it has one
+-- the zones in order, zone 1 first, and the primary of each, where it has one
 pub record OpenZones : Type 0 where
-  pub origins : List Name
+  pub settings : List ZoneSet
   pub primaries : List (Option Addr)
 
 abbrev pub no_zones : OpenZones
-no_zones = record { origins = []; primaries = [] }
+no_zones = record { settings = []; primaries = [] }
 
 -- one more zone, which has no primary yet
-abbrev pub with_origin : OpenZones → Name → OpenZones
-with_origin zones origin =
+abbrev pub with_open_zone : OpenZones → ZoneSet → OpenZones
+with_open_zone zones zone =
     record {
-      origins = zones.origins ++ origin ∷ [];
+      settings = zones.settings ++ zone ∷ [];
       primaries = zones.primaries ++ None ∷ [];
     }
 
@@ -23,6 +23,6 @@ with_origin zones origin =
 abbrev pub with_primary : OpenZones → ℕ → Addr → OpenZones
 with_primary zones number address =
     record {
-      origins = zones.origins;
+      settings = zones.settings;
       primaries = slice_set zones.primaries (number - 1) (Some address);
     }

@@ -1,7 +1,8 @@
 -- The world of a script, and what its lines do to it.
 use Rattle.std.specs.Prelude.{◌≡◌, ℕ, List, [], ◌∷◌, ◌++◌, length, map, Option, Some, None, is_some, Result, Ok, Err}
-use Rattle.dns_name.specs.Labels.{Name}
 use Rattle.ip_prefix.specs.declared.Addr.{Addr}
+use Rattle.policy_override.specs.declared.zone_set.ZoneSet.{ZoneSet}
+use Rattle.policy_override.specs.ZoneSet.{origins_in}
 use Rattle.script_codec.specs.declared.line.Line.{Line}
 use Rattle.script_codec.specs.declared.line.Line.TheVariants.{Zone, Primary, Transfer, Full, Query, Give, Fail, Notify, Due, Clock}
 use Rattle.script_codec.specs.declared.shown.Shown.{Shown}
@@ -25,7 +26,7 @@ use Rattle.ixfr_apply.specs.declared.refusal.Refusal.TheVariants as refusal
 use Rattle.rpz_core.specs.World.{World, new_world, world_step}
 use Rattle.script_loop.specs.Abstraction.{outcome_along}
 use Rattle.script_loop.specs.Fold as fold
-use Rattle.rpz_program.specs.Opened.{OpenZones, no_zones, with_origin, with_primary}
+use Rattle.rpz_program.specs.Opened.{OpenZones, no_zones, with_primary, with_open_zone}
 
 -- The zones that were opened so far, with their primaries; and from the first line on that is neither of these two kinds, the
 -- world of the core.
@@ -38,17 +39,17 @@ start = opened no_zones
 
 -- what lines are read by: how many zones there are, and which workers have a pending query
 abbrev pub state_in : ScriptWorld → PlainState
-state_in (opened zones) = state.opening zones.origins zones.primaries
-state_in (answering world) = state.running (length world.origins) (map is_some world.sessions.workers)
+state_in (opened zones) = state.opening (origins_in zones.settings) zones.primaries
+state_in (answering world) = state.running (length world.settings) (map is_some world.sessions.workers)
 
 -- the world of the core, which begins with the zones that were opened
 abbrev pub world_in : ScriptWorld → World
-world_in (opened zones) = new_world zones.origins zones.primaries
+world_in (opened zones) = new_world zones.settings zones.primaries
 world_in (answering world) = world
 
 -- the event that a line is; a zone line and a primary line are none
 abbrev pub event_of : Line → Option Event
-event_of (Zone origin) = None
+event_of (Zone origin over) = None
 event_of (Primary zone address) = None
 event_of (Transfer zone stream) = Some (event.Transfer zone stream)
 event_of (Full zone) = Some (event.Full zone)
@@ -101,9 +102,9 @@ shown_outcome (Ok next) = Ok (next.0, shown_octets (shown_of next.1))
 shown_outcome (Err fault) = Err (why_of fault)
 
 -- a zone is opened, before the first event
-abbrev pub zone_outcome : ScriptWorld → Name → Result (ScriptWorld × List ℕ) LineFault
-zone_outcome (opened zones) origin = Ok (opened (with_origin zones origin), [])
-zone_outcome (answering world) origin = Err why.Late
+abbrev pub zone_outcome : ScriptWorld → ZoneSet → Result (ScriptWorld × List ℕ) LineFault
+zone_outcome (opened zones) zone = Ok (opened (with_open_zone zones zone), [])
+zone_outcome (answering world) zone = Err why.Late
 
 -- a zone is given its primary, before the first event
 abbrev pub primary_outcome : ScriptWorld → ℕ → Addr → Result (ScriptWorld × List ℕ) LineFault
@@ -117,7 +118,8 @@ event_outcome world event =
 
 -- the world after a line, and what the line writes; or why it is refused
 unfoldable pub world_after_line : ScriptWorld → Line → Result (ScriptWorld × List ℕ) LineFault
-world_after_line world (Zone origin) = zone_outcome world origin
+world_after_line world (Zone origin over) =
+    zone_outcome world (record { origin = origin; over = over })
 world_after_line world (Primary zone address) = primary_outcome world zone address
 world_after_line world (Transfer zone stream) = event_outcome world (event.Transfer zone stream)
 world_after_line world (Full zone) = event_outcome world (event.Full zone)

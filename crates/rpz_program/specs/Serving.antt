@@ -1,10 +1,11 @@
 -- What a run of a server does.
 use Rattle.std.specs.Prelude.{◌≡◌, ◌+◌, ◌⊎◌, ℕ, List, ◌++◌, Bool, true, false, map, Option}
-use Rattle.dns_name.specs.Labels.{Name}
+use Rattle.policy_override.specs.declared.zone_set.ZoneSet.{ZoneSet}
 use Rattle.edge_io.specs.Chain.{Stage}
 use Rattle.edge_io.specs.Edge.{WritesPrefix, appended}
 use Rattle.edge_io.specs.Wired.{PlainWires}
 use Rattle.edge_io.specs.declared.endpoint.Endpoint.{Endpoint}
+use Rattle.rpz_words.specs.Zones.{zone_sets}
 use Rattle.rpz_words.specs.declared.settings.Settings.{Settings}
 use Rattle.rpz_workers.specs.declared.report.Report.{Report}
 use Rattle.rpz_program.specs.ServedLine.{served_line}
@@ -14,9 +15,9 @@ use Rattle.rpz_program.specs.declared.feeds.TheConstants.{STREAM_WORKERS}
 use Rattle.rpz_program.specs.declared.plan.ServerPlan.{ServerPlan}
 use Rattle.rpz_program.specs.declared.sums.Sums.{Sums}
 
--- the names of the zones, and their primaries, in order
-abbrev pub origins_in : Settings → List Name
-origins_in settings = map (λ zone. zone.origin) settings.zones
+-- the zones with what is set over their rules, and their primaries, in order
+abbrev pub zones_in : Settings → List ZoneSet
+zones_in settings = zone_sets settings.zones
 
 abbrev pub primaries_in : Settings → List Endpoint
 primaries_in settings = map (λ zone. zone.primary) settings.zones
@@ -42,7 +43,7 @@ abbrev pub server_start : Settings → Option PlainWires → ℕ → Option (Lis
     ServerStart
 server_start settings told faults ids moments =
     record {
-      origins = origins_in settings;
+      zones = zones_in settings;
       primaries = primaries_in settings;
       plan = plan_of settings;
       told = told_at_start (opens_at_once (plan_of settings)) (plan_of settings) told;

@@ -1,7 +1,8 @@
 -- The turns of a server: what it does with one wake after another.
 use Rattle.std.specs.Prelude.{◌≡◌, ◌≤◌, ◌+◌, ◌⊎◌, ℕ, zero, suc, Bool, true, false, List, [], ◌∷◌, ◌++◌, Option, Some, None, IsSome, is_none, Ok}
 use Rattle.std.specs.Option.{option_map}
-use Rattle.dns_name.specs.Labels.{Name}
+use Rattle.policy_override.specs.declared.zone_set.ZoneSet.{ZoneSet}
+use Rattle.policy_override.specs.ZoneSet.{origins_in}
 use Rattle.edge_io.specs.Chain.{Chain, Stage}
 use Rattle.edge_io.specs.Edge.{Rose}
 use Rattle.edge_io.specs.Told.{ComesNext}
@@ -62,7 +63,7 @@ told_at_start false plan told = told
 
 -- what a server begins with: its zones and what it does, and what is told once the endpoint is open, where it is opened at once
 pub record ServerStart : Type 0 where
-  pub origins : List Name
+  pub zones : List ZoneSet
   pub primaries : List Endpoint
   pub plan : ServerPlan
   pub told : Option PlainWires
@@ -70,10 +71,10 @@ pub record ServerStart : Type 0 where
   pub ids : Option (List ℕ)
   pub moments : Option (List ℕ)
 
--- what is published where a policy of these origins begins: nothing, and no zone is marked
-abbrev pub nothing_published : List Name → Published
-nothing_published origins =
-    record { list = []; version = new_snapshot origins; marks = no_marks origins }
+-- what is published where a policy of these zones begins: nothing, and no zone is marked
+abbrev pub nothing_published : List ZoneSet → Published
+nothing_published zones =
+    record { list = []; version = new_snapshot zones; marks = no_marks (origins_in zones) }
 
 -- what wires tell after so many links were made
 abbrev pub linked_told : Endpoint → ℕ → Option PlainWires → Option PlainWires
@@ -192,7 +193,7 @@ pub record RunsTo (start : ServerStart) (stages : List (Stage ServerState RunTur
   pub moment : ComesNext start.moments second moments
   pub runs : RunsOn start.plan second
       (server_state
-      (first_feeder start.origins start.primaries (nothing_published start.origins) second)
+      (first_feeder (origins_in start.zones) start.primaries (nothing_published start.zones) second)
       start.told start.faults start.ids moments second (opens_at_once start.plan))
       stages lines last
 

@@ -25,5 +25,5 @@ pub fn events_lead_to_a_scripts_world()
         (zones : OpenZones) × (events : List Event) × IsReached lines zones events end.1 }
     ensures events { (lines : List (List ℕ)) (zones : OpenZones) (events : List Event)
         (world : ScriptWorld) → IsReached lines zones events world →
-        Reaches zones.origins zones.primaries events (world_in world) }
+        Reaches zones.settings zones.primaries events (world_in world) }
 {}

@@ -7,7 +7,7 @@ mod feeds;
 mod holding;
 pub mod laws;
 mod loading;
-mod origins;
+mod opened;
 mod output;
 mod plan;
 mod progress;

@@ -12,6 +12,7 @@ use crate::serve_error::ServeError;
 use crate::server_cache::open_cache;
 use crate::serving::serve_over;
 use edge_io::{Clock, Ids, Sink, Spawner, Wires};
+use policy_override::origins_of;
 use policy_publish::start_store;
 use rpz_words::Settings;
 use rpz_workers::Report;
@@ -87,11 +88,11 @@ pub fn serve<
     ensures failed { result ≡ Err ServeError.WriteFault →
         Rose (K.faults out.old) (K.faults out.new) }
 {
+    let sets = settings.zones.sets(alloc)?;
     let zones = PlannedZones {
-        origins: settings.zones.origins(alloc)?,
+        origins: origins_of(alloc, sets.as_slice())?,
         primaries: settings.zones.primaries(alloc)?,
     };
-    let origins = settings.zones.origins(alloc)?;
     let plan = Plan {
         server: plan_of(settings),
         workers: settings.workers + STREAM_WORKERS,
@@ -101,7 +102,7 @@ pub fn serve<
         return Err(error);
     }
     let readers = plan.server.askers + plan.workers;
-    let parts = start_store(origins, readers);
+    let parts = start_store(sets, readers);
     serve_over::<Brand, W, P, C, I, K, R>(
         rt, alloc, parts, &plan, hashers, zones, wires, spawner, clock, ids, out,
     )

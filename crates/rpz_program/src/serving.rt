@@ -6,6 +6,7 @@ ghost use Rattle.rpz_program.specs.Serving.{ServesBy, ServesWhole, StopsIn, Stop
 ghost use Rattle.rpz_program.specs.Turning.{IsOfLines, IsOfTurns, OrdersFirst, RunsAll, StopsFirst, StopsRunning};
 ghost use Rattle.rpz_program.specs.Turns.{RunsOn, opens_at_once, server_state};
 ghost use Rattle.policy_feed.specs.Feed.{feed_of};
+ghost use Rattle.policy_override.specs.ZoneSet.{origins_in};
 
 use crate::holding::come_to_open;
 use crate::output::write_lines;
@@ -279,11 +280,11 @@ pub(crate) fn serve_over<
     out: &mut K,
 ) -> Result<(), ServeError>
     requires store { parts ≡ N.store }
-    requires origins { zones.origins.items ≡ parts.origins }
-    requires primaries { length zones.primaries.items ≡ length parts.origins }
+    requires origins { zones.origins.items ≡ origins_in parts.settings }
+    requires primaries { length zones.primaries.items ≡ length parts.settings }
     ensures ok { OnOk result (ServesWhole
         (record {
-          origins = zones.origins.items;
+          zones = parts.settings;
           primaries = zones.primaries.items;
           plan = plan.now.server;
           told = W.told wires.old;
@@ -300,7 +301,7 @@ pub(crate) fn serve_over<
         (K.held out.old) (K.held out.new) (W.told wires.new)) }
     ensures err { OnErr result (StopsServing
         (record {
-          origins = zones.origins.items;
+          zones = parts.settings;
           primaries = zones.primaries.items;
           plan = plan.now.server;
           told = W.told wires.old;

@@ -8,9 +8,10 @@ ghost use Rattle.rpz_core.specs.declared.event.Event.TheVariants as event_form;
 ghost use Rattle.rpz_program.specs.Stage.{new_stage, stage_event, stage_line, stage_primary, stage_zone, state_in};
 
 use crate::answering::answer_event;
-use crate::origins::Origins;
-use dns_name::{Name, Octets};
+use crate::opened::Opened;
+use dns_name::Octets;
 use ip_prefix::{Addr, Transport};
+use policy_override::ZoneSet;
 use rpz_core::{Core, Event};
 use script_codec::{Line, LineFault, ScriptState, UnnumberedError, read_unnumbered};
 use script_loop::{AnswerError, Machine};
@@ -20,7 +21,7 @@ use std::alloc::Global;
 #[derive(Drop)]
 pub(crate) enum Stage {
     /// Its zones are opened: all lines so far were zone lines and primary lines.
-    Opening(Origins),
+    Opening(Opened),
     /// The core runs, with the zones that were opened.
     Running(Core),
 }
@@ -65,7 +66,7 @@ impl Stage {
     pub(crate) fn new(alloc: Global) -> Self
         ensures { result ≡ new_stage }
     {
-        Stage::Opening(Origins::new(alloc))
+        Stage::Opening(Opened::new(alloc))
     }
 
     // What lines are read by.
@@ -73,9 +74,9 @@ impl Stage {
         ensures { state_seen result ≡ state_in self.now }
     {
         match self {
-            Stage::Opening(origins) => ScriptState::Opening {
-                origins: origins.names(),
-                primaries: origins.primaries(),
+            Stage::Opening(opened) => ScriptState::Opening {
+                zones: opened.zones(),
+                primaries: opened.primaries(),
             },
             Stage::Running(core) => ScriptState::Running {
                 zones: core.zone_count(),
@@ -97,7 +98,7 @@ impl Stage {
         ensures { Steps (stage_line self.old line) result self.new reply.new.items }
     {
         match line {
-            Line::Zone { origin } => self.open(origin),
+            Line::Zone { origin, over } => self.open(ZoneSet { origin, over }),
             Line::Primary { zone, address } => self.give_primary(zone, address),
             Line::Transfer { zone, stream } => {
                 self.take(alloc, Event::Transfer { zone, stream }, reply)
@@ -126,13 +127,13 @@ impl Stage {
     }
 
     // Opens a zone, which writes nothing.
-    fn open(&mut self, origin: Name) -> Result<(), AnswerError<LineFault>>
-        requires { MayOpen (state_in self.old) origin }
-        ensures { Steps (stage_zone self.old origin) result self.new [] }
+    fn open(&mut self, zone: ZoneSet) -> Result<(), AnswerError<LineFault>>
+        requires { MayOpen (state_in self.old) zone.origin }
+        ensures { Steps (stage_zone self.old zone) result self.new [] }
     {
         match self {
-            Stage::Opening(origins) => {
-                origins.push(origin)?;
+            Stage::Opening(opened) => {
+                opened.push(zone)?;
                 Ok(())
             }
             Stage::Running(_) => Err(AnswerError::Refused(LineFault::Late)),
@@ -145,8 +146,8 @@ impl Stage {
         ensures { Steps (stage_primary self.old zone address) result self.new [] }
     {
         match self {
-            Stage::Opening(origins) => {
-                origins.set_primary(zone, address);
+            Stage::Opening(opened) => {
+                opened.set_primary(zone, address);
                 Ok(())
             }
             Stage::Running(_) => Err(AnswerError::Refused(LineFault::Late)),
@@ -165,8 +166,8 @@ impl Stage {
     {
         match self {
             Stage::Running(core) => answer_event(alloc, core, event, reply),
-            Stage::Opening(origins) => {
-                let mut core = Core::start(alloc, origins.names().as_slice(), origins.primaries())?;
+            Stage::Opening(opened) => {
+                let mut core = Core::start(alloc, opened.zones().as_slice(), opened.primaries())?;
                 answer_event(alloc, &mut core, event, reply)?;
                 *self = Stage::Running(core);
                 Ok(())

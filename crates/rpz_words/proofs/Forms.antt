@@ -1,14 +1,18 @@
 -- Forms of values.
-use Rattle.std.proofs.Common.{◌≡◌, ℕ, ◌^◌, ◌≤◌, Bool, false, ◌||◌, List, [], ◌∷◌, length, Some, None, ltb, refl, arith, subst, drop_of_length-le}
+use Rattle.std.proofs.Common.{◌≡◌, ℕ, ◌^◌, ◌≤◌, Bool, false, ◌||◌, if◌then◌else◌, List, [], ◌∷◌, length, Some, None, ltb, refl, ap, arith, subst, drop_of_length-le}
 use Rattle.std.specs.Char.{is_ascii_digit}
-use Rattle.std.specs.List.{position_or_len, before_first, after_first}
+use Rattle.std.specs.List.{list_any, position_or_len, before_first, after_first}
 use Rattle.std.specs.Result.{result_ok}
 use Rattle.std.proofs.lemmas.Bool.{and_left, and_right, or_parts, ltb-false}
+use Rattle.std.proofs.lemmas.List.Folds.{list_any_none}
+use Rattle.std.proofs.lemmas.List.Sums.{fails_before_first}
 use Rattle.edge_io.specs.declared.endpoint.Endpoint.{Endpoint}
+use Rattle.policy_override.specs.Override.{named_override}
+use Rattle.policy_override.specs.declared.overrides.Override.TheVariants.{Given}
 use Rattle.script_codec.specs.Field.{is_number, number_field, v4_field}
 use Rattle.rpz_words.specs.declared.values.TheConstants.{PORT_DIGITS, PORT_LIMIT}
 use Rattle.rpz_words.specs.Outcome.{none_if}
-use Rattle.rpz_words.specs.Values.{count_to, number_between, port_of, endpoint_of, origin_of, zone_setting_of, is_colon, is_at_sign}
+use Rattle.rpz_words.specs.Values.{cname_override, count_to, number_between, port_of, endpoint_of, origin_of, override_behind, override_of, zone_setting_of, is_colon, is_at_sign, is_equals_sign}
 use Rattle.rpz_words.proofs.Binding.{bind_none, bind_some, not_held, some_is}
 
 -- numbers
@@ -67,11 +71,28 @@ unfolding endpoint_of
 no_endpoint text whole =
     rw (nothing_behind is_colon text whole, no_port) (bind_none (result_ok (v4_field (before_first is_colon text))))
 
-empty_endpoint : endpoint_of [] ≡ None
-empty_endpoint = no_endpoint [] refl
+-- nothing before an equals sign is none either
+empty_primary : endpoint_of (before_first is_equals_sign []) ≡ None
+empty_primary = no_endpoint [] refl
 
 -- without an `@` there is no zone
 pub no_zone : (text : List ℕ) → position_or_len is_at_sign text ≡ length text → zone_setting_of text ≡ None
 unfolding zone_setting_of
 no_zone text whole =
-    rw (nothing_behind is_at_sign text whole, empty_endpoint) (bind_none (origin_of (before_first is_at_sign text)))
+    rw (nothing_behind is_at_sign text whole, empty_primary) (bind_none (origin_of (before_first is_at_sign text)))
+
+-- overrides
+
+-- no byte passes where the first such place is the text's end
+is_absent : (p : ℕ → Bool) (text : List ℕ) → position_or_len p text ≡ length text → list_any p text ≡ false
+is_absent p text whole = list_any_none p text (λ k d lt. fails_before_first p text k d (omega (arith, whole)))
+
+-- without an equals sign nothing is set over the zone
+pub none_set : (text : List ℕ) → position_or_len is_equals_sign text ≡ length text → override_behind text ≡ Some Given
+none_set text whole =
+    ap (λ (found : Bool). if found then override_of (after_first is_equals_sign text) else Some Given) (is_absent is_equals_sign text whole)
+
+-- without a colon an override is a word
+pub word_alone : (text : List ℕ) → position_or_len is_colon text ≡ length text → override_of text ≡ named_override text
+word_alone text whole =
+    ap (λ (found : Bool). if found then cname_override (before_first is_colon text) (after_first is_colon text) else named_override text) (is_absent is_colon text whole)

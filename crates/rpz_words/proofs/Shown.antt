@@ -1,5 +1,5 @@
 -- Which page words ask for, and that one is shown only where they do.
-use Rattle.std.proofs.Common.{◌≡◌, ap, refl, sym, ◌∙◌, Bool, true, false, cond, if◌then◌else◌, ◌||◌, List, [], ◌∷◌, Option, Some, None, codes, map, string_bytes}
+use Rattle.std.proofs.Common.{◌≡◌, ap, refl, ◌∙◌, Bool, true, false, if◌then◌else◌, ◌||◌, List, [], ◌∷◌, Option, Some, None, codes, map, string_bytes}
 use Rattle.std.specs.List.{list_any}
 use Rattle.std.specs.Prelude.{String}
 use Rattle.std.specs.Str.{bytes_eq}
@@ -8,7 +8,6 @@ use Rattle.clap.specs.Words.{Row, Text, subcommand_of}
 use Rattle.rpz_words.specs.Outcome.{◌>>=◌}
 use Rattle.rpz_words.specs.Pages.{command_page, help_page, is_help, is_version, page_by}
 use Rattle.rpz_words.specs.Words.{argv, command_by, command_of, load_settings_of, rpz_app, settings_of}
-use Rattle.rpz_words.specs.declared.command.Command.{Command}
 use Rattle.rpz_words.specs.declared.command.Command.TheVariants.{Load, Replay, Serve, Show}
 use Rattle.rpz_words.specs.declared.pages.Page.{Page}
 use Rattle.rpz_words.specs.declared.pages.Page.TheVariants.{Commands, Version}

@@ -1,12 +1,15 @@
 -- What the value of an argument says, if it has the form.
 use Rattle.std.specs.Prelude.{ℕ, ◌==◌, ◌||◌, Bool, if◌then◌else◌, nat_lt, List, [], ◌∷◌, length, Option, Some, None, codes}
-use Rattle.std.specs.List.{before_first, after_first}
+use Rattle.std.specs.List.{list_any, before_first, after_first}
 use Rattle.std.specs.Option.{option_map}
 use Rattle.std.specs.Result.{result_ok}
 use Rattle.std.specs.Str.{bytes_eq}
 use Rattle.dns_name.specs.Labels.{Name}
 use Rattle.dns_name.specs.Text.{text_name}
 use Rattle.edge_io.specs.declared.endpoint.Endpoint.{Endpoint}
+use Rattle.policy_override.specs.Override.{named_override}
+use Rattle.policy_override.specs.declared.overrides.Override.{Override}
+use Rattle.policy_override.specs.declared.overrides.Override.TheVariants.{Cname, Given}
 use Rattle.script_codec.specs.Field.{number_field, v4_field}
 use Rattle.zone_rows.specs.declared.zone.TheConstants.{ZONE_LIMIT}
 use Rattle.rpz_words.specs.declared.settings.TheConstants.{ASKER_LIMIT, CONNECTION_LIMIT, HOLD_LIMIT, LEAST_CACHE, LOAD_WORKER_LIMIT, MOST_CACHE, QUERY_LIMIT, RULE_LIMIT, SEED_LIMIT}
@@ -105,12 +108,39 @@ origin_of text = result_ok (text_name text)
 abbrev pub is_at_sign : ℕ → Bool
 is_at_sign b = b == 64
 
--- `ZONE@PRIMARY`, split at the first `@`: a name and an endpoint
+-- `=`, which stands before an override
+abbrev pub is_equals_sign : ℕ → Bool
+is_equals_sign b = b == 61
+
+-- `cname` and the name of its target
+abbrev pub cname_override : List ℕ → List ℕ → Option Override
+cname_override word target =
+    if bytes_eq word (codes "cname")
+    then (origin_of target >>= λ name. Some (Cname name))
+    else None
+
+-- an override: `cname:TARGET`, split at the first colon, or a word
+abbrev pub override_of : List ℕ → Option Override
+override_of text =
+    if list_any is_colon text
+    then cname_override (before_first is_colon text) (after_first is_colon text)
+    else named_override text
+
+-- the override behind the first `=`; where none stands there, each rule does what the zone says
+abbrev pub override_behind : List ℕ → Option Override
+override_behind text =
+    if list_any is_equals_sign text
+    then override_of (after_first is_equals_sign text)
+    else Some Given
+
+-- `ZONE@PRIMARY` or `ZONE@PRIMARY=OVERRIDE`, split at the first `@`, and at the first `=` behind it: a name, an endpoint and an
+-- override
 unfoldable pub zone_setting_of : List ℕ → Option ZoneSetting
 zone_setting_of text = do
   origin ← origin_of (before_first is_at_sign text)
-  primary ← endpoint_of (after_first is_at_sign text)
-  Some (record { origin = origin; primary = primary })
+  primary ← endpoint_of (before_first is_equals_sign (after_first is_at_sign text))
+  over ← override_behind (after_first is_at_sign text)
+  Some (record { origin = origin; primary = primary; over = over })
 
 -- each of the texts as a zone
 abbrev pub zone_settings_of : List (List ℕ) → Option (List ZoneSetting)

@@ -1,9 +1,15 @@
 -- The policy zones of a server.
-use Rattle.std.specs.Prelude.{◌≢◌, ◌||◌, Bool, false, List, [], ◌∷◌, AllPairs}
+use Rattle.std.specs.Prelude.{◌≢◌, ◌||◌, Bool, false, List, [], ◌∷◌, map, AllPairs}
 use Rattle.std.specs.List.{list_any}
 use Rattle.dns_name.specs.Alike.{same_name}
 use Rattle.dns_name.specs.Labels.{lowered, Name}
+use Rattle.policy_override.specs.declared.zone_set.ZoneSet.{ZoneSet}
 use Rattle.rpz_words.specs.declared.zones.ZoneSetting.{ZoneSetting}
+
+-- the zones with what is set over their rules, in order
+abbrev pub zone_sets : List ZoneSetting → List ZoneSet
+zone_sets zones =
+    map (λ (zone : ZoneSetting). record { origin = zone.origin; over = zone.over }) zones
 
 -- a zone has this name; ASCII letters compare without case (RFC 1035, section 2.3.3)
 abbrev pub has_origin : Name → List ZoneSetting → Bool

@@ -9,7 +9,9 @@ pub enum Command {
     /// `replay`: a script is answered.
     Replay,
     /// `serve [--askers N] [--cache ENTRIES] [--hold SECONDS] [--tcp-clients CLIENTS] [--tcp-per-client EACH] LISTEN UPSTREAM TURNS
-    /// WORKERS ZONE@PRIMARY...`: a server answers. LISTEN, UPSTREAM and each PRIMARY are `A.B.C.D:PORT`, an address of IP version 4 and a port from 1 to 65,535. An option may stand anywhere among the
+    /// WORKERS ZONE@PRIMARY...`: a server answers. LISTEN, UPSTREAM and each PRIMARY are `A.B.C.D:PORT`, an address of IP version 4 and a
+    /// port from 1 to 65,535. Behind a ZONE@PRIMARY may stand what is set over the rules of the zone: `=WORD`, where WORD is `given`,
+    /// `disabled`, `nxdomain`, `nodata`, `passthru`, `drop` or `tcp-only`, or `=cname:TARGET`. An option may stand anywhere among the
     /// words behind `serve`, also as `--cache=ENTRIES`, and each once at most.
     Serve(Settings),
     /// `load SEED RULES QUERIES WORKERS`: a zone and queries are made from the seed, and answered.

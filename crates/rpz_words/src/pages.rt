@@ -43,6 +43,17 @@ what the rules don't decide.
   ZONE@PRIMARY      a policy zone, and the primary that it is transferred from,
                     A.B.C.D:PORT; 1 to 32 zones, in order of precedence
 
+What stands behind a ZONE@PRIMARY takes the place of what its rules do:
+  =given            nothing else: they do what the zone says, as without it
+  =disabled         the zone has no rules
+  =nxdomain         NXDOMAIN
+  =nodata           NOERROR without records
+  =passthru         the answer of UPSTREAM passes
+  =drop             no reply
+  =tcp-only         over UDP the client is sent to TCP, where the answer passes
+  =cname:TARGET     a CNAME to this name; to `*.NAME`, in quotes for a shell:
+                    to the name that was asked for, followed by NAME
+
 Options, anywhere behind `serve`:
   --askers N        how many threads ask UPSTREAM, so that others need not wait:
                     1 to 512, and 256 if it isn't given

@@ -1,15 +1,18 @@
 //! The values of arguments.
 
 ghost use Rattle.std.specs.Prelude.{◌≡◌, ◌≤◌, IfSome, map};
+ghost use Rattle.std.specs.List.{before_first};
+ghost use Rattle.policy_override.specs.Override.{named_override};
 ghost use Rattle.rpz_words.specs.Outcome.{Gives};
 ghost use Rattle.rpz_words.specs.Values as values_form;
-ghost use Rattle.rpz_words.specs.Values.{endpoint_of, origin_of, port_of, turns_of, zone_setting_of, zone_settings_of, zones_of};
+ghost use Rattle.rpz_words.specs.Values.{cname_override, endpoint_of, is_equals_sign, origin_of, override_behind, override_of, port_of, turns_of, zone_setting_of, zone_settings_of, zones_of};
 
 use crate::settings::TURN_LIMIT;
 use crate::words_error::WordsError;
 use crate::zones::{ZoneSetting, Zones};
 use dns_name::{Name, TextError};
 use edge_io::Endpoint;
+use policy_override::Override;
 use script_codec::{read_address_4, read_number};
 use std::alloc::Global;
 use zone_rows::ZONE_LIMIT;
@@ -89,17 +92,72 @@ pub(crate) fn read_endpoint(text: &str) -> Option<Endpoint>
     Some(Endpoint { addr, port })
 }
 
-// The zone and its primary that `ZONE@PRIMARY` writes.
+// The zone, its primary and its override that `ZONE@PRIMARY` or `ZONE@PRIMARY=OVERRIDE` writes.
 #[tactic(auto, unfolding(crate::specs::Values::zone_setting_of))]
 fn read_zone(alloc: Global, text: &str) -> Result<ZoneSetting, WordsError>
     ensures { Gives result (zone_setting_of text.now) }
 {
-    let Some((origin, primary)) = text.split_once('@') else {
+    let Some((origin, source)) = text.split_once('@') else {
         return Err(WordsError::Usage);
     };
     let origin = read_origin(alloc, origin)?;
-    let primary = read_endpoint(primary).ok_or(WordsError::Usage)?;
-    Ok(ZoneSetting { origin, primary })
+    let primary = read_primary(source).ok_or(WordsError::Usage)?;
+    let over = read_set_over(alloc, source)?;
+    Ok(ZoneSetting {
+        origin,
+        primary,
+        over,
+    })
+}
+
+// The endpoint that stands before the first equals sign, or alone.
+fn read_primary(text: &str) -> Option<Endpoint>
+    ensures { result ≡ endpoint_of (before_first is_equals_sign text.now) }
+{
+    match text.split_once('=') {
+        Some((primary, _)) => read_endpoint(primary),
+        None => read_endpoint(text),
+    }
+}
+
+// The override that stands behind the first equals sign, or `Given` where there is none.
+fn read_set_over(alloc: Global, text: &str) -> Result<Override, WordsError>
+    ensures { Gives result (override_behind text.now) }
+{
+    match text.split_once('=') {
+        Some((_, over)) => read_override(alloc, over),
+        None => Ok(Override::Given),
+    }
+}
+
+// The override that `cname:TARGET` or a word writes.
+fn read_override(alloc: Global, text: &str) -> Result<Override, WordsError>
+    ensures { Gives result (override_of text.now) }
+{
+    match text.split_once(':') {
+        Some((word, target)) => read_cname(alloc, word, target),
+        None => read_word(text),
+    }
+}
+
+// The override that a word names.
+fn read_word(text: &str) -> Result<Override, WordsError>
+    ensures { Gives result (named_override text.now) }
+{
+    match Override::named(text.as_bytes()) {
+        Some(over) => Ok(over),
+        None => Err(WordsError::Usage),
+    }
+}
+
+// The override that `cname` and its target write.
+fn read_cname(alloc: Global, word: &str, target: &str) -> Result<Override, WordsError>
+    ensures { Gives result (cname_override word.now target.now) }
+{
+    if word == "cname" {
+        return Ok(Override::Cname(read_origin(alloc, target)?));
+    }
+    Err(WordsError::Usage)
 }
 
 // The name that a text writes.

@@ -5,16 +5,19 @@ ghost use Rattle.rpz_words.specs.Zones as zones_form;
 
 use dns_name::Name;
 use edge_io::Endpoint;
+use policy_override::{Override, ZoneSet, ZoneSets};
 use std::alloc::{AllocError, Global};
 use std::marker::Model;
 
-/// A policy zone, and where it is transferred from.
+/// A policy zone, where it is transferred from, and what is set over its rules.
 #[derive(Debug, Drop)]
 pub struct ZoneSetting {
     /// The name of the zone.
     pub origin: Name,
     /// The primary server that its transfers come from.
     pub primary: Endpoint,
+    /// What is set over its rules.
+    pub over: Override,
 }
 
 /// The policy zones of a server in order, the first of them zone 1. Contracts see the list.
@@ -49,15 +52,15 @@ impl Zones {
         self.zones.len()
     }
 
-    /// Copies of the zones' names, in order.
-    pub fn origins(&self, alloc: Global) -> Result<Vec<Name>, AllocError>
-        ensures { IfOk result (λ names. names.items ≡ map (λ setting. setting.origin) self.now) }
+    /// Copies of the zones' names with what is set over their rules, in order.
+    pub fn sets(&self, alloc: Global) -> Result<ZoneSets, AllocError>
+        ensures { IfOk result (λ sets. sets ≡ zones_form.zone_sets self.now) }
     {
-        let mut names = Vec::with_capacity(alloc, self.zones.len())?;
+        let mut sets = ZoneSets::new(alloc);
         for setting in &self.zones {
-            names.push(copied(&setting.origin)?)?;
+            sets.push(set_of(setting)?)?;
         }
-        Ok(names)
+        Ok(sets)
     }
 
     /// Where the zones are transferred from, in order.
@@ -106,6 +109,17 @@ fn has_origin(name: &Name, zones: &[ZoneSetting]) -> bool
     ensures { result ≡ zones_form.has_origin name.now zones.now }
 {
     zones.iter().any(|zone| name.is_same(&zone.origin))
+}
+
+// A copy of the zone's name with what is set over its rules.
+fn set_of(setting: &ZoneSetting) -> Result<ZoneSet, AllocError>
+    ensures { IfOk result
+        (λ set. set ≡ record { origin = setting.now.origin; over = setting.now.over }) }
+{
+    Ok(ZoneSet {
+        origin: copied(&setting.origin)?,
+        over: setting.over.copied()?,
+    })
 }
 
 // The same name once more.

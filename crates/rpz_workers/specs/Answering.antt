@@ -1,7 +1,7 @@
 -- The answer of one query by a worker.
 use Rattle.std.specs.Prelude.{◌≡◌, ◌≤◌, ◌⊎◌, ℕ, Bool, true, List, [], ◌∷◌, ◌++◌, Option, None, Result, Ok, Err}
+use Rattle.policy_override.specs.declared.zone_set.ZoneSet.{ZoneSet}
 use mathlib.Core.List.{IsPrefix}
-use Rattle.dns_name.specs.Labels.{Name}
 use Rattle.edge_io.specs.Chain.{Chain, Stage}
 use Rattle.dns_message.specs.Request.{incoming_of}
 use Rattle.dns_message.specs.declared.question.Question.{Question}
@@ -47,14 +47,14 @@ obtained_in (stage ∷ stages) = obtained_in stages ++ stage.turn ∷ []
 -- The message is answered by the policy after the list of transfers that is then seen, which begins with the one that was seen
 -- before and with each that the worker was told, and by the facts that the query obtained, one after another, each for the question
 -- that comes next; after the last nothing is asked, and this is said.
-pub record IsAnswer {L : Type 0} (origins : List Name)
+pub record IsAnswer {L : Type 0} (settings : List ZoneSet)
     (gave : List ℕ → List ℕ → ℕ → Type 0) (passes_on : Bool) (job : Job) (now : ℕ) (said : Said)
     (old new : PlainWorker L) : Type 0 where
   pub stages : List (Stage Inquiry (Obtained L))
   pub last : Inquiry
-  pub obtains : Chain (Obtains gave passes_on now (policy_after origins new.known.seen)
+  pub obtains : Chain (Obtains gave passes_on now (policy_after settings new.known.seen)
       (incoming_of job.message job.peer.addr job.transport)) (beginning old) stages last
-  pub says : turn_by (policy_after origins new.known.seen)
+  pub says : turn_by (policy_after settings new.known.seen)
       (incoming_of job.message job.peer.addr job.transport) last.facts ≡ turn.Said said
   pub obtained : new.obtained ≡ obtained_in stages
   pub goes_on : GoesOn old.known new.known.seen
@@ -66,14 +66,14 @@ pub record IsAnswer {L : Type 0} (origins : List Name)
 
 -- The message needs the upstream: by the same policy, and by what live entries of the cache gave, one after another, this question
 -- comes next. No live entry of the cache is about it, where the cache tells its entries, and the worker asks nobody.
-pub record NeedsUpstream {L : Type 0} (origins : List Name)
+pub record NeedsUpstream {L : Type 0} (settings : List ZoneSet)
     (gave : List ℕ → List ℕ → ℕ → Type 0) (passes_on : Bool) (job : Job) (now : ℕ)
     (question : Question) (old new : PlainWorker L) : Type 0 where
   pub stages : List (Stage Inquiry (Obtained L))
   pub last : Inquiry
-  pub obtains : Chain (Obtains gave passes_on now (policy_after origins new.known.seen)
+  pub obtains : Chain (Obtains gave passes_on now (policy_after settings new.known.seen)
       (incoming_of job.message job.peer.addr job.transport)) (beginning old) stages last
-  pub asks : turn_by (policy_after origins new.known.seen)
+  pub asks : turn_by (policy_after settings new.known.seen)
       (incoming_of job.message job.peer.addr job.transport) last.facts ≡ turn.Ask question
   pub not_found : IsFound question now None last.cached
   pub asks_nobody : passes_on ≡ true
@@ -95,13 +95,13 @@ pub record IsNoAnswer {L : Type 0} (old new : PlainWorker L) : Type 0 where
   pub obtained : new.obtained ≡ []
 
 -- what the query of a message came to, or that memory ran out
-abbrev pub Answers : {L E : Type 0} → List Name → (List ℕ → List ℕ → ℕ → Type 0) → Bool → Job →
+abbrev pub Answers : {L E : Type 0} → List ZoneSet → (List ℕ → List ℕ → ℕ → Type 0) → Bool → Job →
     ℕ → Result Answered E → PlainWorker L → PlainWorker L → Type 0
-Answers origins gave passes_on job now (Ok (answered.Said said)) old new =
-    IsAnswer origins gave passes_on job now said old new
-Answers origins gave passes_on job now (Ok (answered.Needs question)) old new =
-    NeedsUpstream origins gave passes_on job now question old new
-Answers origins gave passes_on job now (Err e) old new = IsNoAnswer old new
+Answers settings gave passes_on job now (Ok (answered.Said said)) old new =
+    IsAnswer settings gave passes_on job now said old new
+Answers settings gave passes_on job now (Ok (answered.Needs question)) old new =
+    NeedsUpstream settings gave passes_on job now question old new
+Answers settings gave passes_on job now (Err e) old new = IsNoAnswer old new
 
 -- what is said fits into a message; a question that is to be asked is none
 abbrev pub IsShortAnswer : Answered → Type 0

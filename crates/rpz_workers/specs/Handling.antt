@@ -1,6 +1,6 @@
 -- What a worker does with its items.
 use Rattle.std.specs.Prelude.{◌≡◌, ◌≤◌, ℕ, Bool, List, Option, Some, None, Result, Ok, Err}
-use Rattle.dns_name.specs.Labels.{Name}
+use Rattle.policy_override.specs.declared.zone_set.ZoneSet.{ZoneSet}
 use Rattle.ip_prefix.specs.declared.Transport.{Transport}
 use Rattle.ip_prefix.specs.declared.Transport.TheVariants as transport
 use Rattle.edge_io.specs.Edge.{Rose}
@@ -96,14 +96,14 @@ pub record Sends (peer : Endpoint) (transport : Transport) (message : List ℕ) 
 
 -- A job is answered at the second that the clock gives next, and the reply is sent to its peer over its transport; or it is passed
 -- on. Over either transport a send that fails raises the count of send faults.
-pub record HandlesJob {L S K : Type 0} (origins : List Name)
+pub record HandlesJob {L S K : Type 0} (settings : List ZoneSet)
     (gave : List ℕ → List ℕ → ℕ → Type 0) (passes_on : Bool) (job : Job)
     (before : WorkerState L S K) (t : Took) (after : WorkerState L S K) : Type 0 where
   pub now : ℕ
   pub what : Outcome
   pub became : Took
   pub second : ComesNext before.moments now after.moments
-  pub settles : Settles origins gave passes_on job now what before.worker after.worker
+  pub settles : Settles settings gave passes_on job now what before.worker after.worker
       before.passed after.passed
   pub sends : Sends job.peer job.transport job.message what became before.sent after.sent
   pub took_is : t ≡ took_over job.transport became
@@ -112,11 +112,11 @@ pub record HandlesJob {L S K : Type 0} (origins : List Name)
   pub failed : became ≡ took.Failed → Rose before.send_faults after.send_faults
 
 -- A connection is served, and closed with what it ended by.
-pub record HandlesConnection {L S K : Type 0} (origins : List Name)
+pub record HandlesConnection {L S K : Type 0} (settings : List ZoneSet)
     (gave : List ℕ → List ℕ → ℕ → Type 0) (passes_on : Bool) (views : StreamViews S K)
     (source : S) (sink : K) (client : Endpoint) (before after : WorkerState L S K) : Type 0 where
   pub ended : Ended S K
-  pub serves : ServesConnection origins gave passes_on client
+  pub serves : ServesConnection settings gave passes_on client
       (fault_counts (views.source_faults source) (views.source_faults ended.source)
       (views.sink_faults sink) (views.sink_faults ended.sink))
       (connection_state before.worker before.moments before.passed (views.left source)
@@ -137,13 +137,13 @@ pub record HandlesTold {L S K : Type 0} (list : List Entry)
   pub same : after ≡ record before { worker = record before.worker { known = after.worker.known } }
 
 -- what a worker does with an item
-abbrev pub Handles : {L N S K : Type 0} → List Name → (List ℕ → List ℕ → ℕ → Type 0) → Bool →
+abbrev pub Handles : {L N S K : Type 0} → List ZoneSet → (List ℕ → List ℕ → ℕ → Type 0) → Bool →
     StreamViews S K → WorkerState L S K → Item N S K → Took → WorkerState L S K → Type 0
-Handles origins gave passes_on views before (item.Job job) t after =
-    HandlesJob origins gave passes_on job before t after
-Handles origins gave passes_on views before (item.Connection source sink client) t after =
+Handles settings gave passes_on views before (item.Job job) t after =
+    HandlesJob settings gave passes_on job before t after
+Handles settings gave passes_on views before (item.Connection source sink client) t after =
     (t ≡ took.Closed)
-    × HandlesConnection origins gave passes_on views source sink client before after
-Handles origins gave passes_on views before (item.Told list) t after =
+    × HandlesConnection settings gave passes_on views source sink client before after
+Handles settings gave passes_on views before (item.Told list) t after =
     (t ≡ took.Learnt) × HandlesTold list before after
-Handles origins gave passes_on views before item.Stop t after = (t ≡ took.Stop) × (after ≡ before)
+Handles settings gave passes_on views before item.Stop t after = (t ≡ took.Stop) × (after ≡ before)

@@ -58,11 +58,11 @@ impl<N: StoreName, L: Link + Drop, A: Keeps<L> + Drop, B: Asks<L> + Drop> Worker
         onward: &mut O,
     ) -> Result<(), SinkError>
         ensures ok { OnOk result
-            (WritesReply N.store.origins L.gave B.passes_on client message self.old self.new
+            (WritesReply N.store.settings L.gave B.passes_on client message self.old self.new
             (C.moments clock.old) (C.moments clock.new) (O.passed onward.old)
             (O.passed onward.new) (K.held sink.old) (K.held sink.new)) }
         ensures err { OnErr result
-            (CutsReply N.store.origins L.gave B.passes_on client message self.old self.new
+            (CutsReply N.store.settings L.gave B.passes_on client message self.old self.new
             (C.moments clock.old) (C.moments clock.new) (O.passed onward.old)
             (O.passed onward.new) (K.held sink.old) (K.held sink.new)) }
         ensures count { K.faults sink.old ≤ K.faults sink.new }
@@ -90,7 +90,7 @@ impl<N: StoreName, L: Link + Drop, A: Keeps<L> + Drop, B: Asks<L> + Drop> Worker
         clock: &mut C,
         onward: &mut O,
     ) -> StreamEnd
-        ensures { ServesConnection N.store.origins L.gave B.passes_on client
+        ensures { ServesConnection N.store.settings L.gave B.passes_on client
             (fault_counts (S.faults source.old) (S.faults source.new)
             (K.faults sink.old) (K.faults sink.new))
             (connection_state self.old (C.moments clock.old) (O.passed onward.old)

@@ -78,7 +78,7 @@ impl<N: StoreName, L: Link + Drop, A: Keeps<L> + Drop, B: Asks<L> + Drop> Worker
         clock: &mut C,
         onward: &mut O,
     ) -> Took
-        ensures { HandlesJob N.store.origins L.gave B.passes_on job.now
+        ensures { HandlesJob N.store.settings L.gave B.passes_on job.now
             (worker_state self.old (C.moments clock.old) (O.passed onward.old)
             (P.sent replies.old) (P.closings replies.old) (P.faults replies.old))
             result
@@ -106,7 +106,7 @@ impl<N: StoreName, L: Link + Drop, A: Keeps<L> + Drop, B: Asks<L> + Drop> Worker
         clock: &mut C,
         onward: &mut O,
     ) -> Took
-        ensures { Handles N.store.origins L.gave B.passes_on
+        ensures { Handles N.store.settings L.gave B.passes_on
             (stream_views S.left S.faults K.held K.faults)
             (worker_state self.old (C.moments clock.old) (O.passed onward.old)
             (P.sent replies.old) (P.closings replies.old) (P.faults replies.old))
@@ -143,7 +143,7 @@ impl<N: StoreName, L: Link + Drop, A: Keeps<L> + Drop, B: Asks<L> + Drop> Worker
         O: Onward<N>,
         R: Wait,
     >(&mut self, rt: &R, items: &mut Q, replies: &mut P, clock: &mut C, onward: &mut O) -> Report
-        ensures works { Works N.store.origins L.gave B.passes_on
+        ensures works { Works N.store.settings L.gave B.passes_on
             (stream_views S.left S.faults K.held K.faults)
             (run_state (Q.coming items.old)
             (worker_state self.old (C.moments clock.old) (O.passed onward.old)

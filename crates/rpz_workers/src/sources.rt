@@ -2,6 +2,7 @@
 
 ghost use Rattle.std.specs.Prelude.{◌≡◌, ◌≤◌, [], length, None, Some, IfOk, IfSome, IsSome, OnOk};
 ghost use Rattle.dns_message.specs.Request.{incoming_of};
+ghost use Rattle.policy_snapshot.specs.Stands.{policy_in};
 ghost use Rattle.query_session.specs.Session.{after_fact, turn_of};
 ghost use Rattle.reply_build.specs.Short.{IsShort};
 ghost use Rattle.upstream_link.specs.Vouched.{Tells, Vouched, fact_at};
@@ -216,7 +217,7 @@ impl<L: Link + Drop, A: Keeps<L> + Drop, B: Asks<L> + Drop> Sources<L, A, B> {
     ) -> Result<Answered, AllocError>
         requires { obtained.old.items ≡ [] }
         ensures comes_to { IfOk result (λ answered. ComesTo L.gave B.passes_on now
-            policy.value.zones
+            (policy_in policy.value)
             (incoming_of job.now.message job.now.peer.addr job.now.transport)
             (inquiry [] (A.entries self.old.cache)
             (B.ids self.old.asks) (B.faults self.old.asks))

@@ -86,7 +86,7 @@ impl<
     ghost use Rattle.rpz_workers.specs.Reports.{counts_of};
     ghost use Rattle.rpz_workers.specs.Working.{EndsRun, run_state};
 
-    ghost ends = { λ task report. EndsRun N.store.origins L.gave B.passes_on
+    ghost ends = { λ task report. EndsRun N.store.settings L.gave B.passes_on
         (stream_views S.left S.faults K.held K.faults)
         (run_state (Q.coming task.items)
         (worker_state task.worker (C.moments task.clock) (O.passed task.onward)

@@ -125,7 +125,7 @@ impl<N: StoreName, L: Link + Drop, A: Keeps<L> + Drop, B: Asks<L> + Drop> Worker
     /// shared it takes a lock for a look-up and for a keep, and for nothing else; over one of its own it takes none. Out of memory a
     /// cache of the worker's own is emptied, which gives memory back; one that is shared stays.
     pub fn answer(&mut self, job: &Job, now: u32) -> Result<Answered, AllocError>
-        ensures answers { Answers N.store.origins L.gave B.passes_on job.now now result
+        ensures answers { Answers N.store.settings L.gave B.passes_on job.now now result
             self.old self.new }
         ensures short { IfOk result IsShortAnswer }
     {
@@ -164,7 +164,7 @@ impl<N: StoreName, L: Link + Drop, A: Keeps<L> + Drop, B: Asks<L> + Drop> Worker
     /// Answers a message that came at this second, in seconds, as [`answer`](Worker::answer) does, or passes it on, with the list
     /// of transfers that was then seen. Where there is no room to pass it on, that counts as memory that ran out.
     pub(crate) fn settle<O: Onward<N>>(&mut self, job: &Job, now: u32, onward: &mut O) -> Outcome
-        ensures settles { Settles N.store.origins L.gave B.passes_on job.now now result
+        ensures settles { Settles N.store.settings L.gave B.passes_on job.now now result
             self.old self.new (O.passed onward.old) (O.passed onward.new) }
         ensures short { IsShortOutcome result }
     {

@@ -6,6 +6,7 @@ use Rattle.std.proofs.lemmas.List.{take_all}
 use Rattle.std.proofs.lemmas.List.Splits.{slice_split_first}
 use Rattle.script_codec.specs.declared.line_fault.LineFault.TheVariants as why
 use Rattle.script_codec.specs.Fields.{is_space, fields_of, no_more_fields}
+use Rattle.script_codec.specs.Overriding.{override_text, worded_override}
 
 -- a text without a space is one field
 whole : (text : List ℕ) → length text ≤ position_or_len is_space text → fields_of text ≡ text ∷ []
@@ -44,3 +45,11 @@ onto_ended x (part ∷ parts) = refl
 pub never_ended : (text : List ℕ) → no_more_fields (fields_of text) ≡ Err why.Fields
 never_ended [] = refl
 never_ended (x ∷ xs) = ⊎_elim (λ yes. rw yes refl) (λ no. rw no (onto_ended x (fields_of xs))) (cases_Bool (is_space x))
+
+some_override : (fields : List (List ℕ)) → no_more_fields fields ≡ Err why.Fields → override_text fields ≡ worded_override fields
+some_override [] e = absurd cc
+some_override (field ∷ fields) e = refl
+
+-- so that an override stands there
+pub stands_there : (text : List ℕ) → override_text (fields_of text) ≡ worded_override (fields_of text)
+stands_there text = some_override (fields_of text) (never_ended text)

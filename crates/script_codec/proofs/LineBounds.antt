@@ -8,9 +8,10 @@ use Rattle.script_codec.specs.declared.line.Line.TheVariants as line
 use Rattle.script_codec.specs.declared.line_fault.LineFault.{LineFault}
 use Rattle.script_codec.specs.declared.line_fault.LineFault.TheVariants as why
 use Rattle.script_codec.specs.Field.{name_field, number_field, zone_field, worker_field, transport_field, address_field, bytes_field, message_field}
-use Rattle.script_codec.specs.Fields.{fields_of, no_more_fields, one_field, two_fields, four_fields}
+use Rattle.script_codec.specs.Fields.{fields_of, first_field, no_more_fields, one_field, two_fields, four_fields}
 use Rattle.script_codec.specs.Line.{zone_line, primary_line, transfer_line, full_line, query_line, give_line, fail_line, notify_line, due_line, clock_line, kind_line, worded_line, is_skipped, is_text_byte, unnumbered_line}
 use Rattle.script_codec.specs.Outcome.{refuse_if}
+use Rattle.script_codec.specs.Overriding.{override_field, override_text}
 use Rattle.script_codec.specs.State.{PlainState, zone_count, is_pending, opens, takes_primary}
 use Rattle.script_codec.specs.Within.{IsWithin}
 use Rattle.script_codec.proofs.Binding.{bind_ok, not_refused, ok_is}
@@ -20,15 +21,17 @@ use Rattle.script_codec.proofs.FieldBounds.{zone_bounds, worker_bounds, message_
 read_is : (state : PlainState) (given says : Line) → (let r : Result Line LineFault = Ok given in r ≡ Ok says) → IsWithin state given → IsWithin state says
 read_is state given says e h = subst (IsWithin state) (ok_is given says e) h
 
--- `zone NAME`
+-- `zone NAME`, with an override or without
 
 zone_within : (state : PlainState) (fields : List (List ℕ)) (says : Line) → zone_line state fields ≡ Ok says → IsWithin state says
 unfolding zone_line
 zone_within state fields says e =
-    let a = bind_ok (one_field fields) _ says e in
-    let b = bind_ok (name_field a.0) _ says a.2 in
-    let c = bind_ok (opens state b.0) _ says b.2 in
-    read_is state (line.Zone b.0) says c.2 (name_bounds a.0 b.0 b.1, may_open state b.0 c.0 c.1)
+    let a = bind_ok (first_field fields) _ says e in
+    let b = bind_ok (override_text a.0.1) _ says a.2 in
+    let c = bind_ok (name_field a.0.0) _ says b.2 in
+    let d = bind_ok (override_field b.0) _ says c.2 in
+    let f = bind_ok (opens state c.0) _ says d.2 in
+    read_is state (line.Zone c.0 d.0) says f.2 (name_bounds a.0.0 c.0 c.1, may_open state c.0 f.0 f.1)
 
 -- `primary Z ADDR`
 

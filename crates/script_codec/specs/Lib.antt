@@ -2,7 +2,7 @@ pub mod LineFault
 pub mod Outcome
 pub mod Fields
 pub mod Field
-pub mod Names
+pub mod Overriding
 pub mod State
 pub mod Line
 pub mod ZoneFault

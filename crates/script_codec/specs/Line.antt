@@ -8,17 +8,20 @@ use Rattle.script_codec.specs.declared.line.Line.TheVariants as line
 use Rattle.script_codec.specs.declared.line_fault.LineFault.{LineFault}
 use Rattle.script_codec.specs.declared.line_fault.LineFault.TheVariants as why
 use Rattle.script_codec.specs.Outcome.{◌>>=◌, refuse_if}
-use Rattle.script_codec.specs.Fields.{fields_of, no_more_fields, one_field, two_fields, four_fields}
+use Rattle.script_codec.specs.Fields.{fields_of, first_field, no_more_fields, one_field, two_fields, four_fields}
 use Rattle.script_codec.specs.Field.{name_field, number_field, zone_field, worker_field, transport_field, address_field, bytes_field, message_field}
+use Rattle.script_codec.specs.Overriding.{override_field, override_text}
 use Rattle.script_codec.specs.State.{PlainState, zone_count, is_pending, opens, takes_primary}
 
--- `zone NAME`
+-- `zone NAME`, `zone NAME WORD` or `zone NAME cname TARGET`
 unfoldable pub zone_line : PlainState → List (List ℕ) → Result Line LineFault
 zone_line state fields = do
-  text ← one_field fields
+  (text, others) ← first_field fields
+  behind ← override_text others
   origin ← name_field text
+  over ← override_field behind
   _ ← opens state origin
-  Ok (line.Zone origin)
+  Ok (line.Zone origin over)
 
 -- `primary Z ADDR`
 unfoldable pub primary_line : PlainState → List (List ℕ) → Result Line LineFault

@@ -7,7 +7,7 @@ use Rattle.script_codec.specs.declared.state.ScriptState.TheVariants.{Opening, R
 use Rattle.zone_rows.specs.declared.zone.TheConstants.{ZONE_LIMIT}
 use Rattle.script_codec.specs.declared.line_fault.LineFault.{LineFault}
 use Rattle.script_codec.specs.declared.line_fault.LineFault.TheVariants as why
-use Rattle.script_codec.specs.Names.{has_zone_name}
+use Rattle.policy_override.specs.ZoneSet.{has_zone_name, origins_in}
 use Rattle.script_codec.specs.Outcome.{◌>>=◌, refuse_if}
 
 -- All lines so far were zone lines, which opened zones of these origins, zone 1 first, and primary lines, by which each of these
@@ -19,7 +19,7 @@ pub data PlainState : Type 0 where
 
 -- what the code holds by reference
 abbrev pub state_of : ScriptState → PlainState
-state_of (Opening origins primaries) = opening origins.now primaries.now
+state_of (Opening zones primaries) = opening (origins_in zones.now) primaries.now
 state_of (Running zones pending) = running zones pending
 
 -- how many zones there are

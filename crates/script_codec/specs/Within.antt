@@ -6,7 +6,7 @@ use Rattle.script_codec.specs.declared.field.TheConstants.{MESSAGE_BYTES}
 use Rattle.script_codec.specs.declared.line.Line.{Line}
 use Rattle.script_codec.specs.declared.line.Line.TheVariants.{Zone, Primary, Transfer, Full, Query, Give, Fail, Notify, Due, Clock}
 use Rattle.script_codec.specs.declared.state.TheConstants.{WORKERS}
-use Rattle.script_codec.specs.Names.{has_zone_name}
+use Rattle.policy_override.specs.ZoneSet.{has_zone_name}
 use Rattle.script_codec.specs.State.{PlainState, opening, running, zone_count, is_pending, has_primary}
 
 -- there is a zone of this number; zone 1 is the first
@@ -35,7 +35,7 @@ MayHavePrimary (running zones pending) zone = ⊥
 
 -- A transfer is of an open zone; a worker with a pending query gets no other, and only such a worker gets an answer.
 abbrev pub IsWithin : PlainState → Line → Type 0
-IsWithin state (Zone origin) = IsName origin × MayOpen state origin
+IsWithin state (Zone origin over) = IsName origin × MayOpen state origin
 IsWithin state (Primary zone address) = IsZone state zone × MayHavePrimary state zone
 IsWithin state (Transfer zone stream) = IsZone state zone
 IsWithin state (Full zone) = IsZone state zone

@@ -28,8 +28,8 @@ fn space_at(text: &[u8]) -> Option<usize>
     text.iter().position(|b| *b == b' ')
 }
 
-// The first field, which may not be empty, and what is left behind it.
-fn first_field<'a>(left: Left<'a>) -> Result<(&'a [u8], Left<'a>), LineFault>
+/// The first field, which may not be empty, and what is left behind it.
+pub fn first_field<'a>(left: Left<'a>) -> Result<(&'a [u8], Left<'a>), LineFault>
     ensures { Reads (λ x. (x.0.now, fields_left x.1)) result
         (fields_form.first_field (fields_left left.entry)) }
 {

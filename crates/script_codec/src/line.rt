@@ -2,13 +2,15 @@
 
 use dns_name::{Name, Octets};
 use ip_prefix::{Addr, Transport};
+use policy_override::Override;
 
 /// What a line of a script says, with its fields as they were read.
 #[derive(Debug, Drop)]
 pub enum Line {
-    /// Opens a zone of this origin.
+    /// Opens a zone of this origin, and sets this over its rules.
     Zone {
         origin: Name,
+        over: Override,
     },
     /// The primary of the zone of this number, from which alone a NOTIFY of it is accepted.
     Primary {

@@ -23,6 +23,8 @@ pub enum LineFault {
     Fields,
     /// The field is no name as text.
     Name,
+    /// The word behind the name of a zone is no override.
+    Override,
     /// A zone is opened, or given a primary, after a line of another kind than these two.
     Late,
     /// As many zones are open as may be: 32.
@@ -60,6 +62,7 @@ impl fmt::Display for LineFault {
             LineFault::Word => "Word",
             LineFault::Fields => "Fields",
             LineFault::Name => "Name",
+            LineFault::Override => "Override",
             LineFault::Late => "Late",
             LineFault::Many => "Many",
             LineFault::Repeated => "Repeated",

@@ -10,9 +10,12 @@ ghost use Rattle.script_codec.specs.State.{PlainState, state_of};
 ghost use Rattle.script_codec.specs.Within.{IsWithin, SaysWithin};
 
 use crate::field::{address, bytes, message, name, number, transport, worker, zone};
-use crate::fields::{Left, four_fields, no_fields, one_field, split_field, two_fields};
+use crate::fields::{
+    Left, first_field, four_fields, no_fields, one_field, split_field, two_fields,
+};
 use crate::line::Line;
 use crate::line_fault::{BadLine, LineError, LineFault, UnnumberedError};
+use crate::overriding::{override_text, set_over};
 use crate::state::ScriptState;
 use script_loop::{LINE_BYTES, LINES};
 use std::alloc::Global;
@@ -133,7 +136,7 @@ fn read_worded(alloc: Global, text: &[u8], state: &ScriptState<'_>) -> Result<Li
     Err(UnnumberedError::Refused(LineFault::Word))
 }
 
-// The field of `zone NAME`.
+// The fields of `zone NAME`, `zone NAME WORD` or `zone NAME cname TARGET`.
 #[tactic(auto, unfolding(crate::specs::Line::zone_line))]
 fn read_zone(
     alloc: Global,
@@ -143,10 +146,12 @@ fn read_zone(
     ensures exact { Gives result (zone_line (state_of state.now) (fields_left fields.entry)) }
     ensures within { IfOk result (IsWithin (state_of state.now)) }
 {
-    let text = one_field(fields)?;
+    let (text, others) = first_field(fields)?;
+    let behind = override_text(others)?;
     let origin = name(alloc, text)?;
+    let over = set_over(alloc, behind)?;
     state.opens(&origin)?;
-    Ok(Line::Zone { origin })
+    Ok(Line::Zone { origin, over })
 }
 
 // The fields of `primary Z ADDR`.

@@ -2,14 +2,15 @@
 
 ghost use Rattle.std.specs.Prelude.{◌≡◌, ◌≤◌, false, List, Option, slice_index_or, IfOk};
 ghost use Rattle.ip_prefix.specs.declared.Addr.{Addr};
+ghost use Rattle.policy_override.specs.ZoneSet.{origins_in};
 ghost use Rattle.script_codec.specs.State.{opening, state_of, zone_count as zones_in, is_pending as is_pending_in, opens as opens_in, has_primary as has_primary_in, takes_primary as takes_primary_in};
 ghost use Rattle.script_codec.specs.Within.{MayHavePrimary, MayOpen};
 
 use crate::line_fault::LineFault;
-use crate::names::Names;
 use dns_name::Name;
 use edge_io::WORKER_LIMIT;
 use ip_prefix::Addr;
+use policy_override::ZoneSets;
 use zone_rows::ZONE_LIMIT;
 
 /// How many workers there are.
@@ -20,8 +21,8 @@ pub const WORKERS: usize = WORKER_LIMIT;
 pub enum ScriptState<'a> {
     /// Only zone lines and primary lines so far.
     Opening {
-        /// The origins of the zones that were opened, the first of them zone 1.
-        origins: &'a Names,
+        /// The zones that were opened, the first of them zone 1.
+        zones: &'a ZoneSets,
         /// The primary of each of these zones, or none.
         primaries: &'a [Option<Addr>],
     },
@@ -40,7 +41,7 @@ impl ScriptState<'_> {
         ensures { result ≡ zones_in (state_of self.now) }
     {
         match self {
-            ScriptState::Opening { origins, .. } => origins.len(),
+            ScriptState::Opening { zones, .. } => zones.len(),
             ScriptState::Running { zones, .. } => *zones,
         }
     }
@@ -62,7 +63,7 @@ impl ScriptState<'_> {
         ensures within { IfOk result (λ _. MayOpen (state_of self.now) origin.now) }
     {
         match self {
-            ScriptState::Opening { origins, .. } => admits(origins, origin),
+            ScriptState::Opening { zones, .. } => admits(zones, origin),
             ScriptState::Running { .. } => Err(LineFault::Late),
         }
     }
@@ -86,16 +87,16 @@ impl ScriptState<'_> {
 
 // Whether a zone of this origin may be opened beside these.
 #[tactic(auto, unfolding(crate::specs::State::opens))]
-fn admits(origins: &Names, origin: &Name) -> Result<(), LineFault>
+fn admits(zones: &ZoneSets, origin: &Name) -> Result<(), LineFault>
     ensures exact { (primaries : List (Option Addr)) →
-        result ≡ opens_in (opening origins.now primaries) origin.now }
+        result ≡ opens_in (opening (origins_in zones.now) primaries) origin.now }
     ensures within { (primaries : List (Option Addr)) →
-        IfOk result (λ _. MayOpen (opening origins.now primaries) origin.now) }
+        IfOk result (λ _. MayOpen (opening (origins_in zones.now) primaries) origin.now) }
 {
-    if origins.len() >= ZONE_LIMIT {
+    if zones.len() >= ZONE_LIMIT {
         return Err(LineFault::Many);
     }
-    if origins.contains(origin) {
+    if zones.contains(origin) {
         return Err(LineFault::Repeated);
     }
     Ok(())

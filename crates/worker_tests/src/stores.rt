@@ -15,6 +15,7 @@ use crate::request_threads::pass_among;
 use crate::requests::order_all;
 use crate::runs::run_all;
 use dns_name::Name;
+use policy_override::{ZoneSets, as_given};
 use policy_publish::{Parts, PolicyReader, Publisher, StoreName, start_store};
 use std::alloc::Global;
 use std::marker::Brand;
@@ -58,12 +59,19 @@ fn origins_for<R: Abort>(rt: &R, alloc: Global, trial: &Trial) -> Vec<Name>
     }
 }
 
+// The zones of that store, each as it is given.
+fn zones_for<R: Abort>(rt: &R, alloc: Global, trial: &Trial) -> ZoneSets
+    ensures { length result ≤ ZONE_LIMIT }
+{
+    as_given(alloc, origins_for(rt, alloc, trial)).expect(rt, "no error")
+}
+
 /// Tries something over a store of two readers, where nothing is published.
 pub fn attempt<
     R: Threads + Wait + Abort + Clock + RandomSource + Copy + Drop + Send + Sync + 'static,
 >(rt: R, alloc: Global, trial: Trial) {
-    let origins = origins_for(&rt, alloc, &trial);
-    open::<Brand, R>(rt, alloc, start_store(origins, 2), trial);
+    let zones = zones_for(&rt, alloc, &trial);
+    open::<Brand, R>(rt, alloc, start_store(zones, 2), trial);
 }
 
 fn open<

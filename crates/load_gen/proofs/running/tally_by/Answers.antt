@@ -2,12 +2,13 @@ use Rattle.std.proofs.Common.{◌≡◌, ◌<◌, ◌∙◌, ap, sym, length, ma
 use Rattle.std.specs.Prelude.{IfOk}
 use Rattle.load_gen.specs.Summed.{turn_for}
 use Rattle.load_gen.specs.Tallied.{tally_of}
+use Rattle.policy_snapshot.specs.Stands.{policy_in}
 use Rattle.load_gen.proofs.Parts.{all_parts, whole_if}
 use Rattle.load_gen.proofs.running.tally_by.Goals as goal
 
 pub returns : goal.returns
 returns g c =
-    let f = turn_for c.args.policy.now.zones in
+    let f = turn_for (policy_in c.args.policy.now) in
     let size = c.part_len-size.result in
     let xs = c.args.queries.now in
     let parts = c.in_ok-parts.parts.items in

@@ -1,8 +1,8 @@
-use Rattle.policy_snapshot.proofs.Standing.{accepted_next, policy_after-none, policy_next, policy_length, count_after}
+use Rattle.policy_snapshot.proofs.Standing.{accepted_next, zones_behind-none, policy_next, policy_length, count_after}
 use Rattle.policy_snapshot.proofs.laws.a_policy_takes_transfers_one_by_one.Goals as goal
 
 pub returns-clause-first : goal.returns-clause-first
-returns-clause-first c = policy_after-none
+returns-clause-first c = zones_behind-none
 
 pub returns-clause-next : goal.returns-clause-next
 returns-clause-next c = policy_next

@@ -14,10 +14,10 @@ all_laws c = record {
 }
 
 pub returns-clause-best : goal.returns-clause-best
-returns-clause-best c = λ zones query facts more position name. best_by_laws (all_laws c) zones query facts more position name
+returns-clause-best c = λ policy query facts more position name. best_by_laws (all_laws c) policy query facts more position name
 
 pub returns-clause-pending : goal.returns-clause-pending
-returns-clause-pending c = λ zones query facts more position name. none_by_laws (all_laws c) zones query facts more position name
+returns-clause-pending c = λ policy query facts more position name. none_by_laws (all_laws c) policy query facts more position name
 
 pub returns-clause-next : goal.returns-clause-next
 returns-clause-next c = next_by_laws (all_laws c)

@@ -1,8 +1,8 @@
 use Rattle.rpz_core.proofs.Outputs.{step_keeps}
 use Rattle.rpz_core.proofs.laws.an_event_keeps_the_zones_and_the_workers.Goals as goal
 
-pub returns-clause-origins : goal.returns-clause-origins
-returns-clause-origins c = λ w next e out is. (step_keeps w next e out is).origins
+pub returns-clause-settings : goal.returns-clause-settings
+returns-clause-settings c = λ w next e out is. (step_keeps w next e out is).settings
 
 pub returns-clause-workers : goal.returns-clause-workers
 returns-clause-workers c = λ w next e out is. (step_keeps w next e out is).workers

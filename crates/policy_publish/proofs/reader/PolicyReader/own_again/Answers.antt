@@ -12,5 +12,5 @@ returns-in_ok-try_clone-in-Some-clause-later g c =
     let seen = c.self.inside.seen in
     let told = c.self.inside.told in
     let fields : Known = record { seen = seen; told = told } in
-    let own = subst (λ o. IfSome o (λ version. StandsFor g.N.StoreName.store.origins (arc_value version) seen × IsPrefix told seen)) c.in-Some.is c.self.invariant in
+    let own = subst (λ o. IfSome o (λ version. StandsFor g.N.StoreName.store.settings (arc_value version) seen × IsPrefix told seen)) c.in-Some.is c.self.invariant in
     subst (λ (known : Known). GoesOn known known.seen) c.self.view_is (goes_on_seen fields own.1)

@@ -1,4 +1,4 @@
-use Rattle.std.proofs.Common.{◌≡◌, ◌-◌, ◌∙◌, Option, ap, length, map, subst, sym, arith}
+use Rattle.std.proofs.Common.{◌≡◌, ◌-◌, ◌∙◌, Option, rules, ap, length, map, subst, sym, arith}
 use Rattle.std.specs.Prelude.{IfSome, slice_set}
 use Rattle.std.specs.Arc.{arc_value}
 use Rattle.std.proofs.lemmas.Bool.Decides.{nat_tests}
@@ -6,7 +6,7 @@ use Rattle.std.proofs.lemmas.List.{length-map, length-set}
 use Rattle.zone_index.specs.Changes.{AreChanges}
 use Rattle.zone_rows.specs.declared.zone.PlainZone.{PlainZone}
 use Rattle.policy_snapshot.specs.Knowing.{KnowsAll}
-use Rattle.policy_snapshot.specs.Policy.{PlainPolicy}
+use Rattle.policy_snapshot.specs.Policy.{PlainZones}
 use Rattle.policy_snapshot.specs.Stands.{HaveRows, PlainSnapshot, next_count}
 use Rattle.policy_snapshot.proofs.KnownZones.{number_there}
 use Rattle.policy_snapshot.proofs.Standing.{IsNext, exact_after, fault_told, rows_set, seen_there, stands_after}
@@ -34,24 +34,25 @@ with_zone_at-requires c =
 
 pub invariant_of-result : goal.invariant_of-result
 invariant_of-result c =
-    let before : PlainPolicy = map arc_value c.self.inside.zones.items in
+    let before : PlainZones = map arc_value c.self.inside.zones.items in
     let zones : map arc_value c.self.inside.zones.items ≡ c.args.self.now.zones = ap (λ (s : PlainSnapshot). s.zones) c.self.view_is in
     let set : map arc_value c.in_ok-zones.zones.items ≡ slice_set before (c.args.number - 1) c.in_ok-zone.zone =
     c.in_ok-zones.ensures ∙ ap (λ l. slice_set (map arc_value l) (c.args.number - 1) c.in_ok-zone.zone) c.deref-2.ensures.value in
     let all : slice_set c.args.self.now.zones (c.args.number - 1) c.in_ok-zone.zone ≡ map arc_value c.in_ok-zones.zones.items =
-    ap (λ (z : PlainPolicy). slice_set z (c.args.number - 1) c.in_ok-zone.zone) (sym zones) ∙ sym set in (
+    ap (λ (z : PlainZones). slice_set z (c.args.number - 1) c.in_ok-zone.zone) (sym zones) ∙ sym set in (
       omega (arith, ap length set, length-set before (c.args.number - 1) c.in_ok-zone.zone, length-map c.in_ok-zones.zones.items arc_value, length-map c.self.inside.zones.items arc_value, c.self.invariant.0),
       (
         subst HaveRows (sym set) (rows_set before (c.args.number - 1) c.in_ok-zone.zone c.self.invariant.1.0 c.index-index.ensures.rows),
-        subst (λ (z : PlainPolicy). KnowsAll z (arc_value c.in_ok-summaries.summaries)) all c.in_ok-summaries.ensures,
+        subst (λ (z : PlainZones). KnowsAll z (arc_value c.in_ok-summaries.summaries)) all c.in_ok-summaries.ensures,
       ),
     )
 
 pub returns-clause-exact : goal.returns-clause-exact
 returns-clause-exact c =
     let counted : next_count c.self.inside.accepted ≡ c.saturating_add.result = grind (arith, nat_tests) in
-    let is : IsNext arc_value c.args.self.now c.self.inside.zones.items c.in_ok-zones.zones.items c.self.inside.accepted c.saturating_add.result c.args.number c.args.transfer c.index.result.now c.deref-old.result.now c.in_ok-zone.zone = record {
+    let is : IsNext arc_value c.args.self.now c.self.inside.zones.items c.in_ok-zones.zones.items (arc_value c.self.inside.overrides) (arc_value c.in_ok-overrides.overrides) c.self.inside.accepted c.saturating_add.result c.args.number c.args.transfer c.index.result.now c.deref-old.result.now c.in_ok-zone.zone = record {
       view = c.self.view_is;
+      carried_is = search rules;
       some = c.requires;
       is_item = c.index.ensures;
       is_seen = c.deref-old.ensures;
@@ -59,13 +60,14 @@ returns-clause-exact c =
       set = c.in_ok-zones.ensures ∙ ap (λ l. slice_set (map arc_value l) (c.args.number - 1) c.in_ok-zone.zone) c.deref-2.ensures.value;
       counted = counted;
     } in
-    exact_after arc_value c.args.self.now c.self.inside.zones.items c.in_ok-zones.zones.items c.self.inside.accepted c.saturating_add.result c.args.number c.args.transfer c.index.result.now c.deref-old.result.now c.in_ok-zone.zone is
+    exact_after arc_value c.args.self.now c.self.inside.zones.items c.in_ok-zones.zones.items (arc_value c.self.inside.overrides) (arc_value c.in_ok-overrides.overrides) c.self.inside.accepted c.saturating_add.result c.args.number c.args.transfer c.index.result.now c.deref-old.result.now c.in_ok-zone.zone is
 
 pub returns-clause-stands : goal.returns-clause-stands
 returns-clause-stands c entries stands =
     let counted : next_count c.self.inside.accepted ≡ c.saturating_add.result = grind (arith, nat_tests) in
-    let is : IsNext arc_value c.args.self.now c.self.inside.zones.items c.in_ok-zones.zones.items c.self.inside.accepted c.saturating_add.result c.args.number c.args.transfer c.index.result.now c.deref-old.result.now c.in_ok-zone.zone = record {
+    let is : IsNext arc_value c.args.self.now c.self.inside.zones.items c.in_ok-zones.zones.items (arc_value c.self.inside.overrides) (arc_value c.in_ok-overrides.overrides) c.self.inside.accepted c.saturating_add.result c.args.number c.args.transfer c.index.result.now c.deref-old.result.now c.in_ok-zone.zone = record {
       view = c.self.view_is;
+      carried_is = search rules;
       some = c.requires;
       is_item = c.index.ensures;
       is_seen = c.deref-old.ensures;
@@ -73,4 +75,4 @@ returns-clause-stands c entries stands =
       set = c.in_ok-zones.ensures ∙ ap (λ l. slice_set (map arc_value l) (c.args.number - 1) c.in_ok-zone.zone) c.deref-2.ensures.value;
       counted = counted;
     } in
-    stands_after arc_value c.args.self.now c.self.inside.zones.items c.in_ok-zones.zones.items c.self.inside.accepted c.saturating_add.result c.args.number c.args.transfer c.index.result.now c.deref-old.result.now c.in_ok-zone.zone is entries stands
+    stands_after arc_value c.args.self.now c.self.inside.zones.items c.in_ok-zones.zones.items (arc_value c.self.inside.overrides) (arc_value c.in_ok-overrides.overrides) c.self.inside.accepted c.saturating_add.result c.args.number c.args.transfer c.index.result.now c.deref-old.result.now c.in_ok-zone.zone is entries stands

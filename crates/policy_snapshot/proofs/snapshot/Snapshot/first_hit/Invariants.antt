@@ -5,4 +5,4 @@ use Rattle.policy_snapshot.proofs.HitLoops.{SameHit}
 use Rattle.policy_snapshot.proofs.snapshot.Snapshot.first_hit.Given as goal
 
 abbrev pub invariant-loop-zone : goal.invariant-loop-zone
-invariant-loop-zone l = SameHit l.number l.zone-index (sight_seen l.sight) (map arc_value l.all)
+invariant-loop-zone l = SameHit l.overrides l.number l.zone-index (sight_seen l.sight) (map arc_value l.all)

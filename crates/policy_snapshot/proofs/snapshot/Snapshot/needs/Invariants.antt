@@ -5,4 +5,4 @@ use Rattle.policy_snapshot.proofs.NeedLoops.{SameNeed}
 use Rattle.policy_snapshot.proofs.snapshot.Snapshot.needs.Given as goal
 
 abbrev pub invariant-loop-zone : goal.invariant-loop-zone
-invariant-loop-zone l = SameNeed l.kind l.number l._zone-index (option_map hit_seen l.hit) (map arc_value l.all)
+invariant-loop-zone l = SameNeed l.self.overrides l.kind l.number l._zone-index (option_map hit_seen l.hit) (map arc_value l.all)

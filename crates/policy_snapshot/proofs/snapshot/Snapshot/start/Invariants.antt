@@ -1,7 +1,8 @@
 use Rattle.std.proofs.Common.{◌≡◌, map, take}
 use Rattle.std.specs.Arc.{arc_value}
+use Rattle.policy_override.specs.declared.zone_set.ZoneSet.{ZoneSet}
 use Rattle.zone_rows.specs.Content.{unloaded}
 use Rattle.policy_snapshot.proofs.snapshot.Snapshot.start.Given as goal
 
-abbrev pub invariant-loop-origin : goal.invariant-loop-origin
-invariant-loop-origin l = map arc_value l.zones.items ≡ map unloaded (take l.origin-index l.origins)
+abbrev pub invariant-loop-set : goal.invariant-loop-set
+invariant-loop-set l = map arc_value l.zones.items ≡ map (λ (s : ZoneSet). unloaded s.origin) (take l.set-index l.settings)

@@ -2,68 +2,67 @@
 
 ghost use Rattle.std.specs.Prelude.{◌≡◌, ◌≤◌, ◌<◌, length, OnOk};
 ghost use Rattle.zone_rows.specs.declared.zone.TheConstants.{ZONE_LIMIT};
-ghost use Rattle.rpz_program.specs.Opened.{no_zones, with_origin, with_primary};
+ghost use Rattle.rpz_program.specs.Opened.{no_zones, with_primary, with_open_zone};
 
-use dns_name::Name;
 use ip_prefix::Addr;
-use script_codec::Names;
+use policy_override::{ZoneSet, ZoneSets};
 use std::alloc::{AllocError, Global};
 use std::marker::Model;
 
-/// The origins of the zones that were opened, at most 32, each with its primary or none. Contracts see both lists.
+/// The zones that were opened, at most 32, each with its primary or none. Contracts see both lists.
 #[derive(Drop)]
-pub(crate) struct Origins {
-    names: Names,
+pub(crate) struct Opened {
+    zones: ZoneSets,
     primaries: Vec<Option<Addr>>,
 }
 
-impl Model for Origins {
+impl Model for Opened {
     ghost use Rattle.std.specs.Prelude.{◌≡◌, ◌≤◌, length};
     ghost use Rattle.rpz_program.specs.Opened.{OpenZones};
     ghost use Rattle.zone_rows.specs.declared.zone.TheConstants.{ZONE_LIMIT};
 
     ghost Value = { OpenZones };
 
-    ghost view = { λ o. record { origins = o.names; primaries = o.primaries.items } };
+    ghost view = { λ o. record { settings = o.zones; primaries = o.primaries.items } };
 
-    ghost invariant = { λ o. (length o.names ≤ ZONE_LIMIT)
-        × (length o.primaries.items ≡ length o.names) };
+    ghost invariant = { λ o. (length o.zones ≤ ZONE_LIMIT)
+        × (length o.primaries.items ≡ length o.zones) };
 }
 
-impl Origins {
+impl Opened {
     /// No zone was opened. It takes no memory.
     pub(crate) fn new(alloc: Global) -> Self
         ensures { result ≡ no_zones }
     {
-        Origins {
-            names: Names::new(alloc),
+        Opened {
+            zones: ZoneSets::new(alloc),
             primaries: Vec::new(alloc),
         }
     }
 
-    /// The origins.
-    pub(crate) fn names(&self) -> &Names
-        ensures names { result.now ≡ self.now.origins }
-        ensures limit { length self.now.origins ≤ ZONE_LIMIT }
+    /// The zones, with what is set over the rules of each.
+    pub(crate) fn zones(&self) -> &ZoneSets
+        ensures zones { result.now ≡ self.now.settings }
+        ensures limit { length self.now.settings ≤ ZONE_LIMIT }
     {
-        &self.names
+        &self.zones
     }
 
     /// The primary of each zone, where it has one.
     pub(crate) fn primaries(&self) -> &[Option<Addr>]
         ensures primaries { result.now ≡ self.now.primaries }
-        ensures length { length self.now.primaries ≡ length self.now.origins }
+        ensures length { length self.now.primaries ≡ length self.now.settings }
     {
         &self.primaries
     }
 
-    /// A zone of this origin was opened.
-    pub(crate) fn push(&mut self, origin: Name) -> Result<(), AllocError>
-        requires { length self.old.origins < ZONE_LIMIT }
-        ensures { OnOk result (self.new ≡ with_origin self.old origin) }
+    /// This zone was opened.
+    pub(crate) fn push(&mut self, zone: ZoneSet) -> Result<(), AllocError>
+        requires { length self.old.settings < ZONE_LIMIT }
+        ensures { OnOk result (self.new ≡ with_open_zone self.old zone) }
     {
         self.primaries.push(None)?;
-        if let Err(error) = self.names.push(origin) {
+        if let Err(error) = self.zones.push(zone) {
             self.primaries.pop();
             return Err(error);
         }
@@ -73,7 +72,7 @@ impl Origins {
     /// The zone of this number was given its primary.
     pub(crate) fn set_primary(&mut self, zone: u32, address: Addr)
         requires low { 1 ≤ zone }
-        requires high { zone ≤ length self.old.origins }
+        requires high { zone ≤ length self.old.settings }
         ensures { self.new ≡ with_primary self.old zone address }
     {
         self.primaries[zone as usize - 1] = Some(address);
