@@ -1,0 +1,9 @@
+pub mod ChoiceLemmas
+pub mod SplitLemmas
+pub mod InsertLemmas
+pub mod HashLemmas
+pub mod CompressLemmas
+pub mod MessageLemmas
+pub mod ReadLemmas
+pub mod TableLemmas
+pub mod DeferredLemmas

@@ -1,0 +1,23 @@
+//! Compressed names of one message: a name that is written with a pointer to a prior occurrence of one of its suffixes
+//! (RFC 1035, section 4.1.4).
+//!
+//! `Places` remembers where the labels of the names written so far begin, as far as a pointer can lead there. The names of a
+//! message are written through it, in order.
+#![tactic(auto)]
+
+mod compress;
+mod hash;
+pub mod laws;
+mod places;
+mod pointer;
+mod split;
+mod table;
+
+pub use places::Places;
+pub use pointer::POINTED_PLACES;
+pub use split::split_name;
+// Contracts of other crates can name `Places` only if the types of its fields are exported, too.
+#[doc(hidden)]
+pub use places::DeferredName;
+#[doc(hidden)]
+pub use table::SuffixEntry;
