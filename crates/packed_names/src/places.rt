@@ -53,14 +53,14 @@ impl<'n> Places<'n> {
     /// No places. It takes no memory.
     ///
     /// The key seeds the hash of the suffixes. It is to be unknown to those who send the names, or they can choose names that
-    /// collide and are slow to find. Keys that differ in the lowest bit alone are one key: an odd one is used, since
-    /// multiplication by an even number loses bits.
+    /// collide and are slow to find. Its three lowest bits are not used: the hash multiplies by a number of the form
+    /// 8n + 5. An even one would lose bits, and by one of the form 512n + 1 names of one-byte labels collide by the hundred.
     pub fn new(alloc: Global, key: u32) -> Self
         ensures { result ≡ [] }
     {
         Places {
             alloc,
-            key: key | 1,
+            key: (key & !7) | 5,
             heads: Vec::new(alloc),
             suffixes: Vec::new(alloc),
             deferred: None,
