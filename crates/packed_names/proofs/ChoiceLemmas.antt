@@ -1,10 +1,10 @@
 -- Which suffix is replaced with a pointer, and where the pointer leads.
-use Rattle.std.proofs.Common.{◌≡◌, ◌≢◌, ℕ, Some, None, List, [], ◌∷◌, ◌++◌, refl, sym, ap, ◌∙◌, append_assoc}
+use Rattle.std.proofs.Common.{◌≡◌, ◌≢◌, ℕ, ◌≤◌, Option, Some, None, List, [], ◌∷◌, ◌++◌, length, refl, sym, ap, ◌∙◌, append_assoc, arith, length-append}
 use Rattle.std.specs.List.{flat_map}
 use Rattle.std.proofs.lemmas.List.{append-nil}
 use Rattle.dns_name.specs.Labels.{IsName, label_octets, name_octets}
 use Rattle.dns_name.proofs.WireLemmas.{name_octets-cons}
-use Rattle.packed_names.specs.Places.{Place, same_octets, first_offset, pointer_octets, compressed_octets}
+use Rattle.packed_names.specs.Places.{Place, same_octets, first_offset, pointer_octets, pointer_or, compressed_octets}
 use Rattle.packed_names.specs.Occurrence.{HaveOtherNames, HasNoLongerMatch}
 use Rattle.packed_names.proofs.ReadLemmas.{same_is}
 use Rattle.packed_names.proofs.TableLemmas.{first-self, first-append, none-append}
@@ -33,3 +33,13 @@ others_none (p ∷ places) name is h =
 pub first_found : (before behind : List Place) (place : Place) → IsName place.labels → HaveOtherNames before place.labels → first_offset (before ++ place ∷ behind) place.labels ≡ Some place.offset
 first_found before behind place is h =
     none-append before (place ∷ behind) place.labels (others_none before place.labels is h) ∙ first-append (place ∷ []) behind place.labels place.offset (first-self place)
+
+-- a pointer is no longer than the octets of a label and of the name behind it
+no_longer_by : (o : Option ℕ) (l : List ℕ) (ls : List (List ℕ)) (rest : List ℕ) → length rest ≤ length (name_octets ls) → length (pointer_or o (label_octets l ++ rest)) ≤ length (name_octets (l ∷ ls))
+no_longer_by None l ls rest h = omega (arith, h, length-append l rest, ap length (name_octets-cons l ls), length-append l (name_octets ls))
+no_longer_by (Some t) l ls rest h = omega (arith, ap length (name_octets-cons l ls), length-append l (name_octets ls), length-append (flat_map label_octets ls) (0 ∷ []))
+
+pub no_longer : (places : List Place) (name : List (List ℕ)) → length (compressed_octets places name) ≤ length (name_octets name)
+unfolding compressed_octets
+no_longer places [] = omega arith
+no_longer places (l ∷ ls) = no_longer_by (first_offset places (l ∷ ls)) l ls (compressed_octets places ls) (no_longer places ls)

@@ -1,6 +1,6 @@
 //! Laws of compressed names. Each function is its clauses, and does nothing.
 
-ghost use Rattle.std.specs.Prelude.{◌≡◌, ◌≢◌, ℕ, ◌+◌, List, [], ◌∷◌, ◌++◌, length, Ok, Some, None};
+ghost use Rattle.std.specs.Prelude.{◌≡◌, ◌≢◌, ℕ, ◌+◌, ◌≤◌, List, [], ◌∷◌, ◌++◌, length, Ok, Some, None};
 ghost use Rattle.std.specs.List.{flat_map, AllByRecursion};
 ghost use Rattle.dns_name.specs.Labels.{IsName, label_octets, name_octets, Name};
 ghost use Rattle.dns_name.specs.Reading.{name_at};
@@ -44,6 +44,11 @@ pub fn the_longest_suffix_is_replaced()
         compressed_octets places (front ++ suffix) ≡ flat_map label_octets front ++ pointer_octets offset }
     ensures full { (places : List Place) (name : Name) → HasNoLongerMatch places name [] →
         compressed_octets places name ≡ name_octets name }
+{}
+
+/// A compressed name is no longer than the name in full.
+pub fn a_compressed_name_is_no_longer()
+    ensures { (places : List Place) (name : Name) → length (compressed_octets places name) ≤ length (name_octets name) }
 {}
 
 /// A look-up finds the first place that has the name, and none if no place has it.
