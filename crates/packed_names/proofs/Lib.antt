@@ -6,4 +6,6 @@ pub mod CompressLemmas
 pub mod MessageLemmas
 pub mod ReadLemmas
 pub mod TableLemmas
-pub mod DeferredLemmas
+pub mod RecentLemmas
+pub mod WrittenLemmas
+pub mod InsertingLemmas

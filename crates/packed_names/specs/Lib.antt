@@ -4,4 +4,4 @@ pub mod MessageParts
 pub mod Front
 pub mod Hash
 pub mod Table
-pub mod Deferred
+pub mod Recent

@@ -1,54 +1,69 @@
 //! A name against the table: written with a pointer, or its suffixes taken into the table.
 
-ghost use Rattle.std.specs.Prelude.{◌≡◌, ◌-◌, ◌≤◌, [], ◌++◌, length, take, MatchOption, OnOk};
+ghost use Rattle.std.specs.Prelude.{◌≡◌, ◌≤◌, ◌++◌, length, take, OnOk};
+ghost use Rattle.std.specs.List.{AllByRecursion};
 ghost use Rattle.dns_name.specs.Wire.{labels_in, IsWire};
-ghost use Rattle.packed_names.specs.Places.{compressed_octets, new_places, new_places_in_full};
-ghost use Rattle.packed_names.specs.Table.{suffix_places, IsTable, SplitsLabel};
+ghost use Rattle.packed_names.specs.Places.{compressed_octets, new_places};
+ghost use Rattle.packed_names.specs.Recent.{added_places, known_places, IsRecentName};
+ghost use Rattle.packed_names.specs.Table.{suffix_places, IsTable};
 
-use crate::hash::suffix_hashes;
-use crate::pointer::write_pointer;
-use crate::table::{SuffixEntry, find_or_insert, find_whole};
+use crate::hash::{hash_of, suffix_hashes};
+use crate::pointer::{POINTED_PLACES, write_pointer};
+use crate::recent::RecentName;
+use crate::split::split_label;
+use crate::table::{SuffixEntry, find_or_insert, find_short};
 use dns_name::Octets;
 use std::alloc::{AllocError, Global};
 
-// How many bytes the first label has with its length byte, and the name without it. The root has no label.
-fn split_label<'n>(octets: &'n [u8]) -> Option<(usize, &'n [u8])>
-    requires { IsWire octets.now }
-    ensures { MatchOption result (labels_in octets.now ≡ [])
-        (λ p. SplitsLabel octets.now p.0 p.1.now) }
-{
-    let len = usize::from(octets[0]);
-    if len == 0 {
-        return None;
-    }
-    Some((len + 1, &octets[len + 1..]))
-}
-
-/// Takes the suffixes of a name into the table, which stands in full before the offset `end`.
-pub(crate) fn insert_suffixes<'n>(
+/// Takes the suffixes of a name into the table whose labels begin before the offset `end`. The first stands at `start`.
+pub(crate) fn insert_written<'n>(
     alloc: Global,
     key: u32,
     heads: &mut Vec<u16>,
     suffixes: &mut Vec<SuffixEntry<'n>>,
     octets: &'n [u8],
+    start: usize,
     end: usize,
 ) -> Result<(), AllocError>
     requires table { IsTable key heads.old.items suffixes.old.items }
     requires wire { IsWire octets.now }
-    requires room { length octets.now ≤ end }
+    requires near { end ≤ POINTED_PLACES }
     ensures table { IsTable key heads.new.items suffixes.new.items }
     ensures places { OnOk result (suffix_places suffixes.new.items
         ≡ suffix_places suffixes.old.items
-        ++ new_places_in_full (suffix_places suffixes.old.items) (end - length octets.now)
-        (labels_in octets.now)) }
+        ++ added_places (suffix_places suffixes.old.items) start end (labels_in octets.now)) }
 {
-    let hashes = suffix_hashes(key, octets);
+    let mut at = start;
     let mut rest = octets;
-    while let Some((_count, others)) = split_label(rest) {
-        let hash = hashes[octets.len() - rest.len()];
-        let at = end - rest.len();
+    while let Some((count, others)) = split_label(rest) {
+        if at >= end {
+            return Ok(());
+        }
+        let hash = hash_of(key, rest);
         let _place = find_or_insert(alloc, key, heads, suffixes, rest, hash, at)?;
+        at += count;
         rest = others;
+    }
+    Ok(())
+}
+
+/// Takes the suffixes of names into the table, in order.
+pub(crate) fn insert_names<'n>(
+    alloc: Global,
+    key: u32,
+    heads: &mut Vec<u16>,
+    suffixes: &mut Vec<SuffixEntry<'n>>,
+    names: &[RecentName<'n>],
+) -> Result<(), AllocError>
+    requires table { IsTable key heads.old.items suffixes.old.items }
+    requires names { AllByRecursion IsRecentName names.now }
+    ensures table { IsTable key heads.new.items suffixes.new.items }
+    ensures places { OnOk result (suffix_places suffixes.new.items ≡ known_places suffixes.old.items names.now) }
+{
+    for name in names {
+        let start = usize::from(name.start);
+        let end = usize::from(name.end);
+        insert_written(alloc, key, heads, suffixes, name.octets, start, end)?;
     }
     Ok(())
 }
@@ -73,7 +88,7 @@ pub(crate) fn compress<'n>(
         ++ new_places (suffix_places suffixes.old.items) (length out.old) (labels_in octets.now)) }
     ensures begins { take (length out.old) out.new ≡ out.old }
 {
-    if let Some(offset) = find_whole(key, heads.as_slice(), suffixes.as_slice(), octets) {
+    if let Some(offset) = find_short(key, heads.as_slice(), suffixes.as_slice(), octets) {
         return write_pointer(out, offset);
     }
     let hashes = suffix_hashes(key, octets);

@@ -10,6 +10,7 @@ mod hash;
 pub mod laws;
 mod places;
 mod pointer;
+mod recent;
 mod split;
 mod table;
 
@@ -18,6 +19,6 @@ pub use pointer::POINTED_PLACES;
 pub use split::split_name;
 // Contracts of other crates can name `Places` only if the types of its fields are exported, too.
 #[doc(hidden)]
-pub use places::DeferredName;
+pub use recent::{RecentName, RecentNames};
 #[doc(hidden)]
 pub use table::SuffixEntry;

@@ -1,25 +1,20 @@
 //! The places of a message that pointers can lead to, and names written by them.
 
-ghost use Rattle.std.specs.Prelude.{◌≡◌, ◌-◌, ◌<◌, ◌≤◌, [], ◌++◌, length, take, Some, None, OnOk, OnErr, IfSome, ◌≢◌};
+ghost use Rattle.std.specs.Prelude.{◌≡◌, ◌+◌, ◌<◌, ◌≤◌, min, [], ◌∷◌, ◌++◌, length, take, Some, OnOk, OnErr, IfSome, ◌≢◌};
+ghost use Rattle.std.specs.List.{AllByRecursion};
 ghost use Rattle.dns_name.specs.Labels.{name_octets};
 ghost use Rattle.dns_name.specs.Wire.{labels_in, IsWire};
-ghost use Rattle.packed_names.specs.Places.{first_offset, compressed_octets, new_places, new_places_in_full};
-ghost use Rattle.packed_names.specs.Deferred.{known_places, IsDeferred};
+ghost use Rattle.packed_names.specs.Places.{first_offset, pointer_or, compressed_octets, new_places, new_places_in_full};
+ghost use Rattle.packed_names.specs.Recent.{known_places, added_places, IsRecentName};
 ghost use Rattle.packed_names.specs.Table.{suffix_places, IsTable};
 
-use crate::compress::{compress, insert_suffixes};
+use crate::compress::{compress, insert_names, insert_written};
 use crate::pointer::{POINTED_PLACES, write_pointer};
-use crate::table::SuffixEntry;
+use crate::recent::{self, RecentName, RecentNames, longest_match};
+use crate::table::{self, SuffixEntry};
 use dns_name::{Name, Octets};
 use std::alloc::{AllocError, Global};
 use std::marker::Model;
-
-/// A name that stands in full before the offset `end`, and whose suffixes are not in the table yet.
-#[derive(Clone, Copy, Debug)]
-pub struct DeferredName<'n> {
-    octets: &'n [u8],
-    end: usize,
-}
 
 /// The places of a message that pointers can lead to: where labels of the names written so far begin in its first 16,384
 /// bytes. Contracts see these places, in the order in which they were written.
@@ -32,21 +27,22 @@ pub struct Places<'n> {
     key: u32,
     heads: Vec<u16>,
     suffixes: Vec<SuffixEntry<'n>>,
-    // The last name in full, mostly the question's. While all names are that one, nothing is hashed and nothing allocated.
-    deferred: Option<DeferredName<'n>>,
+    // The names whose suffixes are not in the table. While there are few, there is no table, and nothing is hashed or allocated.
+    recent: RecentNames<'n>,
 }
 
 impl<'n> Model for Places<'n> {
     ghost use Rattle.std.specs.Prelude.{List};
+    ghost use Rattle.std.specs.List.{AllByRecursion};
     ghost use Rattle.packed_names.specs.Places.{Place};
     ghost use Rattle.packed_names.specs.Table.{IsTable};
-    ghost use Rattle.packed_names.specs.Deferred.{known_places, IsDeferred};
+    ghost use Rattle.packed_names.specs.Recent.{known_places, IsRecentName};
 
     ghost Value = { List Place };
 
-    ghost view = { λ p. known_places p.suffixes.items p.deferred };
+    ghost view = { λ p. known_places p.suffixes.items p.recent };
 
-    ghost invariant = { λ p. IsTable p.key p.heads.items p.suffixes.items × IsDeferred p.deferred };
+    ghost invariant = { λ p. IsTable p.key p.heads.items p.suffixes.items × AllByRecursion IsRecentName p.recent };
 }
 
 impl<'n> Places<'n> {
@@ -63,7 +59,7 @@ impl<'n> Places<'n> {
             key: (key & !7) | 5,
             heads: Vec::new(alloc),
             suffixes: Vec::new(alloc),
-            deferred: None,
+            recent: RecentNames::new(),
         }
     }
 
@@ -73,7 +69,25 @@ impl<'n> Places<'n> {
     {
         self.heads.clear();
         self.suffixes.clear();
-        self.deferred = None;
+        self.recent.clear();
+    }
+
+    /// The offset of a whole name, where one comparison finds it, as that of the question's name: the first name that was
+    /// written. `None` says nothing. The root has no place.
+    pub fn known(&self, octets: &[u8]) -> Option<u16>
+        requires { IsWire octets.now }
+        ensures place { IfSome result
+            (λ offset. first_offset self.now (labels_in octets.now) ≡ Some offset) }
+        ensures label { IfSome result (λ offset. labels_in octets.now ≢ []) }
+        ensures near { IfSome result (λ offset. offset < POINTED_PLACES) }
+    {
+        known_offset(
+            self.key,
+            self.heads.as_slice(),
+            self.suffixes.as_slice(),
+            self.recent.as_slice(),
+            octets,
+        )
     }
 
     /// Writes a name at the end of the message, with a pointer in place of its longest suffix that has a place, and adds the
@@ -105,7 +119,7 @@ impl<'n> Places<'n> {
             self.key,
             &mut self.heads,
             &mut self.suffixes,
-            &mut self.deferred,
+            &mut self.recent,
             out,
             octets,
         ) {
@@ -134,7 +148,7 @@ impl<'n> Places<'n> {
             self.key,
             &mut self.heads,
             &mut self.suffixes,
-            &mut self.deferred,
+            &mut self.recent,
             out,
             octets,
         ) {
@@ -148,131 +162,236 @@ impl<'n> Places<'n> {
     }
 }
 
-// Writes a name in full, and defers its suffixes. An `Err` leaves what was written before.
+// The offset of a whole name, if it is the first of the table or, without a table, of the recent names.
+fn known_offset<'n>(
+    key: u32,
+    heads: &[u16],
+    suffixes: &[SuffixEntry<'n>],
+    names: &[RecentName<'n>],
+    octets: &[u8],
+) -> Option<u16>
+    requires table { IsTable key heads.now suffixes.now }
+    requires names { AllByRecursion IsRecentName names.now }
+    requires wire { IsWire octets.now }
+    ensures place { IfSome result (λ offset.
+        first_offset (known_places suffixes.now names.now) (labels_in octets.now) ≡ Some offset) }
+    ensures label { IfSome result (λ offset. labels_in octets.now ≢ []) }
+    ensures near { IfSome result (λ offset. offset < POINTED_PLACES) }
+{
+    if octets.len() < 2 {
+        return None;
+    }
+    if suffixes.is_empty() {
+        recent::offset_if_first(names, octets)
+    } else {
+        table::offset_if_first(key, heads, suffixes, octets)
+    }
+}
+
+// Where labels end that so many octets of are written from an offset on, as far as pointers reach.
+fn reach(start: usize, count: usize) -> usize
+    ensures { result ≡ min (start + count) POINTED_PLACES }
+{
+    start.saturating_add(count).min(POINTED_PLACES)
+}
+
+// Puts the recent names into the table.
+fn insert_recent<'n>(
+    alloc: Global,
+    key: u32,
+    heads: &mut Vec<u16>,
+    suffixes: &mut Vec<SuffixEntry<'n>>,
+    recent: &mut RecentNames<'n>,
+) -> Result<(), AllocError>
+    requires table { IsTable key heads.old.items suffixes.old.items }
+    requires recent { AllByRecursion IsRecentName recent.old }
+    ensures table { IsTable key heads.new.items suffixes.new.items }
+    ensures recent { AllByRecursion IsRecentName recent.new }
+    ensures none { OnOk result (recent.new ≡ []) }
+    ensures places { OnOk result (suffix_places suffixes.new.items
+        ≡ known_places suffixes.old.items recent.old) }
+{
+    insert_names(alloc, key, heads, suffixes, recent.as_slice())?;
+    recent.clear();
+    Ok(())
+}
+
+// Puts the recent names into the table, and behind them a name whose labels were written from the offset `start` on up to `end`.
+fn insert_all<'n>(
+    alloc: Global,
+    key: u32,
+    heads: &mut Vec<u16>,
+    suffixes: &mut Vec<SuffixEntry<'n>>,
+    recent: &mut RecentNames<'n>,
+    octets: &'n [u8],
+    start: usize,
+    end: usize,
+) -> Result<(), AllocError>
+    requires table { IsTable key heads.old.items suffixes.old.items }
+    requires recent { AllByRecursion IsRecentName recent.old }
+    requires wire { IsWire octets.now }
+    requires near { end ≤ POINTED_PLACES }
+    ensures table { IsTable key heads.new.items suffixes.new.items }
+    ensures recent { AllByRecursion IsRecentName recent.new }
+    ensures places { OnOk result (known_places suffixes.new.items recent.new
+        ≡ known_places suffixes.old.items recent.old
+        ++ added_places (known_places suffixes.old.items recent.old) start end (labels_in octets.now)) }
+{
+    insert_recent(alloc, key, heads, suffixes, recent)?;
+    insert_written(alloc, key, heads, suffixes, octets, start, end)
+}
+
+// Adds the places of a name whose labels were written from the offset `start` on up to `end`: it becomes a recent name, or
+// where there is no room for one more, all come into the table.
+fn remember<'n>(
+    alloc: Global,
+    key: u32,
+    heads: &mut Vec<u16>,
+    suffixes: &mut Vec<SuffixEntry<'n>>,
+    recent: &mut RecentNames<'n>,
+    octets: &'n [u8],
+    start: usize,
+    end: usize,
+) -> Result<(), AllocError>
+    requires table { IsTable key heads.old.items suffixes.old.items }
+    requires recent { AllByRecursion IsRecentName recent.old }
+    requires wire { IsWire octets.now }
+    requires near { end ≤ POINTED_PLACES }
+    ensures table { IsTable key heads.new.items suffixes.new.items }
+    ensures recent { AllByRecursion IsRecentName recent.new }
+    ensures places { OnOk result (known_places suffixes.new.items recent.new
+        ≡ known_places suffixes.old.items recent.old
+        ++ added_places (known_places suffixes.old.items recent.old) start end (labels_in octets.now)) }
+{
+    if start >= end {
+        return Ok(());
+    }
+    if recent.is_full() {
+        return insert_all(alloc, key, heads, suffixes, recent, octets, start, end);
+    }
+    recent.push(RecentName {
+        octets,
+        start: start as u16,
+        end: end as u16,
+    });
+    Ok(())
+}
+
+// Writes a name in full. An `Err` leaves what was written before.
 fn write_in_full<'n>(
     alloc: Global,
     key: u32,
     heads: &mut Vec<u16>,
     suffixes: &mut Vec<SuffixEntry<'n>>,
-    deferred: &mut Option<DeferredName<'n>>,
+    recent: &mut RecentNames<'n>,
     out: &mut Octets,
     octets: &'n [u8],
 ) -> Result<(), AllocError>
     requires table { IsTable key heads.old.items suffixes.old.items }
-    requires deferred { IsDeferred deferred.old }
+    requires recent { AllByRecursion IsRecentName recent.old }
     requires wire { IsWire octets.now }
     ensures table { IsTable key heads.new.items suffixes.new.items }
-    ensures deferred { IsDeferred deferred.new }
+    ensures recent { AllByRecursion IsRecentName recent.new }
     ensures octets { OnOk result (out.new ≡ out.old ++ octets.now) }
-    ensures places { OnOk result (known_places suffixes.new.items deferred.new
-        ≡ known_places suffixes.old.items deferred.old
-        ++ new_places_in_full (known_places suffixes.old.items deferred.old) (length out.old)
+    ensures places { OnOk result (known_places suffixes.new.items recent.new
+        ≡ known_places suffixes.old.items recent.old
+        ++ new_places_in_full (known_places suffixes.old.items recent.old) (length out.old)
         (labels_in octets.now)) }
     ensures begins { take (length out.old) out.new ≡ out.old }
 {
-    insert_deferred(alloc, key, heads, suffixes, deferred)?;
+    let start = out.len();
     out.append(octets)?;
-    *deferred = Some(DeferredName {
-        octets,
-        end: out.len(),
-    });
-    Ok(())
+    let end = reach(start, octets.len());
+    remember(alloc, key, heads, suffixes, recent, octets, start, end)
 }
 
-// Takes the suffixes of the deferred name into the table.
-fn insert_deferred<'n>(
+// Writes so many octets of a name, and behind them a pointer to the offset or a zero. An `Err` leaves what was written before.
+fn write_cut(
+    out: &mut Octets,
+    octets: &[u8],
+    count: usize,
+    found: Option<u16>,
+) -> Result<(), AllocError>
+    requires inside { count < length octets.now }
+    requires near { IfSome found (λ offset. offset < POINTED_PLACES) }
+    ensures octets { OnOk result (out.new
+        ≡ out.old ++ (take count octets.now ++ pointer_or found (0 ∷ []))) }
+    ensures begins { take (length out.old) out.new ≡ out.old }
+{
+    out.append(&octets[..count])?;
+    match found {
+        Some(offset) => write_pointer(out, offset),
+        None => out.push(0),
+    }
+}
+
+// Writes a name compressed, by the recent names alone. An `Err` leaves what was written before.
+fn compress_by_recent<'n>(
     alloc: Global,
     key: u32,
     heads: &mut Vec<u16>,
     suffixes: &mut Vec<SuffixEntry<'n>>,
-    deferred: &mut Option<DeferredName<'n>>,
+    recent: &mut RecentNames<'n>,
+    out: &mut Octets,
+    octets: &'n [u8],
 ) -> Result<(), AllocError>
     requires table { IsTable key heads.old.items suffixes.old.items }
-    requires deferred { IsDeferred deferred.old }
+    requires none { suffixes.old.items ≡ [] }
+    requires recent { AllByRecursion IsRecentName recent.old }
+    requires wire { IsWire octets.now }
     ensures table { IsTable key heads.new.items suffixes.new.items }
-    ensures deferred { IsDeferred deferred.new }
-    ensures none { OnOk result (deferred.new ≡ None) }
-    ensures places { OnOk result (suffix_places suffixes.new.items
-        ≡ known_places suffixes.old.items deferred.old) }
+    ensures recent { AllByRecursion IsRecentName recent.new }
+    ensures octets { OnOk result (out.new ≡ out.old
+        ++ compressed_octets (known_places suffixes.old.items recent.old) (labels_in octets.now)) }
+    ensures places { OnOk result (known_places suffixes.new.items recent.new
+        ≡ known_places suffixes.old.items recent.old
+        ++ new_places (known_places suffixes.old.items recent.old) (length out.old)
+        (labels_in octets.now)) }
+    ensures begins { take (length out.old) out.new ≡ out.old }
 {
-    match *deferred {
-        None => Ok(()),
-        Some(name) => {
-            insert_suffixes(alloc, key, heads, suffixes, name.octets, name.end)?;
-            *deferred = None;
-            Ok(())
-        }
-    }
+    let start = out.len();
+    let (count, found) = longest_match(recent.as_slice(), octets);
+    write_cut(out, octets, count, found)?;
+    let end = reach(start, count);
+    remember(alloc, key, heads, suffixes, recent, octets, start, end)
 }
 
-// The offset of the deferred name, if it is this name and all places are its own.
-fn deferred_offset<'n>(
-    suffixes: &[SuffixEntry<'n>],
-    deferred: Option<DeferredName<'n>>,
-    octets: &[u8],
-) -> Option<u16>
-    requires deferred { IsDeferred deferred }
-    requires wire { IsWire octets.now }
-    ensures place { IfSome result (λ offset.
-        first_offset (known_places suffixes.now deferred.entry) (labels_in octets.now) ≡ Some offset) }
-    ensures label { IfSome result (λ offset. labels_in octets.now ≢ []) }
-    ensures near { IfSome result (λ offset. offset < POINTED_PLACES) }
-{
-    if !suffixes.is_empty() || octets.len() < 2 {
-        return None;
-    }
-    match deferred {
-        None => None,
-        Some(name) => offset_if_same(name, octets),
-    }
-}
-
-// The offset of the deferred name, if it is this name and a pointer can lead there.
-fn offset_if_same<'n>(name: DeferredName<'n>, octets: &[u8]) -> Option<u16>
-    requires deferred { IsDeferred (Some name) }
-    requires wire { IsWire octets.now }
-    requires some { 2 ≤ length octets.now }
-    ensures place { IfSome result (λ offset.
-        first_offset (known_places [] (Some name.entry)) (labels_in octets.now) ≡ Some offset) }
-    ensures near { IfSome result (λ offset. offset < POINTED_PLACES) }
-{
-    let at = name.end - name.octets.len();
-    if at >= POINTED_PLACES {
-        return None;
-    }
-    if name.octets == octets {
-        Some(at as u16)
-    } else {
-        None
-    }
-}
-
-// Writes a name compressed, behind the names of the table and the deferred one. An `Err` leaves what was written before.
+// Writes a name compressed. An `Err` leaves what was written before.
 fn write_compressed<'n>(
     alloc: Global,
     key: u32,
     heads: &mut Vec<u16>,
     suffixes: &mut Vec<SuffixEntry<'n>>,
-    deferred: &mut Option<DeferredName<'n>>,
+    recent: &mut RecentNames<'n>,
     out: &mut Octets,
     octets: &'n [u8],
 ) -> Result<(), AllocError>
     requires table { IsTable key heads.old.items suffixes.old.items }
-    requires deferred { IsDeferred deferred.old }
+    requires recent { AllByRecursion IsRecentName recent.old }
     requires wire { IsWire octets.now }
     ensures table { IsTable key heads.new.items suffixes.new.items }
-    ensures deferred { IsDeferred deferred.new }
+    ensures recent { AllByRecursion IsRecentName recent.new }
     ensures octets { OnOk result (out.new ≡ out.old
-        ++ compressed_octets (known_places suffixes.old.items deferred.old) (labels_in octets.now)) }
-    ensures places { OnOk result (known_places suffixes.new.items deferred.new
-        ≡ known_places suffixes.old.items deferred.old
-        ++ new_places (known_places suffixes.old.items deferred.old) (length out.old)
+        ++ compressed_octets (known_places suffixes.old.items recent.old) (labels_in octets.now)) }
+    ensures places { OnOk result (known_places suffixes.new.items recent.new
+        ≡ known_places suffixes.old.items recent.old
+        ++ new_places (known_places suffixes.old.items recent.old) (length out.old)
         (labels_in octets.now)) }
     ensures begins { take (length out.old) out.new ≡ out.old }
 {
-    if let Some(offset) = deferred_offset(suffixes.as_slice(), *deferred, octets) {
+    let known = known_offset(
+        key,
+        heads.as_slice(),
+        suffixes.as_slice(),
+        recent.as_slice(),
+        octets,
+    );
+    if let Some(offset) = known {
         return write_pointer(out, offset);
     }
-    insert_deferred(alloc, key, heads, suffixes, deferred)?;
+    if suffixes.is_empty() {
+        return compress_by_recent(alloc, key, heads, suffixes, recent, out, octets);
+    }
+    insert_recent(alloc, key, heads, suffixes, recent)?;
     compress(alloc, key, heads, suffixes, out, octets)
 }

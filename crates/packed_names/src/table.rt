@@ -100,9 +100,32 @@ fn find<'n>(
     None
 }
 
-/// The offset of a whole name, where it is found cheaply: the name is that of the first entry, as the question's name mostly is,
-/// or it is short. `None` says nothing.
-pub(crate) fn find_whole<'n>(
+/// The offset of a whole name, if it is that of the first entry. `None` says nothing.
+pub(crate) fn offset_if_first<'n>(
+    key: u32,
+    heads: &[u16],
+    suffixes: &[SuffixEntry<'n>],
+    octets: &[u8],
+) -> Option<u16>
+    requires table { IsTable key heads.now suffixes.now }
+    ensures place { IfSome result
+        (λ offset. first_offset (suffix_places suffixes.now) (labels_in octets.now) ≡ Some offset) }
+    ensures near { IfSome result (λ offset. offset < POINTED_PLACES) }
+{
+    if suffixes.is_empty() {
+        return None;
+    }
+    let suffix = suffixes[0];
+    if has_name(&suffix, octets) {
+        Some(suffix.offset)
+    } else {
+        None
+    }
+}
+
+/// The offset of a whole name, if it is short enough to look it up before the hashes of all its suffixes are computed. `None`
+/// says nothing.
+pub(crate) fn find_short<'n>(
     key: u32,
     heads: &[u16],
     suffixes: &[SuffixEntry<'n>],
@@ -115,14 +138,7 @@ pub(crate) fn find_whole<'n>(
     ensures label { IfSome result (λ offset. labels_in octets.now ≢ []) }
     ensures near { IfSome result (λ offset. offset < POINTED_PLACES) }
 {
-    if suffixes.is_empty() || octets.len() < 2 {
-        return None;
-    }
-    let suffix = suffixes[0];
-    if has_name(&suffix, octets) {
-        return Some(suffix.offset);
-    }
-    if octets.len() > SHORT_NAME {
+    if octets.len() < 2 || octets.len() > SHORT_NAME {
         return None;
     }
     find(key, heads, suffixes, octets, hash_of(key, octets))

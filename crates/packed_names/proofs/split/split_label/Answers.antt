@@ -1,6 +1,6 @@
 use Rattle.std.proofs.Common.{sym, ◌∙◌, arith}
 use Rattle.packed_names.proofs.CompressLemmas.{split_label_none, split_label_room, split_label_whole}
-use Rattle.packed_names.proofs.compress.split_label.Goals as goal
+use Rattle.packed_names.proofs.split.split_label.Goals as goal
 
 pub returns-then-len-eq0 : goal.returns-then-len-eq0
 returns-then-len-eq0 c = split_label_none c.args.octets.now c.requires (sym c.from-len.ensures ∙ c.if-len-eq0.true)
