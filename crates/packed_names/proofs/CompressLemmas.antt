@@ -151,23 +151,13 @@ Compressing-root key places start name heads suffixes out out' labels h none out
       places_are = h.places_are ∙ ap (λ (ps : List Place). places ++ ps) (sym (append-nil h.extra) ∙ ap (λ (ps : List Place). h.extra ++ ps) (sym empty) ∙ h.added);
     }
 
--- the whole name has a place
-pub Compressed-whole : (places : List Place) (start : List ℕ) (name : List (List ℕ)) (suffixes : List SuffixEntry) (out : List ℕ) (t : ℕ) → suffix_places suffixes ≡ places → first_offset places name ≡ Some t → (name ≡ [] → ⊥) → out ≡ start ++ pointer_octets t → Compressed places start name suffixes out
-Compressed-whole places start name suffixes out t are found some out_is =
-    record {
-      octets = out_is ∙ ap (λ (o : List ℕ). start ++ o) (sym (compressed_octets-found places name t found some));
-      places_are = are ∙ sym (append-nil places) ∙ ap (λ (ps : List Place). places ++ ps) (sym (new_places-found places (length start) name t found some));
-    }
-
 -- the same, of the octets that are left of the name
 pub record CompressingRest (key : ℕ) (places : List Place) (start octets : List ℕ) (heads : List ℕ) (suffixes : List SuffixEntry) (out rest : List ℕ) : Type 0 where
   pub compressing : Compressing key places start (labels_in octets) heads suffixes out (labels_in rest)
   pub wire : IsWire rest
-  pub front : List ℕ
-  pub parts : octets ≡ front ++ rest
 
 pub CompressingRest-start : (key : ℕ) (places : List Place) (start octets : List ℕ) (heads : List ℕ) (suffixes : List SuffixEntry) → suffix_places suffixes ≡ places → IsTable key heads suffixes → IsWire octets → CompressingRest key places start octets heads suffixes start octets
-CompressingRest-start key places start octets heads suffixes are table wire = record { compressing = Compressing-start key places start (labels_in octets) heads suffixes are table; wire = wire; front = []; parts = refl }
+CompressingRest-start key places start octets heads suffixes are table wire = record { compressing = Compressing-start key places start (labels_in octets) heads suffixes are table; wire = wire }
 
 pub CompressingRest-label : (key : ℕ) (places : List Place) (start octets : List ℕ) (heads heads' : List ℕ) (suffixes suffixes' : List SuffixEntry) (out out' rest : List ℕ) (count : ℕ) (others : List ℕ) (at : ℕ) → CompressingRest key places start octets heads suffixes out rest → SplitsLabel rest count others
     → IsTable key heads' suffixes' → first_offset (suffix_places suffixes) (labels_in rest) ≡ None → suffix_places suffixes' ≡ suffix_places suffixes ++ reachable_place at (labels_in rest) → at ≡ length out → out' ≡ out ++ take count rest → CompressingRest key places start octets heads' suffixes' out' others
@@ -181,8 +171,6 @@ CompressingRest-label key places start octets heads heads' suffixes suffixes' ou
           (are ∙ ap (λ (n : ℕ). suffix_places suffixes ++ reachable_place n (labels_in rest)) at_is ∙ ap (λ (x : List (List ℕ)). suffix_places suffixes ++ reachable_place (length out) x) cut.labels)
           (out_is ∙ ap (λ (x : List ℕ). out ++ x) taken);
       wire = cut.wire;
-      front = h.front ++ label_octets l;
-      parts = h.parts ∙ ap (λ (o : List ℕ). h.front ++ o) cut.parts ∙ sym (append_assoc h.front (label_octets l) others);
     }
 
 pub CompressingRest-pointer : (key : ℕ) (places : List Place) (start octets : List ℕ) (heads : List ℕ) (suffixes suffixes' : List SuffixEntry) (out out' rest : List ℕ) (count : ℕ) (others : List ℕ) (t : ℕ) → CompressingRest key places start octets heads suffixes out rest → SplitsLabel rest count others

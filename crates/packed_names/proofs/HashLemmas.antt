@@ -1,27 +1,22 @@
--- The hashes of the suffixes of a name.
-use Rattle.std.proofs.Common.{◌≡◌, ℕ, suc, ◌+◌, ◌≤◌, ◌<◌, inl, inr, [], ◌∷◌, length, drop, set, get_or, refl, sym, ap, ◌∙◌, arith, drop-cons, get_or-set_same, get_or-set_other, List}
-use Rattle.std.proofs.Math.Seq.{drop-length}
-use Rattle.std.proofs.lemmas.Bool.{cases_eq}
-use Rattle.packed_names.specs.Hash.{mix, hash_of}
+-- The hash of a suffix.
+use Rattle.std.proofs.Common.{◌≡◌, ℕ, add-one, ◌+◌, ◌-◌, ◌*◌, ◌/◌, ◌^◌, bit_xor, List, length, sym, ap, ◌∙◌}
+use Rattle.packed_names.specs.Hash.{folded_product, word_at, pairs_hash, hash_of}
 
--- the hash of each suffix that begins at an index or after it
-abbrev pub HashesFrom : ℕ → List ℕ → ℕ → List ℕ → Type 0
-HashesFrom key octets from hashes = (k : ℕ) → from ≤ k → k < length octets → get_or hashes k 0 ≡ hash_of key (drop k octets)
+-- two words more
+folded : (key hash first second first' second' hash' : ℕ) → first ≡ first' → second ≡ second' → hash ≡ hash' → folded_product (bit_xor first key) (bit_xor second hash) ≡ folded_product (bit_xor first' key) (bit_xor second' hash')
+folded key hash first second first' second' hash' f s h =
+    ap (λ (n : ℕ). folded_product (bit_xor n key) (bit_xor second hash)) f
+    ∙ ap (λ (n : ℕ). folded_product (bit_xor first' key) (bit_xor n hash)) s
+    ∙ ap (λ (n : ℕ). folded_product (bit_xor first' key) (bit_xor second' n)) h
 
-pub hash_none : (key : ℕ) (octets : List ℕ) (from : ℕ) → from ≡ length octets → key ≡ hash_of key (drop from octets)
+pub pairs_more : (key : ℕ) (octets : List ℕ) (count hash first second product : ℕ) → hash ≡ pairs_hash key octets count → first ≡ word_at octets (16 * count) → second ≡ word_at octets (16 * count + 8) → product ≡ folded_product (bit_xor first key) (bit_xor second hash) → product ≡ pairs_hash key octets (count + 1)
+unfolding pairs_hash
+pairs_more key octets count hash first second product h f s p =
+    p ∙ folded key hash first second (word_at octets (16 * count)) (word_at octets (16 * count + 8)) (pairs_hash key octets count) f s h ∙ ap (pairs_hash key octets) (sym (add-one count))
+
+-- the hash, when all pairs are done
+pub hash_done : (key : ℕ) (octets : List ℕ) (i hash first second product : ℕ) → i ≡ length octets / 16 → hash ≡ pairs_hash key octets i → first ≡ word_at octets (length octets - 16) → second ≡ word_at octets (length octets - 8) → product ≡ folded_product (bit_xor first key) (bit_xor second hash) → product / 2 ^ 32 ≡ hash_of key octets
 unfolding hash_of
-hash_none key octets from e = let d : drop from octets ≡ [] = ap (λ (n : ℕ). drop n octets) e ∙ drop-length octets in rw d refl
-
-pub hash_more : (key : ℕ) (octets : List ℕ) (hash from to : ℕ) → to + 1 ≡ from → to < length octets → hash ≡ hash_of key (drop from octets) → mix key hash (get_or octets to 0) ≡ hash_of key (drop to octets)
-unfolding hash_of
-hash_more key octets hash from to e lt is =
-    let next : suc to ≡ from = omega arith in
-    let d : drop to octets ≡ get_or octets to 0 ∷ drop from octets = drop-cons octets to 0 lt ∙ ap (λ (n : ℕ). get_or octets to 0 ∷ drop n octets) next in
-    rw d (ap (λ (h : ℕ). mix key h (get_or octets to 0)) is)
-
-pub hashes_more : (key : ℕ) (octets hashes : List ℕ) (hash from to : ℕ) → to + 1 ≡ from → to < length hashes → hash ≡ hash_of key (drop to octets) → HashesFrom key octets from hashes → HashesFrom key octets to (set hashes to hash)
-hashes_more key octets hashes hash from to e lt is h k ge less =
-    elim (cases_eq k to) [
-      | inl same ↦ ap (λ (n : ℕ). get_or (set hashes to hash) n 0) same ∙ get_or-set_same hashes to hash 0 lt ∙ is ∙ ap (λ (n : ℕ). hash_of key (drop n octets)) (sym same)
-      | inr other ↦ get_or-set_other hashes to k hash 0 other ∙ h k (omega arith) less
-    ]
+hash_done key octets i hash first second product end h f s p =
+    ap (λ (n : ℕ). n / 2 ^ 32)
+    (p ∙ folded key hash first second (word_at octets (length octets - 16)) (word_at octets (length octets - 8)) (pairs_hash key octets (length octets / 16)) f s (h ∙ ap (pairs_hash key octets) end))

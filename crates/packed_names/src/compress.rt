@@ -7,18 +7,17 @@ ghost use Rattle.packed_names.specs.Places.{compressed_octets, new_places};
 ghost use Rattle.packed_names.specs.Recent.{added_places, known_places, IsRecentName};
 ghost use Rattle.packed_names.specs.Table.{suffix_places, IsTable};
 
-use crate::hash::{hash_of, suffix_hashes};
 use crate::pointer::{POINTED_PLACES, write_pointer};
 use crate::recent::RecentName;
 use crate::split::split_label;
-use crate::table::{SuffixEntry, find_or_insert, find_short};
+use crate::table::{SuffixEntry, find_or_insert};
 use dns_name::Octets;
 use std::alloc::{AllocError, Global};
 
 /// Takes the suffixes of a name into the table whose labels begin before the offset `end`. The first stands at `start`.
 pub(crate) fn insert_written<'n>(
     alloc: Global,
-    key: u32,
+    key: u64,
     heads: &mut Vec<u16>,
     suffixes: &mut Vec<SuffixEntry<'n>>,
     octets: &'n [u8],
@@ -39,8 +38,7 @@ pub(crate) fn insert_written<'n>(
         if at >= end {
             return Ok(());
         }
-        let hash = hash_of(key, rest);
-        let _place = find_or_insert(alloc, key, heads, suffixes, rest, hash, at)?;
+        let _place = find_or_insert(alloc, key, heads, suffixes, rest, at)?;
         at += count;
         rest = others;
     }
@@ -50,7 +48,7 @@ pub(crate) fn insert_written<'n>(
 /// Takes the suffixes of names into the table, in order.
 pub(crate) fn insert_names<'n>(
     alloc: Global,
-    key: u32,
+    key: u64,
     heads: &mut Vec<u16>,
     suffixes: &mut Vec<SuffixEntry<'n>>,
     names: &[RecentName<'n>],
@@ -72,7 +70,7 @@ pub(crate) fn insert_names<'n>(
 /// maybe a part of the name behind it.
 pub(crate) fn compress<'n>(
     alloc: Global,
-    key: u32,
+    key: u64,
     heads: &mut Vec<u16>,
     suffixes: &mut Vec<SuffixEntry<'n>>,
     out: &mut Octets,
@@ -88,17 +86,12 @@ pub(crate) fn compress<'n>(
         ++ new_places (suffix_places suffixes.old.items) (length out.old) (labels_in octets.now)) }
     ensures begins { take (length out.old) out.new ≡ out.old }
 {
-    if let Some(offset) = find_short(key, heads.as_slice(), suffixes.as_slice(), octets) {
-        return write_pointer(out, offset);
-    }
-    let hashes = suffix_hashes(key, octets);
     let mut rest = octets;
     loop {
         let Some((count, others)) = split_label(rest) else {
             return out.push(0);
         };
-        let hash = hashes[octets.len() - rest.len()];
-        if let Some(offset) = find_or_insert(alloc, key, heads, suffixes, rest, hash, out.len())? {
+        if let Some(offset) = find_or_insert(alloc, key, heads, suffixes, rest, out.len())? {
             return write_pointer(out, offset);
         }
         out.append(&rest[..count])?;

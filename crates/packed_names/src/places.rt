@@ -24,7 +24,7 @@ use std::marker::Model;
 #[derive(Debug, Drop)]
 pub struct Places<'n> {
     alloc: Global,
-    key: u32,
+    key: u64,
     heads: Vec<u16>,
     suffixes: Vec<SuffixEntry<'n>>,
     // The names whose suffixes are not in the table. While there are few, there is no table, and nothing is hashed or allocated.
@@ -48,15 +48,14 @@ impl<'n> Model for Places<'n> {
 impl<'n> Places<'n> {
     /// No places. It takes no memory.
     ///
-    /// The key seeds the hash of the suffixes. It is to be unknown to those who send the names, or they can choose names that
-    /// collide and are slow to find. Its three lowest bits are not used: the hash multiplies by a number of the form
-    /// 8n + 5. An even one would lose bits, and by one of the form 512n + 1 names of one-byte labels collide by the hundred.
-    pub fn new(alloc: Global, key: u32) -> Self
+    /// The key is that of the hash of the suffixes, a random number. Those who send the names must not know it, or they can
+    /// choose names that collide and are slow to find.
+    pub fn new(alloc: Global, key: u64) -> Self
         ensures { result ≡ [] }
     {
         Places {
             alloc,
-            key: (key & !7) | 5,
+            key,
             heads: Vec::new(alloc),
             suffixes: Vec::new(alloc),
             recent: RecentNames::new(),
@@ -164,7 +163,7 @@ impl<'n> Places<'n> {
 
 // The offset of a whole name, if it is the first of the table or, without a table, of the recent names.
 fn known_offset<'n>(
-    key: u32,
+    key: u64,
     heads: &[u16],
     suffixes: &[SuffixEntry<'n>],
     names: &[RecentName<'n>],
@@ -198,7 +197,7 @@ fn reach(start: usize, count: usize) -> usize
 // Puts the recent names into the table.
 fn insert_recent<'n>(
     alloc: Global,
-    key: u32,
+    key: u64,
     heads: &mut Vec<u16>,
     suffixes: &mut Vec<SuffixEntry<'n>>,
     recent: &mut RecentNames<'n>,
@@ -216,10 +215,14 @@ fn insert_recent<'n>(
     Ok(())
 }
 
+// Room for so many entries is made at once, when there are names enough for a table.
+const FIRST_ENTRIES: usize = 32;
+
 // Puts the recent names into the table, and behind them a name whose labels were written from the offset `start` on up to `end`.
+#[inline(never)]
 fn insert_all<'n>(
     alloc: Global,
-    key: u32,
+    key: u64,
     heads: &mut Vec<u16>,
     suffixes: &mut Vec<SuffixEntry<'n>>,
     recent: &mut RecentNames<'n>,
@@ -237,15 +240,17 @@ fn insert_all<'n>(
         ≡ known_places suffixes.old.items recent.old
         ++ added_places (known_places suffixes.old.items recent.old) start end (labels_in octets.now)) }
 {
+    suffixes.reserve(FIRST_ENTRIES)?;
     insert_recent(alloc, key, heads, suffixes, recent)?;
     insert_written(alloc, key, heads, suffixes, octets, start, end)
 }
 
 // Adds the places of a name whose labels were written from the offset `start` on up to `end`: it becomes a recent name, or
 // where there is no room for one more, all come into the table.
+#[inline]
 fn remember<'n>(
     alloc: Global,
-    key: u32,
+    key: u64,
     heads: &mut Vec<u16>,
     suffixes: &mut Vec<SuffixEntry<'n>>,
     recent: &mut RecentNames<'n>,
@@ -280,7 +285,7 @@ fn remember<'n>(
 // Writes a name in full. An `Err` leaves what was written before.
 fn write_in_full<'n>(
     alloc: Global,
-    key: u32,
+    key: u64,
     heads: &mut Vec<u16>,
     suffixes: &mut Vec<SuffixEntry<'n>>,
     recent: &mut RecentNames<'n>,
@@ -328,7 +333,7 @@ fn write_cut(
 // Writes a name compressed, by the recent names alone. An `Err` leaves what was written before.
 fn compress_by_recent<'n>(
     alloc: Global,
-    key: u32,
+    key: u64,
     heads: &mut Vec<u16>,
     suffixes: &mut Vec<SuffixEntry<'n>>,
     recent: &mut RecentNames<'n>,
@@ -359,7 +364,7 @@ fn compress_by_recent<'n>(
 // Writes a name compressed. An `Err` leaves what was written before.
 fn write_compressed<'n>(
     alloc: Global,
-    key: u32,
+    key: u64,
     heads: &mut Vec<u16>,
     suffixes: &mut Vec<SuffixEntry<'n>>,
     recent: &mut RecentNames<'n>,

@@ -1,4 +1,4 @@
-//! The table that finds the place of a suffix: a list of entries, and from a few on a chain of entries for each bucket.
+//! The table that finds the place of a suffix: a list of entries, with a chain for each bucket.
 
 ghost use Rattle.std.specs.Prelude.{◌≡◌, ℕ, ◌<◌, List, [], ◌∷◌, ◌++◌, length, Some, None, MatchOption, OnOk, IfOk, IfSome, IsTrue, ◌↔◌, ◌≢◌};
 ghost use Rattle.dns_name.specs.Wire.{labels_in, IsWire};
@@ -11,16 +11,10 @@ use crate::hash::{bucket, hash_of};
 use crate::pointer::POINTED_PLACES;
 use std::alloc::{AllocError, Global};
 
-// Up to so many entries are searched one after another, without buckets.
-const FEW_ENTRIES: usize = 8;
-
 const BUCKETS: usize = 2_048;
 
 // The chains number entries by 16 bits. A table never gets so many: each entry has an offset of its own below 16,384.
 const ENTRY_LIMIT: usize = 65_535;
-
-// A name of up to so many bytes is looked up as a whole before the hashes of all its suffixes are computed.
-const SHORT_NAME: usize = 64;
 
 /// A suffix of a name that was written, and the offset of its first label.
 #[derive(Clone, Copy, Debug)]
@@ -41,7 +35,7 @@ fn has_name<'n>(suffix: &SuffixEntry<'n>, octets: &[u8]) -> bool
 }
 
 // How many entries are left to search for this hash, of all.
-fn bucket_head<'n>(key: u32, heads: &[u16], suffixes: &[SuffixEntry<'n>], hash: u32) -> usize
+fn bucket_head<'n>(key: u64, heads: &[u16], suffixes: &[SuffixEntry<'n>], hash: u32) -> usize
     requires { IsTable key heads.now suffixes.now }
     ensures { Skips (hashes_of suffixes.now) result (length suffixes.now) (form.bucket hash) }
 {
@@ -53,7 +47,7 @@ fn bucket_head<'n>(key: u32, heads: &[u16], suffixes: &[SuffixEntry<'n>], hash: 
 
 // How many entries are left to search for this hash, of those before an entry.
 fn left_before<'n>(
-    key: u32,
+    key: u64,
     heads: &[u16],
     suffixes: &[SuffixEntry<'n>],
     at: usize,
@@ -73,7 +67,7 @@ fn left_before<'n>(
 
 // The offset of a name, whose hash is given.
 fn find<'n>(
-    key: u32,
+    key: u64,
     heads: &[u16],
     suffixes: &[SuffixEntry<'n>],
     octets: &[u8],
@@ -102,7 +96,7 @@ fn find<'n>(
 
 /// The offset of a whole name, if it is that of the first entry. `None` says nothing.
 pub(crate) fn offset_if_first<'n>(
-    key: u32,
+    key: u64,
     heads: &[u16],
     suffixes: &[SuffixEntry<'n>],
     octets: &[u8],
@@ -123,41 +117,17 @@ pub(crate) fn offset_if_first<'n>(
     }
 }
 
-/// The offset of a whole name, if it is short enough to look it up before the hashes of all its suffixes are computed. `None`
-/// says nothing.
-pub(crate) fn find_short<'n>(
-    key: u32,
-    heads: &[u16],
-    suffixes: &[SuffixEntry<'n>],
-    octets: &[u8],
-) -> Option<u16>
-    requires table { IsTable key heads.now suffixes.now }
-    requires wire { IsWire octets.now }
-    ensures place { IfSome result
-        (λ offset. first_offset (suffix_places suffixes.now) (labels_in octets.now) ≡ Some offset) }
-    ensures label { IfSome result (λ offset. labels_in octets.now ≢ []) }
-    ensures near { IfSome result (λ offset. offset < POINTED_PLACES) }
-{
-    if octets.len() < 2 || octets.len() > SHORT_NAME {
-        return None;
-    }
-    find(key, heads, suffixes, octets, hash_of(key, octets))
-}
-
-/// The offset of a suffix, whose hash is given. If it has none, it gets an entry with the offset `at`, where a pointer can lead
-/// there.
+/// The offset of a suffix. If it has none, it gets an entry with the offset `at`, where a pointer can lead there.
 pub(crate) fn find_or_insert<'n>(
     alloc: Global,
-    key: u32,
+    key: u64,
     heads: &mut Vec<u16>,
     suffixes: &mut Vec<SuffixEntry<'n>>,
     octets: &'n [u8],
-    hash: u32,
     at: usize,
 ) -> Result<Option<u16>, AllocError>
     requires table { IsTable key heads.old.items suffixes.old.items }
     requires wire { IsWire octets.now }
-    requires hash { hash ≡ form.hash_of key octets.now }
     ensures table { IsTable key heads.new.items suffixes.new.items }
     ensures found { IfOk result (λ place. MatchOption place
         ((first_offset (suffix_places suffixes.old.items) (labels_in octets.now) ≡ None)
@@ -166,6 +136,7 @@ pub(crate) fn find_or_insert<'n>(
         (λ offset. (first_offset (suffix_places suffixes.old.items) (labels_in octets.now) ≡ Some offset)
         × (suffixes.new.items ≡ suffixes.old.items) × (offset < POINTED_PLACES))) }
 {
+    let hash = hash_of(key, octets);
     let found = find(key, heads.as_slice(), suffixes.as_slice(), octets, hash);
     if found.is_some() || at >= POINTED_PLACES {
         return Ok(found);
@@ -186,17 +157,17 @@ fn empty_heads(alloc: Global, count: usize) -> Result<Vec<u16>, AllocError>
     Ok(vec![in alloc; count; BUCKETS]?)
 }
 
-// Makes the buckets once there are entries enough.
+// Makes the buckets, if there are none yet.
 fn make_heads<'n>(
     alloc: Global,
-    key: u32,
+    key: u64,
     heads: &mut Vec<u16>,
     suffixes: &[SuffixEntry<'n>],
 ) -> Result<(), AllocError>
     requires { IsTable key heads.old.items suffixes.now }
     ensures { IsTable key heads.new.items suffixes.now }
 {
-    if !heads.is_empty() || suffixes.len() < FEW_ENTRIES {
+    if !heads.is_empty() {
         return Ok(());
     }
     *heads = empty_heads(alloc, suffixes.len())?;
@@ -205,7 +176,7 @@ fn make_heads<'n>(
 
 // Puts an entry behind the others.
 fn insert<'n>(
-    key: u32,
+    key: u64,
     heads: &mut Vec<u16>,
     suffixes: &mut Vec<SuffixEntry<'n>>,
     octets: &'n [u8],
