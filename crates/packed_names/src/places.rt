@@ -361,6 +361,10 @@ fn compress_by_recent<'n>(
     remember(alloc, key, heads, suffixes, recent, octets, start, end)
 }
 
+// Names are looked up without a table only if they are written in the first octets of a message, so that the work for a message
+// that is made to be slow stays small: each suffix may be compared with each recent name.
+const FEW_OCTETS: usize = 2_048;
+
 // Writes a name compressed. An `Err` leaves what was written before.
 fn write_compressed<'n>(
     alloc: Global,
@@ -394,7 +398,7 @@ fn write_compressed<'n>(
     if let Some(offset) = known {
         return write_pointer(out, offset);
     }
-    if suffixes.is_empty() {
+    if suffixes.is_empty() && out.len() < FEW_OCTETS {
         return compress_by_recent(alloc, key, heads, suffixes, recent, out, octets);
     }
     insert_recent(alloc, key, heads, suffixes, recent)?;
