@@ -10,7 +10,7 @@ import time
 import replies
 import wire
 from bad_upstreams import FOREIGN, KINDS, RIGHT, BadUpstream, DelayedUpstream, SerialUpstream
-from harness import CACHED, OTHERS, RULED, SLOWEST, alone, case, fail_if
+from harness import CACHED, OTHERS, RULED, SLOWEST, alone, case, fail_if, repeated
 from peers import LOOPBACK, ZONE, Primary, Server, Upstream, ask
 
 CLIENTS = [f"127.0.2.{n + 1}" for n in range(20)]
@@ -286,26 +286,61 @@ class ClosingUpstream(Upstream):
             self.reply(connection, threading.Lock(), message)
 
 
-@alone
-def connections_that_the_upstream_ends(program, port, workers):
-    """An upstream that closes each connection behind an answer, and nobody asks any more: their descriptors are given up."""
+def least_descriptors(server):
+    """The fewest descriptors of some looks within a second, so that a connection that is open for a transfer doesn't count."""
+    looks = []
+    for _ in range(20):
+        looks.append(server.descriptors())
+        time.sleep(0.05)
+    return min(looks)
+
+
+def ended_connections(program, port, workers, beside):
+    """What 200 questions leave of descriptors where the upstream ends each connection. `beside`: what goes on meanwhile, of the primary and
+    the port."""
     upstream, primary = ClosingUpstream(port + 1), Primary(port + 2, RULED)
     server = Server(program, port, upstream.port, [(ZONE, primary.port)], workers)
     try:
         server.wait_for(RULED[0])
-        time.sleep(1)
-        before = server.descriptors()
-        with concurrent.futures.ThreadPoolExecutor(20) as threads:
-            got = list(threads.map(lambda number: ask(port, f"m{number}.d{number}.test", 8), range(200)))
-        time.sleep(3)
-        behind = server.descriptors()
+        with beside(primary, port):
+            time.sleep(1)
+            before = least_descriptors(server)
+            with concurrent.futures.ThreadPoolExecutor(20) as threads:
+                got = list(threads.map(lambda number: ask(port, f"m{number}.d{number}.test", 8), range(200)))
+            time.sleep(3)
+            behind = least_descriptors(server)
         said = f"{got.count(0)} of {len(got)} answered over {upstream.connections} connections; {before} descriptors before, {behind} behind"
         fail_if(behind > before or upstream.connections < 100, said)
-        return said
+        return said, primary.transfers
     finally:
         server.end()
         upstream.end()
         primary.end()
+
+
+@alone
+def connections_that_the_upstream_ends(program, port, workers):
+    """An upstream that closes each connection behind an answer, and nobody asks any more: their descriptors are given up."""
+    return ended_connections(program, port, workers, lambda primary, port: contextlib.nullcontext())[0]
+
+
+@alone
+def ended_connections_beside_transfers(program, port, workers):
+    """The same while one transfer follows another, four in a second at the least."""
+
+    def changes(primary, port):
+        def change(number):
+            primary.change(f"changed{number}.example")
+            primary.notify(port)
+
+        return repeated(change, 0.05)
+
+    begun = time.monotonic()
+    said, transfers = ended_connections(program, port, workers, changes)
+    rate = transfers / (time.monotonic() - begun)
+    said = f"{said}; {rate:.0f} transfers a second"
+    fail_if(rate < 4, said)
+    return said
 
 
 def slowest_ruled(port, seconds):
@@ -384,4 +419,5 @@ CASES = [
     upstream_is_listen,
     answers_in_turn,
     connections_that_the_upstream_ends,
+    ended_connections_beside_transfers,
 ]
