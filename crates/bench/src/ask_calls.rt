@@ -6,7 +6,7 @@ use crate::bench_error::BenchError;
 use crate::facts_sample::{ALIAS, learn};
 use crate::samples::{QUERY, RESPONSE, name, question};
 use crate::sheet::Sheet;
-use crate::tried::{Tried, changed_twice, tried_twice};
+use crate::tried::{Tried, after, beside, changed_twice, made_twice};
 use dns_message::Question;
 use dns_name::Octets;
 use dns_record::rtype;
@@ -31,36 +31,60 @@ struct Asking {
     asked: Question,
 }
 
-/// A link that gives the response so many times.
-pub fn make_link(alloc: Global, count: u32) -> Result<ListLink, AllocError> {
-    let mut messages = Vec::new(alloc);
+fn push_responses(alloc: Global, messages: &mut Vec<Octets>, count: u32) -> Result<(), AllocError> {
     for _count in 0..count {
         messages.push(Octets::from_slice(alloc, RESPONSE)?)?;
     }
+    Ok(())
+}
+
+/// A link that gives the response so many times.
+pub fn make_link(alloc: Global, count: u32) -> Result<ListLink, AllocError> {
+    let mut messages = Vec::new(alloc);
+    let done = push_responses(alloc, &mut messages, count);
+    let messages = after(messages, done)?;
     Ok(ListLink::new(messages, Vec::new(alloc)))
 }
 
 // Its life, the octets of its answers, and what it says at the second 130.
 fn show_learned(alloc: Global, sheet: &mut Sheet, learned: &Given) -> Result<(), BenchError> {
-    sheet.show(&learned.life())?;
-    sheet.show(&learned.answers_len())?;
+    sheet.show(&learned.life());
+    sheet.show(&learned.answers_len());
     if !learned.is_live(130) {
-        return sheet.say("over");
+        sheet.say("over");
+        return Ok(());
     }
-    sheet.show(&learned.fact(alloc, 130)?)
+    sheet.show_result(learned.fact(alloc, 130))
 }
 
-// What is asked over the link, or learned of the question at the second 100.
+fn show_asked(
+    alloc: Global,
+    sheet: &mut Sheet,
+    asked: AskOutcome<ListLink>,
+) -> Result<(), BenchError> {
+    match asked {
+        AskOutcome::Learned(learned) => show_learned(alloc, sheet, &learned),
+        AskOutcome::Failed => {
+            sheet.say("failed");
+            Ok(())
+        }
+    }
+}
+
+// What is learned of the question at the second 100.
+fn given(alloc: Global, asked: &Question) -> Result<Given, AllocError> {
+    let bytes = Octets::from_slice(alloc, RESPONSE)?;
+    Learned::given(alloc, 0, asked, &bytes, 100)
+}
+
+// What is asked over the link, or learned.
 impl Tried for Asking {
     fn once(&mut self, alloc: Global, sheet: &mut Sheet, call: &str) -> Result<(), BenchError> {
         if call == "upstream_link::ask" {
-            return match ask(alloc, &mut self.link, 0, &self.asked, 100)? {
-                AskOutcome::Learned(learned) => show_learned(alloc, sheet, &learned),
-                AskOutcome::Failed => sheet.say("failed"),
-            };
+            let asked = ask(alloc, &mut self.link, 0, &self.asked, 100)?;
+            return show_asked(alloc, sheet, asked);
         }
-        let bytes = Octets::from_slice(alloc, RESPONSE)?;
-        let learned: Given = Learned::given(alloc, 0, &self.asked, &bytes, 100)?;
+        let learned = given(alloc, &self.asked)?;
         show_learned(alloc, sheet, &learned)
     }
 }
@@ -69,23 +93,30 @@ impl Tried for Asking {
 fn fact(alloc: Global, sheet: &mut Sheet, learned: &Given) -> Result<(), BenchError>
     requires { learned.now.moment ≡ 100 }
 {
-    sheet.show(&learned.fact(alloc, 100)?)
+    sheet.show_result(learned.fact(alloc, 100))
+}
+
+fn both_facts(alloc: Global, sheet: &mut Sheet, learned: &Given) -> Result<(), BenchError>
+    requires { learned.now.moment ≡ 100 }
+{
+    let first = fact(alloc, sheet, learned);
+    sheet.settle(first)?;
+    let second = fact(alloc, sheet, learned);
+    sheet.settle(second)
 }
 
 // Octets that are no response are copied, and nothing else is.
 fn facts_twice(alloc: Global, sheet: &mut Sheet, asked: &Question) -> Result<(), BenchError> {
     let bytes = Octets::from_slice(alloc, QUERY)?;
     let learned: Given = Learned::given(alloc, 0, asked, &bytes, 100)?;
-    let first = fact(alloc, sheet, &learned);
-    sheet.settle(first)?;
-    let second = fact(alloc, sheet, &learned);
-    sheet.settle(second)
+    both_facts(alloc, sheet, &learned)
 }
 
 impl Tried for Names {
     fn once(&mut self, alloc: Global, sheet: &mut Sheet, _call: &str) -> Result<(), BenchError> {
         self.push(name(alloc, b"x.example")?)?;
-        sheet.show(&self.as_slice())
+        sheet.show(&self.as_slice());
+        Ok(())
     }
 }
 
@@ -97,20 +128,17 @@ impl Tried for Facts {
             b"y.example"
         };
         learn(alloc, self, text, rtype::A, ALIAS)?;
-        sheet.show(&*self)
+        sheet.show(&*self);
+        Ok(())
     }
 }
 
-// Of a question. A link that is asked has the response three times: each call takes one, and one is taken though there is no memory for
-// what it says.
-fn of_question(alloc: Global, sheet: &mut Sheet, call: &str) -> Result<(), BenchError> {
+// A link that is asked has the response three times: each call takes one, and one is taken though there is no memory for what it says.
+fn make_asking(alloc: Global, call: &str) -> Result<Asking, BenchError> {
     let asked = question(alloc)?;
-    if call == "upstream_link::Learned::fact" {
-        return facts_twice(alloc, sheet, &asked);
-    }
     let count = if call == "upstream_link::ask" { 3 } else { 0 };
-    let link = make_link(alloc, count)?;
-    tried_twice(alloc, sheet, call, Asking { link, asked })
+    let (asked, link) = beside(asked, make_link(alloc, count))?;
+    Ok(Asking { link, asked })
 }
 
 /// Does the call of this name twice.
@@ -118,6 +146,7 @@ pub fn twice(alloc: Global, sheet: &mut Sheet, call: &str) -> Result<(), BenchEr
     match call {
         "upstream_link::Names::push" => changed_twice(alloc, sheet, call, Names::new(alloc)),
         "upstream_link::Facts::push" => changed_twice(alloc, sheet, call, Facts::new(alloc)),
-        _ => of_question(alloc, sheet, call),
+        "upstream_link::Learned::fact" => facts_twice(alloc, sheet, &question(alloc)?),
+        _ => made_twice(alloc, sheet, call, make_asking(alloc, call)),
     }
 }

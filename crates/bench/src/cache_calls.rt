@@ -3,7 +3,7 @@
 use crate::bench_error::BenchError;
 use crate::samples::{RESPONSE, question};
 use crate::sheet::Sheet;
-use crate::tried::{Tried, tried_twice};
+use crate::tried::{Tried, after, beside, made_twice};
 use answer_cache::{AnswerCache, SharedCache};
 use dns_message::Question;
 use dns_name::Octets;
@@ -32,14 +32,22 @@ struct Own {
 }
 
 // What a look-up found: its lifetime, and the octets of its answers.
-fn show_found(sheet: &mut Sheet, found: &Option<Learned<ListLink>>) -> Result<(), BenchError> {
+fn show_learned(sheet: &mut Sheet, found: Option<Learned<ListLink>>) {
     match found {
         Some(learned) => {
-            sheet.show(&learned.life())?;
-            sheet.show(&learned.answers_len())
+            sheet.show(&learned.life());
+            sheet.show(&learned.answers_len());
         }
         None => sheet.say("nothing"),
     }
+}
+
+fn show_found(
+    sheet: &mut Sheet,
+    found: Result<Option<Learned<ListLink>>, AllocError>,
+) -> Result<(), BenchError> {
+    show_learned(sheet, found?);
+    Ok(())
 }
 
 // What a look-up found in a cache that a call has changed.
@@ -48,45 +56,64 @@ fn show_kept(
     found: Result<Option<Learned<ListLink>>, AllocError>,
 ) -> Result<(), BenchError> {
     match found {
-        Ok(found) => show_found(sheet, &found),
+        Ok(found) => {
+            show_learned(sheet, found);
+            Ok(())
+        }
         Err(AllocError) => Err(BenchError::NotShown),
     }
 }
 
 // Keeps what is learned of the question at the second 100, for 60 seconds.
-fn keep(alloc: Global, cache: &mut Cache, asked: &Question) -> Result<(), BenchError> {
+fn keep(alloc: Global, cache: &mut Cache, asked: &Question) -> Result<(), AllocError> {
     let bytes = Octets::from_slice(alloc, RESPONSE)?;
-    let learned = Learned::given(alloc, 0, asked, &bytes, 100)?;
-    cache.keep(alloc, asked, learned)?;
-    Ok(())
+    let learned = Learned::given(alloc, 0, asked, &bytes, 100);
+    drop(bytes);
+    cache.keep(alloc, asked, learned?)
+}
+
+fn open(alloc: Global) -> Result<Cache, AllocError> {
+    Cache::open(alloc, 1, BuildHasherDefault::new())
+}
+
+fn open_and_get(alloc: Global, asked: &Question) -> Result<Option<Learned<ListLink>>, AllocError> {
+    let mut cache = open(alloc)?;
+    cache.get(alloc, asked, 101)
 }
 
 impl Tried for Own {
     fn once(&mut self, alloc: Global, sheet: &mut Sheet, call: &str) -> Result<(), BenchError> {
         match call {
             "answer_cache::AnswerCache::open" => {
-                let mut other = Cache::open(alloc, 1, BuildHasherDefault::new())?;
-                show_found(sheet, &other.get(alloc, &self.asked, 101)?)
+                show_found(sheet, open_and_get(alloc, &self.asked))
             }
             "answer_cache::AnswerCache::keep" => {
                 keep(alloc, &mut self.cache, &self.asked)?;
                 show_kept(sheet, self.cache.get(alloc, &self.asked, 101))
             }
-            "answer_cache::AnswerCache::get" => {
-                show_found(sheet, &self.cache.get(alloc, &self.asked, 101)?)
-            }
-            _ => Err(BenchError::Words),
+            _ => show_found(sheet, self.cache.get(alloc, &self.asked, 101)),
         }
     }
 }
 
+// Keeps it where the call is to find it.
+fn keep_for(
+    alloc: Global,
+    call: &str,
+    cache: &mut Cache,
+    asked: &Question,
+) -> Result<(), AllocError> {
+    if call == "answer_cache::AnswerCache::get" {
+        return keep(alloc, cache, asked);
+    }
+    Ok(())
+}
+
 fn make_own(alloc: Global, call: &str) -> Result<Own, BenchError> {
     let asked = question(alloc)?;
-    let mut cache = Cache::open(alloc, 1, BuildHasherDefault::new())?;
-    if call == "answer_cache::AnswerCache::get" {
-        keep(alloc, &mut cache, &asked)?;
-    }
-    Ok(Own { cache, asked })
+    let (asked, mut cache) = beside(asked, open(alloc))?;
+    let done = keep_for(alloc, call, &mut cache, &asked);
+    Ok(after(Own { cache, asked }, done)?)
 }
 
 // The same of a cache that workers share.
@@ -95,11 +122,30 @@ fn keep_shared<R: Wait>(
     alloc: Global,
     cache: &SharedCache<ListLink>,
     asked: &Question,
-) -> Result<(), BenchError> {
+) -> Result<(), AllocError> {
     let bytes = Octets::from_slice(alloc, RESPONSE)?;
-    let learned = Learned::given(alloc, 0, asked, &bytes, 100)?;
-    cache.keep(rt, alloc, asked, learned)?;
-    Ok(())
+    let learned = Learned::given(alloc, 0, asked, &bytes, 100);
+    drop(bytes);
+    cache.keep(rt, alloc, asked, learned?)
+}
+
+// One with a seed of its own.
+fn open_shared<R: RandomSource>(
+    rt: &R,
+    alloc: Global,
+) -> Result<SharedCache<ListLink>, BenchError> {
+    let hashers = RandomState::new(rt)?;
+    Ok(SharedCache::open(alloc, 1, hashers)?)
+}
+
+fn open_shared_and_get<R: Wait + RandomSource>(
+    rt: &R,
+    alloc: Global,
+    sheet: &mut Sheet,
+    asked: &Question,
+) -> Result<(), BenchError> {
+    let cache = open_shared(rt, alloc)?;
+    show_found(sheet, cache.get(rt, alloc, asked, 101))
 }
 
 fn once_shared<R: Wait + RandomSource>(
@@ -111,15 +157,12 @@ fn once_shared<R: Wait + RandomSource>(
     asked: &Question,
 ) -> Result<(), BenchError> {
     match call {
-        "answer_cache::SharedCache::open" => {
-            let other: SharedCache<ListLink> = SharedCache::open(alloc, 1, RandomState::new(rt)?)?;
-            show_found(sheet, &other.get(rt, alloc, asked, 101)?)
-        }
+        "answer_cache::SharedCache::open" => open_shared_and_get(rt, alloc, sheet, asked),
         "answer_cache::SharedCache::keep" => {
             keep_shared(rt, alloc, cache, asked)?;
             show_kept(sheet, cache.get(rt, alloc, asked, 101))
         }
-        _ => show_found(sheet, &cache.get(rt, alloc, asked, 101)?),
+        _ => show_found(sheet, cache.get(rt, alloc, asked, 101)),
     }
 }
 
@@ -147,7 +190,7 @@ fn shared<R: Wait + RandomSource>(
     call: &str,
 ) -> Result<(), BenchError> {
     let asked = question(alloc)?;
-    let cache = SharedCache::open(alloc, 1, RandomState::new(rt)?)?;
+    let (asked, cache) = beside(asked, open_shared(rt, alloc))?;
     twice_shared(rt, alloc, sheet, call, &cache, &asked)
 }
 
@@ -162,6 +205,6 @@ pub fn twice<R: Wait + RandomSource>(
         "answer_cache::SharedCache::open"
         | "answer_cache::SharedCache::keep"
         | "answer_cache::SharedCache::get" => shared(rt, alloc, sheet, call),
-        _ => tried_twice(alloc, sheet, call, make_own(alloc, call)?),
+        _ => made_twice(alloc, sheet, call, make_own(alloc, call)),
     }
 }

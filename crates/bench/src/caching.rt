@@ -1,6 +1,7 @@
 //! The cache that the workers share, with what the upstream gave.
 
 use crate::bench_error::BenchError;
+use crate::tried::after;
 use answer_cache::SharedCache;
 use dns_message::{Question, read_message};
 use dns_name::Octets;
@@ -73,6 +74,6 @@ pub fn read_cache<R: RandomSource + Wait, S: Source>(
     source: &mut S,
 ) -> Result<BenchCache, BenchError> {
     let cache = open(rt, alloc)?;
-    fill(rt, alloc, &cache, source)?;
-    Ok(cache)
+    let done = fill(rt, alloc, &cache, source);
+    after(cache, done)
 }

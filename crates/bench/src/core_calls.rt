@@ -4,11 +4,11 @@ use crate::bench_error::BenchError;
 use crate::samples::{CLIENT_ADDR, DENIED_QUERY, QUERY, origin};
 use crate::sheet::Sheet;
 use crate::transfer_calls::WHOLE;
-use crate::tried::{Tried, both_times};
+use crate::tried::{Tried, after, beside, made_changed_twice};
 use dns_name::Octets;
 use ip_prefix::{Addr, Transport};
 use policy_override::{Override, ZoneSet};
-use rpz_core::{Core, CoreError, Event};
+use rpz_core::{Core, CoreError, Event, Output};
 use std::alloc::{AllocError, Global};
 
 /// The names of these calls.
@@ -48,24 +48,31 @@ fn transfer_event(alloc: Global) -> Result<Event, AllocError> {
     })
 }
 
-fn event(alloc: Global, call: &str) -> Result<Event, BenchError> {
+fn give_event(alloc: Global) -> Result<Event, AllocError> {
+    Ok(Event::Give {
+        worker: 1,
+        message: Octets::from_slice(alloc, GIVEN)?,
+    })
+}
+
+fn notify_event(alloc: Global) -> Result<Event, AllocError> {
+    Ok(Event::Notify {
+        client: PRIMARY,
+        message: Octets::from_slice(alloc, NOTIFY)?,
+    })
+}
+
+fn event(alloc: Global, call: &str) -> Result<Event, AllocError> {
     match call {
-        "rpz_core::Core::step::transfer" => Ok(transfer_event(alloc)?),
-        "rpz_core::Core::step::query" => Ok(query_event(alloc, QUERY)?),
-        "rpz_core::Core::step::query::rule" => Ok(query_event(alloc, DENIED_QUERY)?),
-        "rpz_core::Core::step::give" => Ok(Event::Give {
-            worker: 1,
-            message: Octets::from_slice(alloc, GIVEN)?,
-        }),
-        "rpz_core::Core::step::notify" => Ok(Event::Notify {
-            client: PRIMARY,
-            message: Octets::from_slice(alloc, NOTIFY)?,
-        }),
+        "rpz_core::Core::step::transfer" => transfer_event(alloc),
+        "rpz_core::Core::step::query" => query_event(alloc, QUERY),
+        "rpz_core::Core::step::query::rule" => query_event(alloc, DENIED_QUERY),
+        "rpz_core::Core::step::give" => give_event(alloc),
+        "rpz_core::Core::step::notify" => notify_event(alloc),
         "rpz_core::Core::step::full" => Ok(Event::Full { zone: 1 }),
         "rpz_core::Core::step::fail" => Ok(Event::Fail { worker: 1 }),
         "rpz_core::Core::step::due" => Ok(Event::Due),
-        "rpz_core::Core::step::clock" => Ok(Event::Clock { seconds: 9 }),
-        _ => Err(BenchError::Words),
+        _ => Ok(Event::Clock { seconds: 9 }),
     }
 }
 
@@ -77,20 +84,27 @@ struct Machine {
 }
 
 // How many zones there are, and which workers wait.
-fn show_core(sheet: &mut Sheet, core: &Core) -> Result<(), BenchError> {
-    sheet.show(&core.zone_count())?;
-    sheet.show(&core.pending())
+fn show_core(sheet: &mut Sheet, core: &Core) {
+    sheet.show(&core.zone_count());
+    sheet.show(&core.pending());
 }
 
-// What an event outputs, and what it leaves; or the fault for which it is refused.
-fn step(alloc: Global, sheet: &mut Sheet, call: &str, core: &mut Core) -> Result<(), BenchError> {
-    let event = event(alloc, call)?;
-    match core.step(event) {
-        Ok(output) => sheet.show(&output)?,
-        Err(CoreError::Fault(fault)) => sheet.show(&fault)?,
+// The output of an event, or the fault for which it is refused.
+fn show_output(sheet: &mut Sheet, gave: Result<Output, CoreError>) -> Result<(), BenchError> {
+    match gave {
+        Ok(output) => sheet.show(&output),
+        Err(CoreError::Fault(fault)) => sheet.show(&fault),
         Err(CoreError::OutOfMemory) => return Err(BenchError::OutOfMemory),
     }
-    show_core(sheet, core)
+    Ok(())
+}
+
+// What an event outputs, and what it leaves.
+fn step(alloc: Global, sheet: &mut Sheet, call: &str, core: &mut Core) -> Result<(), BenchError> {
+    let event = event(alloc, call)?;
+    show_output(sheet, core.step(event))?;
+    show_core(sheet, core);
+    Ok(())
 }
 
 impl Tried for Machine {
@@ -98,7 +112,8 @@ impl Tried for Machine {
         match call {
             "rpz_core::Core::start" => {
                 let other = Core::start(alloc, &self.zones, &[Some(PRIMARY)])?;
-                show_core(sheet, &other)
+                show_core(sheet, &other);
+                Ok(())
             }
             _ => step(alloc, sheet, call, &mut self.core),
         }
@@ -106,29 +121,30 @@ impl Tried for Machine {
 }
 
 // The core takes the events that come before that of a call: a transfer, and for an answer of the upstream a query.
-fn go_on(
-    alloc: Global,
-    sheet: &mut Sheet,
-    call: &str,
-    machine: &mut Machine,
-) -> Result<(), BenchError> {
+fn go_on(alloc: Global, call: &str, core: &mut Core) -> Result<(), BenchError> {
     if call != "rpz_core::Core::step::transfer" {
-        drop(machine.core.step(transfer_event(alloc)?)?);
+        let event = transfer_event(alloc)?;
+        drop(core.step(event)?);
     }
     if call == "rpz_core::Core::step::give" || call == "rpz_core::Core::step::fail" {
-        drop(machine.core.step(query_event(alloc, QUERY)?)?);
+        let event = query_event(alloc, QUERY)?;
+        drop(core.step(event)?);
     }
-    both_times(alloc, sheet, call, machine)?;
-    sheet.changes()
+    Ok(())
 }
 
-/// Does the call of this name twice.
-pub fn twice(alloc: Global, sheet: &mut Sheet, call: &str) -> Result<(), BenchError> {
+fn make_machine(alloc: Global, call: &str) -> Result<Machine, BenchError> {
     let zones = [ZoneSet {
         origin: origin(alloc)?,
         over: Override::Given,
     }];
-    let core = Core::start(alloc, &zones, &[Some(PRIMARY)])?;
-    let mut machine = Machine { core, zones };
-    go_on(alloc, sheet, call, &mut machine)
+    let core = Core::start(alloc, &zones, &[Some(PRIMARY)]);
+    let (zones, mut core) = beside(zones, core)?;
+    let done = go_on(alloc, call, &mut core);
+    after(Machine { core, zones }, done)
+}
+
+/// Does the call of this name twice.
+pub fn twice(alloc: Global, sheet: &mut Sheet, call: &str) -> Result<(), BenchError> {
+    made_changed_twice(alloc, sheet, call, make_machine(alloc, call))
 }

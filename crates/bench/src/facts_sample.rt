@@ -2,6 +2,7 @@
 
 use crate::bench_error::BenchError;
 use crate::samples::name;
+use crate::tried::after;
 use dns_message::Question;
 use dns_record::{class, rtype};
 use std::alloc::Global;
@@ -38,15 +39,18 @@ pub fn learn(
         qclass: class::IN,
     };
     let fact = fact_of(alloc, response, 0, &question)?;
-    facts.push(question, fact)?;
-    Ok(())
+    Ok(facts.push(question, fact)?)
+}
+
+fn learn_all(alloc: Global, facts: &mut Facts) -> Result<(), BenchError> {
+    learn(alloc, facts, b"x.example", rtype::A, ALIAS)?;
+    learn(alloc, facts, b"x.example", rtype::NS, SERVERS)?;
+    learn(alloc, facts, b"ns.test", rtype::A, ADDRESS)
 }
 
 /// The facts about `x.example` and its name server.
 pub fn facts(alloc: Global) -> Result<Facts, BenchError> {
     let mut facts = Facts::new(alloc);
-    learn(alloc, &mut facts, b"x.example", rtype::A, ALIAS)?;
-    learn(alloc, &mut facts, b"x.example", rtype::NS, SERVERS)?;
-    learn(alloc, &mut facts, b"ns.test", rtype::A, ADDRESS)?;
-    Ok(facts)
+    let done = learn_all(alloc, &mut facts);
+    after(facts, done)
 }

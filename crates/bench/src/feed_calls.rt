@@ -36,19 +36,20 @@ fn show_poll<N: StoreName>(
 ) -> Result<(), BenchError> {
     match gave {
         Err(FeedError::OutOfMemory) => {
-            sheet.say("out of memory ")?;
-            show_written(sheet, octets)
+            sheet.say("out of memory ");
+            show_written(sheet, octets);
         }
         _ => {
-            sheet.show(&gave)?;
-            show_written(sheet, octets)?;
+            sheet.show(&gave);
+            show_written(sheet, octets);
             if !publisher.has_zone(1) {
                 return Err(BenchError::Empty);
             }
-            sheet.show(&publisher.soa(1))?;
-            sheet.show(&publisher.wanted(1))
+            sheet.show(&publisher.soa(1));
+            sheet.show(&publisher.wanted(1));
         }
     }
+    Ok(())
 }
 
 /// Polls the zone, and gives the request this stream: of all of the zone, or of steps from the serial 1.

@@ -3,7 +3,7 @@
 use crate::bench_error::BenchError;
 use crate::sheet::Sheet;
 use load_gen::{Load, Summary, answer_all, make, write_summary};
-use std::alloc::Global;
+use std::alloc::{AllocError, Global};
 use std::thread::Threads;
 
 /// The names of these calls.
@@ -20,8 +20,8 @@ const SUMMARY: Summary = Summary {
 };
 
 // So few rules and queries that a run is short.
-fn make_load(alloc: Global) -> Result<Load, BenchError> {
-    Ok(make(alloc, 7, 12, 4)?)
+fn make_load(alloc: Global) -> Result<Load, AllocError> {
+    make(alloc, 7, 12, 4)
 }
 
 fn once<R: Threads + Sync>(
@@ -32,11 +32,23 @@ fn once<R: Threads + Sync>(
     load: &Load,
 ) -> Result<(), BenchError> {
     match call {
-        "load_gen::make" => sheet.show(&make_load(alloc)?),
-        "load_gen::answer_all" => sheet.show(&answer_all(rt, alloc, load, 1)?),
-        "load_gen::write_summary" => sheet.show(&write_summary(alloc, &SUMMARY)?),
-        _ => Err(BenchError::Words),
+        "load_gen::make" => sheet.show_result(make_load(alloc)),
+        "load_gen::answer_all" => sheet.show_result(answer_all(rt, alloc, load, 1)),
+        _ => sheet.show_result(write_summary(alloc, &SUMMARY)),
     }
+}
+
+fn both_times<R: Threads + Sync>(
+    rt: &R,
+    alloc: Global,
+    sheet: &mut Sheet,
+    call: &str,
+    load: &Load,
+) -> Result<(), BenchError> {
+    let first = once(rt, alloc, sheet, call, load);
+    sheet.settle(first)?;
+    let second = once(rt, alloc, sheet, call, load);
+    sheet.settle(second)
 }
 
 /// Does the call of this name twice.
@@ -47,8 +59,5 @@ pub fn twice<R: Threads + Sync>(
     call: &str,
 ) -> Result<(), BenchError> {
     let load = make_load(alloc)?;
-    let first = once(rt, alloc, sheet, call, &load);
-    sheet.settle(first)?;
-    let second = once(rt, alloc, sheet, call, &load);
-    sheet.settle(second)
+    both_times(rt, alloc, sheet, call, &load)
 }

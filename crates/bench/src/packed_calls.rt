@@ -2,7 +2,7 @@
 
 use crate::bench_error::BenchError;
 use crate::sheet::Sheet;
-use crate::tried::{Tried, changed_twice};
+use crate::tried::{Tried, after, changed_twice, made_changed_twice};
 use key_list::{KeyList, Keyed, numbers_of};
 use row_list::RowList;
 use std::alloc::{AllocError, Global};
@@ -21,30 +21,40 @@ pub const NAMES: &str = "key_list::KeyList::push\n\
 // So many rows fill a block.
 const BLOCK: u32 = 512;
 
-fn show_keys(sheet: &mut Sheet, keys: &[Keyed<'_>]) -> Result<(), BenchError> {
-    for keyed in keys {
-        sheet.show(&keyed.key)?;
-        sheet.show(&keyed.number)?;
+fn show_keys(sheet: &mut Sheet, keys: Vec<Keyed<'_>>) {
+    for keyed in &keys {
+        sheet.show(&keyed.key);
+        sheet.show(&keyed.number);
     }
+}
+
+// The keys of a list in order.
+fn sorted(alloc: Global, sheet: &mut Sheet, list: &KeyList) -> Result<(), BenchError> {
+    show_keys(sheet, list.sorted(alloc)?);
     Ok(())
 }
 
 // All of a list that a call has changed.
 fn show_kept(alloc: Global, sheet: &mut Sheet, list: &KeyList) -> Result<(), BenchError> {
     match list.sorted(alloc) {
-        Ok(keys) => show_keys(sheet, &keys),
+        Ok(keys) => {
+            show_keys(sheet, keys);
+            Ok(())
+        }
         Err(AllocError) => Err(BenchError::NotShown),
     }
+}
+
+fn numbers(alloc: Global, list: &KeyList) -> Result<Vec<u32>, AllocError> {
+    let keys = list.sorted(alloc)?;
+    numbers_of(alloc, &keys)
 }
 
 impl Tried for KeyList {
     fn once(&mut self, alloc: Global, sheet: &mut Sheet, call: &str) -> Result<(), BenchError> {
         match call {
-            "key_list::KeyList::sorted" => show_keys(sheet, &self.sorted(alloc)?),
-            "key_list::numbers_of" => {
-                let keys = self.sorted(alloc)?;
-                sheet.show(&numbers_of(alloc, &keys)?)
-            }
+            "key_list::KeyList::sorted" => sorted(alloc, sheet, self),
+            "key_list::numbers_of" => sheet.show_result(numbers(alloc, self)),
             _ => {
                 self.push(b"\x07example", 7)?;
                 show_kept(alloc, sheet, self)
@@ -54,16 +64,20 @@ impl Tried for KeyList {
 }
 
 // The number that the next row gets, and all rows.
-fn show_list(sheet: &mut Sheet, list: &RowList) -> Result<(), BenchError> {
-    sheet.show(&list.next())?;
+fn show_list(sheet: &mut Sheet, list: &RowList) {
+    sheet.show(&list.next());
     for place in 0..list.len() {
         let row = list.nth(place);
-        sheet.show(&row.number)?;
-        sheet.show(&row.owner)?;
-        sheet.show(&row.rtype)?;
-        sheet.show(&row.ttl)?;
-        sheet.show(&row.rdata)?;
+        sheet.show(&row.number);
+        sheet.show(&row.owner);
+        sheet.show(&row.rtype);
+        sheet.show(&row.ttl);
+        sheet.show(&row.rdata);
     }
+}
+
+fn show_made(sheet: &mut Sheet, made: Result<RowList, AllocError>) -> Result<(), BenchError> {
+    show_list(sheet, &made?);
     Ok(())
 }
 
@@ -78,61 +92,58 @@ fn remove_first(list: &mut RowList) -> Result<(), BenchError> {
         return Err(BenchError::Empty);
     }
     let number = list.nth(0).number;
-    list.remove(number)?;
-    Ok(())
+    Ok(list.remove(number)?)
 }
 
 impl Tried for RowList {
     fn once(&mut self, _alloc: Global, sheet: &mut Sheet, call: &str) -> Result<(), BenchError> {
         match call {
-            "row_list::RowList::share" => {
-                let other = self.share()?;
-                return show_list(sheet, &other);
-            }
-            "row_list::RowList::rebuilt" => {
-                let other = self.rebuilt()?;
-                return show_list(sheet, &other);
-            }
+            "row_list::RowList::share" => return show_made(sheet, self.share()),
+            "row_list::RowList::rebuilt" => return show_made(sheet, self.rebuilt()),
             "row_list::RowList::remove" | "row_list::RowList::remove::full" => {
                 remove_first(self)?;
             }
-            _ => {
-                let number = push(self)?;
-                sheet.show(&number)?;
-            }
+            _ => sheet.show(&push(self)?),
         }
-        show_list(sheet, self)
+        show_list(sheet, self);
+        Ok(())
     }
+}
+
+fn fill_keys(keys: &mut KeyList) -> Result<(), AllocError> {
+    keys.push(b"\x04test", 1)?;
+    keys.push(b"\x07example", 2)?;
+    keys.push(b"\x04test", 3)
 }
 
 // Keys of which two are the same, not in order.
 fn make_keys(alloc: Global) -> Result<KeyList, AllocError> {
     let mut keys = KeyList::new(alloc);
-    keys.push(b"\x04test", 1)?;
-    keys.push(b"\x07example", 2)?;
-    keys.push(b"\x04test", 3)?;
-    Ok(keys)
+    let done = fill_keys(&mut keys);
+    after(keys, done)
+}
+
+fn fill_list(list: &mut RowList, count: u32) -> Result<(), AllocError> {
+    for _count in 0..count {
+        let _number = push(list)?;
+    }
+    Ok(())
 }
 
 // So many rows.
 fn make_list(alloc: Global, count: u32) -> Result<RowList, AllocError> {
     let mut list = RowList::empty(alloc);
-    for _count in 0..count {
-        let _number = push(&mut list)?;
-    }
-    Ok(list)
+    let done = fill_list(&mut list, count);
+    after(list, done)
 }
 
 // How many rows there are before the call.
-fn count_of(call: &str) -> Result<u32, BenchError> {
+fn count_of(call: &str) -> u32 {
     match call {
-        "row_list::RowList::push" => Ok(0),
-        "row_list::RowList::push::full" => Ok(BLOCK),
-        "row_list::RowList::remove" => Ok(2),
-        "row_list::RowList::remove::full"
-        | "row_list::RowList::share"
-        | "row_list::RowList::rebuilt" => Ok(BLOCK + 1),
-        _ => Err(BenchError::Words),
+        "row_list::RowList::push" => 0,
+        "row_list::RowList::push::full" => BLOCK,
+        "row_list::RowList::remove" => 2,
+        _ => BLOCK + 1,
     }
 }
 
@@ -141,8 +152,8 @@ pub fn twice(alloc: Global, sheet: &mut Sheet, call: &str) -> Result<(), BenchEr
     match call {
         "key_list::KeyList::push" => changed_twice(alloc, sheet, call, KeyList::new(alloc)),
         "key_list::KeyList::sorted" | "key_list::numbers_of" => {
-            changed_twice(alloc, sheet, call, make_keys(alloc)?)
+            made_changed_twice(alloc, sheet, call, make_keys(alloc))
         }
-        _ => changed_twice(alloc, sheet, call, make_list(alloc, count_of(call)?)?),
+        _ => made_changed_twice(alloc, sheet, call, make_list(alloc, count_of(call))),
     }
 }

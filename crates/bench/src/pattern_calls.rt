@@ -4,7 +4,7 @@ use crate::bench_error::BenchError;
 use crate::samples::pattern;
 use crate::sheet::Sheet;
 use crate::shown::{show_found, show_marked};
-use crate::tried::{Tried, tried_twice};
+use crate::tried::{Tried, beside, made_twice};
 use dns_name::Pattern;
 use qname_index::NameTrie;
 use std::alloc::{AllocError, Global};
@@ -43,9 +43,14 @@ fn make_trie(alloc: Global, one: &Pattern, other: &Pattern) -> Result<Trie, Allo
 
 fn make_patterns(alloc: Global) -> Result<Patterns, BenchError> {
     let there = pattern(alloc, b"bad.example", true)?;
-    let lacking = pattern(alloc, b"x.bad.example", false)?;
-    let other = pattern(alloc, b"bad.example", false)?;
-    let trie = make_trie(alloc, &there, &other)?;
+    let (there, lacking) = beside(there, pattern(alloc, b"x.bad.example", false))?;
+    let ((there, lacking), other) = beside(
+        (there, lacking),
+        pattern(alloc, b"bad.example", false),
+    )?;
+    let trie = make_trie(alloc, &there, &other);
+    drop(other);
+    let ((there, lacking), trie) = beside((there, lacking), trie)?;
     Ok(Patterns {
         trie,
         there,
@@ -53,35 +58,37 @@ fn make_patterns(alloc: Global) -> Result<Patterns, BenchError> {
     })
 }
 
-fn made(call: &str, sample: &Patterns) -> Result<Trie, BenchError> {
+fn made(call: &str, sample: &Patterns) -> Result<Trie, AllocError> {
     let trie = &sample.trie;
     match call {
-        "qname_index::NameTrie::inserted" => { Ok(trie.share()?.inserted(&sample.lacking, VALUE)?) }
-        "qname_index::NameTrie::removed" => Ok(trie.share()?.removed(&sample.there)?),
-        "qname_index::NameTrie::with" => Ok(trie.with(&sample.lacking, VALUE)?),
-        "qname_index::NameTrie::without" => Ok(trie.without(&sample.there)?),
-        "qname_index::NameTrie::share" => Ok(trie.share()?),
-        _ => Err(BenchError::Words),
+        "qname_index::NameTrie::inserted" => trie.share()?.inserted(&sample.lacking, VALUE),
+        "qname_index::NameTrie::removed" => trie.share()?.removed(&sample.there),
+        "qname_index::NameTrie::with" => trie.with(&sample.lacking, VALUE),
+        "qname_index::NameTrie::without" => trie.without(&sample.there),
+        _ => trie.share(),
     }
+}
+
+fn show_made(
+    alloc: Global,
+    sheet: &mut Sheet,
+    made: Result<Trie, AllocError>,
+) -> Result<(), BenchError> {
+    let trie = made?;
+    show_marked(sheet, trie.entries(alloc))
 }
 
 impl Tried for Patterns {
     fn once(&mut self, alloc: Global, sheet: &mut Sheet, call: &str) -> Result<(), BenchError> {
         match call {
-            "qname_index::NameTrie::by_key" => show_found(sheet, self.trie.by_key()?.as_slice()),
-            "qname_index::NameTrie::entries" => show_marked(
-                sheet,
-                self.trie.entries(alloc)?.as_slice(),
-            ),
-            _ => {
-                let other = made(call, self)?;
-                show_marked(sheet, other.entries(alloc)?.as_slice())
-            }
+            "qname_index::NameTrie::by_key" => show_found(sheet, self.trie.by_key()),
+            "qname_index::NameTrie::entries" => show_marked(sheet, self.trie.entries(alloc)),
+            _ => show_made(alloc, sheet, made(call, self)),
         }
     }
 }
 
 /// Does the call of this name twice.
 pub fn twice(alloc: Global, sheet: &mut Sheet, call: &str) -> Result<(), BenchError> {
-    tried_twice(alloc, sheet, call, make_patterns(alloc)?)
+    made_twice(alloc, sheet, call, make_patterns(alloc))
 }

@@ -22,7 +22,7 @@ fn pinned<N: StoreName>(
     match reader.pin() {
         Ok(version) => Ok(version),
         Err(_) => {
-            sheet.say("pin out of memory")?;
+            sheet.say("pin out of memory");
             sheet.settle(Ok(()))?;
             Ok(reader.pin()?)
         }
@@ -36,13 +36,24 @@ fn answer(
     label: &str,
     version: &Snapshot,
 ) -> Result<(), BenchError> {
-    sheet.say(label)?;
+    sheet.say(label);
     if show_policy(alloc, sheet, version).is_err() {
         sheet.line.clear();
-        sheet.say(label)?;
+        sheet.say(label);
         show_policy(alloc, sheet, version)?;
     }
     sheet.settle(Ok(()))
+}
+
+// What a fresh pin answers.
+fn answer_now<N: StoreName>(
+    alloc: Global,
+    sheet: &mut Sheet,
+    label: &str,
+    reader: &mut PolicyReader<N>,
+) -> Result<(), BenchError> {
+    let version = pinned(sheet, reader)?;
+    answer(alloc, sheet, label, &version)
 }
 
 // Publishes the steps, and says in a line of this name what came of it: whether there was memory.
@@ -54,22 +65,20 @@ fn step<N: StoreName, R: Wait>(
     publisher: &mut Publisher<N>,
 ) -> Result<bool, BenchError> {
     let transfer = steps(alloc)?;
-    sheet.say(label)?;
-    match publish(rt, sheet, publisher, transfer) {
-        Ok(()) => {
-            sheet.settle(Ok(()))?;
-            Ok(true)
-        }
+    sheet.say(label);
+    let is_published = match publish(rt, sheet, publisher, Ok(transfer)) {
+        Ok(()) => true,
         Err(BenchError::OutOfMemory) => {
-            sheet.say("out of memory")?;
-            sheet.settle(Ok(()))?;
-            Ok(false)
+            sheet.say("out of memory");
+            false
         }
-        Err(error) => Err(error),
-    }
+        Err(error) => return Err(error),
+    };
+    sheet.settle(Ok(()))?;
+    Ok(is_published)
 }
 
-// The transfer under the first pin, and a fresh one.
+// The transfer under the first pin, and fresh ones.
 fn under_first<N: StoreName, R: Wait>(
     rt: &R,
     alloc: Global,
@@ -77,13 +86,16 @@ fn under_first<N: StoreName, R: Wait>(
     publisher: &mut Publisher<N>,
     reader: &mut PolicyReader<N>,
     first: &Snapshot,
-) -> Result<bool, BenchError> {
+) -> Result<(), BenchError> {
     answer(alloc, sheet, "first ", first)?;
     let is_published = step(rt, alloc, sheet, "publish ", publisher)?;
-    let fresh = pinned(sheet, reader)?;
-    answer(alloc, sheet, "fresh ", &fresh)?;
+    answer_now(alloc, sheet, "fresh ", reader)?;
     answer(alloc, sheet, "kept ", first)?;
-    Ok(is_published)
+    if !is_published {
+        let _again = step(rt, alloc, sheet, "again ", publisher)?;
+    }
+    answer_now(alloc, sheet, "last ", reader)?;
+    answer(alloc, sheet, "kept ", first)
 }
 
 /// Publishes steps while the version before them is held, of a zone of the serial 1.
@@ -95,10 +107,5 @@ pub fn under_pins<N: StoreName, R: Wait>(
     reader: &mut PolicyReader<N>,
 ) -> Result<(), BenchError> {
     let first = pinned(sheet, reader)?;
-    if !under_first(rt, alloc, sheet, publisher, reader, &first)? {
-        let _again = step(rt, alloc, sheet, "again ", publisher)?;
-    }
-    let last = pinned(sheet, reader)?;
-    answer(alloc, sheet, "last ", &last)?;
-    answer(alloc, sheet, "kept ", &first)
+    under_first(rt, alloc, sheet, publisher, reader, &first)
 }

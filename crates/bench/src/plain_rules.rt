@@ -1,6 +1,9 @@
 //! The rules of a plain list of rows, worked out from the list alone.
 
+ghost use Rattle.std.specs.Prelude.{◌<◌, length};
+
 use crate::alike::{has_trigger, is_same_trigger};
+use crate::tried::after;
 use action_codec::{Action, action_of, is_live_type};
 use dns_name::Name;
 use dns_record::Row;
@@ -35,15 +38,25 @@ fn live_row(alloc: Global, row: Row, origin: &Name) -> Result<Option<LiveRow>, A
     }
 }
 
-fn live_among(alloc: Global, rows: &Rows, origin: &Name) -> Result<Vec<LiveRow>, AllocError> {
-    let mut live = Vec::new(alloc);
+fn push_live(
+    alloc: Global,
+    live: &mut Vec<LiveRow>,
+    rows: &Rows,
+    origin: &Name,
+) -> Result<(), AllocError> {
     for place in 0..rows.len() {
         let row = rows.at(place).to_row(alloc)?;
         if let Some(one) = live_row(alloc, row, origin)? {
             live.push(one)?;
         }
     }
-    Ok(live)
+    Ok(())
+}
+
+fn live_among(alloc: Global, rows: &Rows, origin: &Name) -> Result<Vec<LiveRow>, AllocError> {
+    let mut live = Vec::new(alloc);
+    let done = push_live(alloc, &mut live, rows, origin);
+    after(live, done)
 }
 
 /// The rows of a zone that make rules, in the order of its list.
@@ -72,11 +85,30 @@ pub fn plain_action(
 /// Puts in the triggers that are not yet there.
 pub fn put_new(triggers: &mut Vec<Trigger>, others: Vec<Trigger>) -> Result<(), AllocError> {
     for trigger in others {
-        if !has_trigger(triggers.as_slice(), &trigger) {
-            triggers.push(trigger)?;
-        }
+        put(triggers, trigger)?;
     }
     Ok(())
+}
+
+// Puts in a trigger that isn't yet there.
+fn put(triggers: &mut Vec<Trigger>, trigger: Trigger) -> Result<(), AllocError> {
+    if !has_trigger(triggers.as_slice(), &trigger) {
+        triggers.push(trigger)?;
+    }
+    Ok(())
+}
+
+// The trigger that the owner of the row at this place names, if it names one.
+fn named_at(
+    alloc: Global,
+    rows: &Rows,
+    place: usize,
+    origin: &Name,
+) -> Result<Option<Trigger>, AllocError>
+    requires { place < length rows.now }
+{
+    let row = rows.at(place).to_row(alloc)?;
+    named_by(alloc, row.owner(), origin)
 }
 
 // Puts in the triggers that the owners of these rows name, each once.
@@ -87,23 +119,36 @@ fn put_named(
     triggers: &mut Vec<Trigger>,
 ) -> Result<(), AllocError> {
     for place in 0..rows.len() {
-        let row = rows.at(place).to_row(alloc)?;
-        if let Some(trigger) = named_by(alloc, row.owner(), origin)? {
-            if !has_trigger(triggers.as_slice(), &trigger) {
-                triggers.push(trigger)?;
-            }
+        if let Some(trigger) = named_at(alloc, rows, place, origin)? {
+            put(triggers, trigger)?;
         }
     }
     Ok(())
 }
 
-fn named_in_steps(alloc: Global, steps: &Steps, origin: &Name) -> Result<Vec<Trigger>, AllocError> {
-    let mut triggers = Vec::new(alloc);
+fn put_named_in_steps(
+    alloc: Global,
+    steps: &Steps,
+    origin: &Name,
+    triggers: &mut Vec<Trigger>,
+) -> Result<(), AllocError> {
     for step in steps.as_slice() {
-        put_named(alloc, &step.deleted, origin, &mut triggers)?;
-        put_named(alloc, &step.added, origin, &mut triggers)?;
+        put_named(alloc, &step.deleted, origin, triggers)?;
+        put_named(alloc, &step.added, origin, triggers)?;
     }
-    Ok(triggers)
+    Ok(())
+}
+
+fn put_named_in(
+    alloc: Global,
+    transfer: &Transfer,
+    origin: &Name,
+    triggers: &mut Vec<Trigger>,
+) -> Result<(), AllocError> {
+    match transfer {
+        Transfer::Steps(steps) => put_named_in_steps(alloc, steps, origin, triggers),
+        Transfer::Whole { soa: _, rows } => put_named(alloc, rows, origin, triggers),
+    }
 }
 
 /// The triggers that the owners of a transfer's rows name, each once.
@@ -112,12 +157,7 @@ pub fn named_in(
     transfer: &Transfer,
     origin: &Name,
 ) -> Result<Vec<Trigger>, AllocError> {
-    match transfer {
-        Transfer::Steps(steps) => named_in_steps(alloc, steps, origin),
-        Transfer::Whole { soa: _, rows } => {
-            let mut triggers = Vec::new(alloc);
-            put_named(alloc, rows, origin, &mut triggers)?;
-            Ok(triggers)
-        }
-    }
+    let mut triggers = Vec::new(alloc);
+    let done = put_named_in(alloc, transfer, origin, &mut triggers);
+    after(triggers, done)
 }

@@ -5,7 +5,7 @@ use crate::facts_sample::facts;
 use crate::policy_sample::{OTHERS, applied, empty_policy, policy, show_best, show_policy};
 use crate::samples::{KINDS, QUERY, query, steps, whole};
 use crate::sheet::Sheet;
-use crate::tried::{Tried, tried_twice};
+use crate::tried::{Tried, beside, tried_twice};
 use dns_message::Query;
 use policy_snapshot::Snapshot;
 use std::alloc::Global;
@@ -27,16 +27,15 @@ fn made(alloc: Global, call: &str, policy: &Snapshot) -> Result<Snapshot, BenchE
         "policy_snapshot::Snapshot::again" => Ok(policy.again(alloc)?),
         "policy_snapshot::Snapshot::apply::first" => {
             let empty = empty_policy(alloc)?;
-            applied(alloc, &empty, 2, whole(alloc, 1, OTHERS)?)
+            applied(alloc, &empty, 2, whole(alloc, 1, OTHERS))
         }
         "policy_snapshot::Snapshot::apply::second" => {
-            applied(alloc, policy, 2, whole(alloc, 1, OTHERS)?)
+            applied(alloc, policy, 2, whole(alloc, 1, OTHERS))
         }
         "policy_snapshot::Snapshot::apply::whole" => {
-            applied(alloc, policy, 1, whole(alloc, 2, &KINDS[1..])?)
+            applied(alloc, policy, 1, whole(alloc, 2, &KINDS[1..]))
         }
-        "policy_snapshot::Snapshot::apply::steps" => applied(alloc, policy, 1, steps(alloc)?),
-        _ => Err(BenchError::Words),
+        _ => applied(alloc, policy, 1, steps(alloc)),
     }
 }
 
@@ -56,22 +55,31 @@ fn pending(
 ) -> Result<(), BenchError> {
     let nothing = Facts::new(alloc);
     let name = &query.question.name;
-    sheet.show(&policy.pending(alloc, query, &nothing, name, &None)?)
+    sheet.show_result(policy.pending(alloc, query, &nothing, name, &None))
+}
+
+fn show_made(
+    alloc: Global,
+    sheet: &mut Sheet,
+    made: Result<Snapshot, BenchError>,
+) -> Result<(), BenchError> {
+    let policy = made?;
+    show_policy(alloc, sheet, &policy)
+}
+
+fn best(alloc: Global, sheet: &mut Sheet, asked: &Asked) -> Result<(), BenchError> {
+    let facts = facts(alloc)?;
+    show_best(alloc, sheet, &asked.policy, &asked.query, &facts)
 }
 
 impl Tried for Asked {
     fn once(&mut self, alloc: Global, sheet: &mut Sheet, call: &str) -> Result<(), BenchError> {
         match call {
-            "policy_snapshot::Snapshot::best" => {
-                show_best(alloc, sheet, &self.policy, &self.query, &facts(alloc)?)
-            }
+            "policy_snapshot::Snapshot::best" => best(alloc, sheet, self),
             "policy_snapshot::Snapshot::pending" => {
                 pending(alloc, sheet, &self.policy, &self.query)
             }
-            _ => {
-                let next = made(alloc, call, &self.policy)?;
-                show_policy(alloc, sheet, &next)
-            }
+            _ => show_made(alloc, sheet, made(alloc, call, &self.policy)),
         }
     }
 }
@@ -79,6 +87,6 @@ impl Tried for Asked {
 /// Does the call of this name twice.
 pub fn twice(alloc: Global, sheet: &mut Sheet, call: &str) -> Result<(), BenchError> {
     let policy = policy(alloc)?;
-    let query = query(alloc, QUERY)?;
+    let (policy, query) = beside(policy, query(alloc, QUERY))?;
     tried_twice(alloc, sheet, call, Asked { policy, query })
 }

@@ -3,7 +3,7 @@
 use crate::bench_error::BenchError;
 use crate::samples::origin;
 use crate::sheet::Sheet;
-use crate::tried::{Tried, tried_twice};
+use crate::tried::{Tried, beside, tried_twice};
 use dns_name::Name;
 use ip_prefix::Addr;
 use notify_poll::{Notified, PollCore, Polling};
@@ -50,10 +50,11 @@ fn notify(
         .timers
         .notify(alloc, NOTIFY, client, 5, &timed.origins)?
     {
-        Notified::Reply(octets) => sheet.show(&octets)?,
-        Notified::Silent => sheet.say("silent ")?,
+        Notified::Reply(octets) => sheet.show(&octets),
+        Notified::Silent => sheet.say("silent "),
     }
-    sheet.show(&timed.timers.due(5))
+    sheet.show(&timed.timers.due(5));
+    Ok(())
 }
 
 impl Tried for Timed {
@@ -61,7 +62,8 @@ impl Tried for Timed {
         match call {
             "notify_poll::PollCore::start" => {
                 let timers = PollCore::start(alloc, &[None, Some(PRIMARY)], 0)?;
-                sheet.show(&timers.due(0))
+                sheet.show(&timers.due(0));
+                Ok(())
             }
             "notify_poll::PollCore::notify" => notify(alloc, sheet, self, PRIMARY),
             _ => notify(alloc, sheet, self, STRANGER),
@@ -71,7 +73,11 @@ impl Tried for Timed {
 
 /// Does the call of this name twice.
 pub fn twice(alloc: Global, sheet: &mut Sheet, call: &str) -> Result<(), BenchError> {
-    let origins = [origin(alloc)?];
-    let timers = make_timers(alloc)?;
-    tried_twice(alloc, sheet, call, Timed { timers, origins })
+    let origin = origin(alloc)?;
+    let (origin, timers) = beside(origin, make_timers(alloc))?;
+    let timed = Timed {
+        timers,
+        origins: [origin],
+    };
+    tried_twice(alloc, sheet, call, timed)
 }

@@ -2,10 +2,10 @@
 
 use crate::bench_error::BenchError;
 use crate::sheet::Sheet;
-use crate::tried::{Tried, tried_twice};
+use crate::tried::{Tried, made_twice};
 use ip_prefix::{Addr, Prefix};
 use prefix_index::PrefixTrie;
-use std::alloc::Global;
+use std::alloc::{AllocError, Global};
 use trie_keys::Marked;
 
 /// The names of these calls.
@@ -38,29 +38,37 @@ const LONG: Addr = Addr::V6(0x2001_0db8_0000_0000_0000_0000_0000_0000);
 // Each entry of a trie, with its value.
 fn show_trie(alloc: Global, sheet: &mut Sheet, trie: &Trie) -> Result<(), BenchError> {
     for entry in &trie.entries(alloc)? {
-        sheet.show(&entry.0)?;
-        sheet.show(&entry.1.value)?;
-        sheet.show(&entry.1.mark)?;
+        sheet.show(&entry.0);
+        sheet.show(&entry.1.value);
+        sheet.show(&entry.1.mark);
     }
     Ok(())
 }
 
-fn made(alloc: Global, call: &str, trie: &Trie) -> Result<Trie, BenchError> {
+fn made(alloc: Global, call: &str, trie: &Trie) -> Result<Trie, AllocError> {
     let near = Prefix::of(NEAR, 24);
     let beside = Prefix::of(BESIDE, 24);
     let long = Prefix::of(LONG, 32);
     match call {
         "prefix_index::PrefixTrie::of" => {
-            Ok(Trie::of(alloc, &[(near, VALUE), (beside, VALUE), (long, VALUE)])?)
+            Trie::of(alloc, &[(near, VALUE), (beside, VALUE), (long, VALUE)])
         }
-        "prefix_index::PrefixTrie::inserted" => Ok(trie.share()?.inserted(&beside, VALUE)?),
-        "prefix_index::PrefixTrie::removed" => Ok(trie.share()?.removed(&near)?),
-        "prefix_index::PrefixTrie::with" => Ok(trie.with(&beside, VALUE)?),
-        "prefix_index::PrefixTrie::without" => Ok(trie.without(&long)?),
-        "prefix_index::PrefixTrie::rebuilt" => Ok(trie.rebuilt()?),
-        "prefix_index::PrefixTrie::share" => Ok(trie.share()?),
-        _ => Err(BenchError::Words),
+        "prefix_index::PrefixTrie::inserted" => trie.share()?.inserted(&beside, VALUE),
+        "prefix_index::PrefixTrie::removed" => trie.share()?.removed(&near),
+        "prefix_index::PrefixTrie::with" => trie.with(&beside, VALUE),
+        "prefix_index::PrefixTrie::without" => trie.without(&long),
+        "prefix_index::PrefixTrie::rebuilt" => trie.rebuilt(),
+        _ => trie.share(),
     }
+}
+
+fn show_made(
+    alloc: Global,
+    sheet: &mut Sheet,
+    made: Result<Trie, AllocError>,
+) -> Result<(), BenchError> {
+    let trie = made?;
+    show_trie(alloc, sheet, &trie)
 }
 
 impl Tried for PrefixTrie<u32, bool> {
@@ -68,8 +76,7 @@ impl Tried for PrefixTrie<u32, bool> {
         if call == "prefix_index::PrefixTrie::entries" {
             return show_trie(alloc, sheet, self);
         }
-        let other = made(alloc, call, self)?;
-        show_trie(alloc, sheet, &other)
+        show_made(alloc, sheet, made(alloc, call, self))
     }
 }
 
@@ -78,6 +85,10 @@ pub fn twice(alloc: Global, sheet: &mut Sheet, call: &str) -> Result<(), BenchEr
     let trie = Trie::empty(alloc);
     let trie = trie.inserted(&Prefix::of(NEAR, 24), VALUE)?;
     let trie = trie.inserted(&Prefix::of(INSIDE, 32), VALUE)?;
-    let trie = trie.inserted(&Prefix::of(LONG, 32), VALUE)?;
-    tried_twice(alloc, sheet, call, trie)
+    made_twice(
+        alloc,
+        sheet,
+        call,
+        trie.inserted(&Prefix::of(LONG, 32), VALUE),
+    )
 }

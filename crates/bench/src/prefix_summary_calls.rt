@@ -5,12 +5,13 @@ use crate::samples::{CLIENT, KINDS};
 use crate::sheet::Sheet;
 use crate::shown::show_marked;
 use crate::summary_calls::{Both, make_both, zone_one, zone_two};
-use crate::tried::{Tried, tried_twice};
+use crate::tried::{Tried, beside, tried_twice};
 use ip_prefix::{Addr, Prefix};
-use std::alloc::Global;
+use std::alloc::{AllocError, Global};
 use summary_index::{PrefixSummary, Zones, merged_prefixes};
+use trie_keys::Marked;
 use trigger_codec::Kind;
-use zone_index::Zone;
+use zone_index::{Rules, Zone};
 
 /// The names of these calls.
 pub const NAMES: &str = "summary_index::PrefixSummary::listed\n\
@@ -36,9 +37,9 @@ fn show_summary(
     sheet: &mut Sheet,
     summary: &PrefixSummary,
 ) -> Result<(), BenchError> {
-    sheet.show(&summary.having())?;
-    sheet.show(&summary.is_listed())?;
-    show_marked(sheet, summary.without_zone(alloc, 32)?.as_slice())
+    sheet.show(&summary.having());
+    sheet.show(&summary.is_listed());
+    show_marked(sheet, summary.without_zone(alloc, 32))
 }
 
 // A summary of the prefixes of a zone's rules about clients.
@@ -50,48 +51,73 @@ fn listed(alloc: Global, zone: &Zone, zones: Zones) -> Result<PrefixSummary, Ben
     Ok(PrefixSummary::listed(alloc, zones, &entries)?)
 }
 
+// The prefixes of both.
+fn all_prefixes(
+    alloc: Global,
+    first: &Rules<'_>,
+    second: &Rules<'_>,
+) -> Result<Vec<(Prefix, Marked<Zones, bool>)>, AllocError> {
+    let own = first.prefixes(alloc, Kind::ClientIp, zone_one())?;
+    let (own, other) = beside(own, second.prefixes(alloc, Kind::ClientIp, zone_two()))?;
+    merged_prefixes(alloc, &own, &other)
+}
+
 // A summary of the prefixes of both.
 fn both_listed(alloc: Global, both: &Both) -> Result<PrefixSummary, BenchError> {
     let (Some(first), Some(second)) = (both.first.index(), both.second.index()) else {
         return Err(BenchError::Empty);
     };
-    let own = first.rules().prefixes(alloc, Kind::ClientIp, zone_one())?;
-    let other = second.rules().prefixes(alloc, Kind::ClientIp, zone_two())?;
-    let all = merged_prefixes(alloc, &own, &other)?;
+    let all = all_prefixes(alloc, first.rules(), second.rules())?;
     Ok(PrefixSummary::listed(alloc, zone_one().with(2), &all)?)
+}
+
+// A summary where the zones that have this prefix are those.
+fn put(
+    summary: &PrefixSummary,
+    prefix: &Prefix,
+    zones: Zones,
+) -> Result<PrefixSummary, BenchError> {
+    Ok(summary.share()?.put(prefix, zones)?)
 }
 
 // The summary that a call makes. Both zones have 192.0.2.0/24, and neither has 203.0.113.0/24.
 fn made(alloc: Global, call: &str, sample: &Sample) -> Result<PrefixSummary, BenchError> {
-    let summary = &sample.summary;
     match call {
         "summary_index::PrefixSummary::listed" => listed(alloc, &sample.both.first, zone_one()),
         "summary_index::PrefixSummary::put" => {
             let lacking = Prefix::of(Addr::V4(0xcb00_7100), 24);
-            Ok(summary.share()?.put(&lacking, zone_two())?)
+            put(&sample.summary, &lacking, zone_two())
         }
         "summary_index::PrefixSummary::put::none" => {
             let there = Prefix::of(Addr::V4(0xc000_0200), 24);
-            Ok(summary.share()?.put(&there, Zones::default())?)
+            put(&sample.summary, &there, Zones::default())
         }
-        "summary_index::merged_prefixes" => both_listed(alloc, &sample.both),
-        _ => Err(BenchError::Words),
+        _ => both_listed(alloc, &sample.both),
     }
+}
+
+fn show_made(
+    alloc: Global,
+    sheet: &mut Sheet,
+    made: Result<PrefixSummary, BenchError>,
+) -> Result<(), BenchError> {
+    let summary = made?;
+    show_summary(alloc, sheet, &summary)
 }
 
 impl Tried for Sample {
     fn once(&mut self, alloc: Global, sheet: &mut Sheet, call: &str) -> Result<(), BenchError> {
         if call == "summary_index::PrefixSummary::without_zone" {
-            return show_marked(sheet, self.summary.without_zone(alloc, 1)?.as_slice());
+            return show_marked(sheet, self.summary.without_zone(alloc, 1));
         }
-        let other = made(alloc, call, self)?;
-        show_summary(alloc, sheet, &other)
+        show_made(alloc, sheet, made(alloc, call, self))
     }
 }
 
 /// Does the call of this name twice.
 pub fn twice(alloc: Global, sheet: &mut Sheet, call: &str) -> Result<(), BenchError> {
     let both = make_both(alloc, KINDS, &[CLIENT, OTHER_CLIENT])?;
-    let summary = both_listed(alloc, &both)?;
+    let summary = both_listed(alloc, &both);
+    let (both, summary) = beside(both, summary)?;
     tried_twice(alloc, sheet, call, Sample { both, summary })
 }

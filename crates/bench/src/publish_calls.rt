@@ -47,40 +47,41 @@ pub enum Deed {
     Serve,
 }
 
-fn deed_of(call: &str) -> Result<Deed, BenchError> {
+fn deed_of(call: &str) -> Deed {
     match call {
-        "policy_publish::Parts::open" => Ok(Deed::Open),
-        "policy_publish::Publisher::publish::whole" => Ok(Deed::PublishWhole),
-        "policy_publish::Publisher::publish::steps" => Ok(Deed::PublishSteps),
-        "policy_publish::PolicyReader::pin" => Ok(Deed::Pin),
-        "policy_publish::PolicyReader::pin::told" => Ok(Deed::PinTold),
-        "policy_feed::poll_zone::whole" => Ok(Deed::PollWhole),
-        "policy_feed::poll_zone::steps" => Ok(Deed::PollSteps),
-        "transfer_under_pins" => Ok(Deed::UnderPins),
-        "rpz_workers::Worker::answer::rule" => Ok(Deed::Answer { is_denied: true }),
-        "rpz_workers::Worker::answer::upstream" => Ok(Deed::Answer { is_denied: false }),
-        "rpz_workers::Worker::serve_stream" => Ok(Deed::Serve),
-        "answers_under_refusal::rule" => Ok(Deed::Send { is_denied: true }),
-        "answers_under_refusal::upstream" => Ok(Deed::Send { is_denied: false }),
-        _ => Err(BenchError::Words),
+        "policy_publish::Parts::open" => Deed::Open,
+        "policy_publish::Publisher::publish::whole" => Deed::PublishWhole,
+        "policy_publish::Publisher::publish::steps" => Deed::PublishSteps,
+        "policy_publish::PolicyReader::pin" => Deed::Pin,
+        "policy_publish::PolicyReader::pin::told" => Deed::PinTold,
+        "policy_feed::poll_zone::whole" => Deed::PollWhole,
+        "policy_feed::poll_zone::steps" => Deed::PollSteps,
+        "transfer_under_pins" => Deed::UnderPins,
+        "rpz_workers::Worker::answer::rule" => Deed::Answer { is_denied: true },
+        "rpz_workers::Worker::answer::upstream" => Deed::Answer { is_denied: false },
+        "rpz_workers::Worker::serve_stream" => Deed::Serve,
+        "answers_under_refusal::rule" => Deed::Send { is_denied: true },
+        _ => Deed::Send { is_denied: false },
     }
 }
 
-/// Publishes a transfer of the zone, and shows what it is then, or the fault for which it is refused.
+/// Publishes a transfer of the zone, if it is made, and shows what the zone is then, or the fault for which it is refused.
 pub fn publish<N: StoreName, R: Wait>(
     rt: &R,
     sheet: &mut Sheet,
     publisher: &mut Publisher<N>,
-    transfer: Transfer,
+    transfer: Result<Transfer, BenchError>,
 ) -> Result<(), BenchError> {
+    let transfer = transfer?;
     if !publisher.has_zone(1) {
         return Err(BenchError::Empty);
     }
     match publisher.publish(rt, 1, transfer) {
         Ok(published) => sheet.show(&published),
         Err(ApplyError::Fault(fault)) => sheet.show(&fault),
-        Err(ApplyError::OutOfMemory) => Err(BenchError::OutOfMemory),
+        Err(ApplyError::OutOfMemory) => return Err(BenchError::OutOfMemory),
     }
+    Ok(())
 }
 
 // Publishes the zone of one row at the serial 1.
@@ -97,6 +98,15 @@ fn load<N: StoreName, R: Wait>(
     Ok(())
 }
 
+fn pin<N: StoreName>(
+    alloc: Global,
+    sheet: &mut Sheet,
+    reader: &mut PolicyReader<N>,
+) -> Result<(), BenchError> {
+    let version = reader.pin()?;
+    show_policy(alloc, sheet, &version)
+}
+
 fn once<N: StoreName, R: Wait>(
     rt: &R,
     alloc: Global,
@@ -106,15 +116,13 @@ fn once<N: StoreName, R: Wait>(
     reader: &mut PolicyReader<N>,
 ) -> Result<(), BenchError> {
     match deed {
-        Deed::PublishWhole => publish(rt, sheet, publisher, whole(alloc, 1, &[DENIED])?),
-        Deed::PublishSteps => publish(rt, sheet, publisher, steps(alloc)?),
-        Deed::Pin | Deed::PinTold => {
-            if matches!(deed, Deed::PinTold) {
-                reader.learn(publisher.tell());
-            }
-            let version = reader.pin()?;
-            show_policy(alloc, sheet, &version)
+        Deed::PublishWhole => publish(rt, sheet, publisher, whole(alloc, 1, &[DENIED])),
+        Deed::PublishSteps => publish(rt, sheet, publisher, steps(alloc)),
+        Deed::PinTold => {
+            reader.learn(publisher.tell());
+            pin(alloc, sheet, reader)
         }
+        Deed::Pin => pin(alloc, sheet, reader),
         Deed::PollWhole => poll(rt, alloc, sheet, publisher, WHOLE),
         Deed::PollSteps => poll(rt, alloc, sheet, publisher, STEPS),
         _ => Err(BenchError::Words),
@@ -152,8 +160,9 @@ fn of_store<N: StoreName, R: Wait>(
 ) -> Result<(), BenchError> {
     match deed {
         Deed::Open => {
-            sheet.show(&publisher.zone_count())?;
-            sheet.show(&readers.len())
+            sheet.show(&publisher.zone_count());
+            sheet.show(&readers.len());
+            Ok(())
         }
         Deed::Answer { .. } | Deed::Send { .. } | Deed::Serve => {
             load(rt, alloc, publisher)?;
@@ -205,7 +214,7 @@ pub fn twice<R: Wait>(
     sheet: &mut Sheet,
     call: &str,
 ) -> Result<(), BenchError> {
-    let deed = deed_of(call)?;
+    let deed = deed_of(call);
     if !matches!(deed, Deed::Open) {
         return with_store(rt, alloc, sheet, deed);
     }

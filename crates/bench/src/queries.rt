@@ -11,6 +11,7 @@
 
 use crate::bench_error::BenchError;
 use crate::stream::read_stream;
+use crate::tried::beside;
 use dns_name::Octets;
 use edge_io::{FRAME_MAX, Sink, Source, WriterSink, read_frame, write_all};
 use policy_override::ZoneSets;
@@ -39,6 +40,20 @@ fn load<S: Source>(
     }
 }
 
+// The same of so many zones; how many rows they have together.
+fn load_all<S: Source>(
+    alloc: Global,
+    core: &mut Core,
+    zones: u32,
+    source: &mut S,
+) -> Result<usize, BenchError> {
+    let mut total = 0usize;
+    for zone in 0..zones {
+        total = total.saturating_add(load(alloc, core, zone + 1, source)?);
+    }
+    Ok(total)
+}
+
 // A core of these zones, and how many rows they have together.
 fn start<S: Source>(
     alloc: Global,
@@ -50,11 +65,8 @@ fn start<S: Source>(
     }
     let primaries = [None; 32];
     let mut core = Core::start(alloc, zones.as_slice(), &primaries[..zones.len()])?;
-    let mut total = 0usize;
-    for zone in 0..zones.len() as u32 {
-        total = total.saturating_add(load(alloc, &mut core, zone + 1, source)?);
-    }
-    Ok((core, total))
+    let total = load_all(alloc, &mut core, zones.len() as u32, source);
+    beside(core, total)
 }
 
 // The event of a line `query` or `give`.
@@ -98,8 +110,12 @@ fn push_frame(frames: &mut Octets, message: &[u8]) -> Result<(), BenchError> {
         return Err(BenchError::Long);
     }
     frames.append(&(message.len() as u16).to_be_bytes())?;
-    frames.append(message)?;
-    Ok(())
+    Ok(frames.append(message)?)
+}
+
+fn push_output(alloc: Global, frames: &mut Octets, output: Output) -> Result<(), BenchError> {
+    let message = message_of(alloc, output)?;
+    push_frame(frames, message.as_slice())
 }
 
 // What a line outputs goes behind the messages that are still to be written, and is written with them where they are many.
@@ -111,8 +127,7 @@ fn answer<K: Sink>(
     out: &mut K,
 ) -> Result<(), BenchError> {
     let event = event(alloc, core, line)?;
-    let message = message_of(alloc, core.step(event)?)?;
-    push_frame(frames, message.as_slice())?;
+    push_output(alloc, frames, core.step(event)?)?;
     if frames.len() >= PIECE {
         write_all(out, frames.as_slice())?;
         // a new one, since to clear this one takes as long as it has bytes
@@ -122,6 +137,26 @@ fn answer<K: Sink>(
 }
 
 // Answers the lines of a part; whether the input goes on behind it.
+fn answer_lines<S: Source, K: Sink>(
+    alloc: Global,
+    core: &mut Core,
+    source: &mut S,
+    frames: &mut Octets,
+    out: &mut K,
+) -> Result<bool, BenchError> {
+    for _turn in 0..u64::MAX {
+        let Some(line) = read_frame(alloc, source)? else {
+            break;
+        };
+        if line.len() == 0 {
+            return Ok(true);
+        }
+        answer(alloc, core, line.as_slice(), frames, out)?;
+    }
+    Ok(false)
+}
+
+// The same, and writes what is still to be written.
 fn answer_part<S: Source, K: Sink>(
     alloc: Global,
     core: &mut Core,
@@ -129,17 +164,7 @@ fn answer_part<S: Source, K: Sink>(
     out: &mut K,
 ) -> Result<bool, BenchError> {
     let mut frames = Octets::with_capacity(alloc, ROOM)?;
-    let mut more = false;
-    for _turn in 0..u64::MAX {
-        let Some(line) = read_frame(alloc, source)? else {
-            break;
-        };
-        if line.len() == 0 {
-            more = true;
-            break;
-        }
-        answer(alloc, core, line.as_slice(), &mut frames, out)?;
-    }
+    let more = answer_lines(alloc, core, source, &mut frames, out)?;
     write_all(out, frames.as_slice())?;
     Ok(more)
 }

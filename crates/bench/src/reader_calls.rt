@@ -43,8 +43,9 @@ impl Tried for TransferReader {
             Ok(Fed::Current { theirs }) => sheet.show(&theirs),
             Ok(Fed::Done(transfer)) => show_transfer(sheet, &transfer),
             Err(TransferError::Fault(fault)) => sheet.show(&fault),
-            Err(TransferError::OutOfMemory) => Err(BenchError::OutOfMemory),
+            Err(TransferError::OutOfMemory) => return Err(BenchError::OutOfMemory),
         }
+        Ok(())
     }
 }
 
@@ -90,7 +91,7 @@ fn read(alloc: Global, sheet: &mut Sheet, origin: &Name) -> Result<(), BenchErro
         wanted: Wanted::Whole { have: None },
         most: MOST,
     };
-    sheet.show(&read_checked(alloc, &asked, true, &WHOLE[2..])?)
+    sheet.show_result(read_checked(alloc, &asked, true, &WHOLE[2..]))
 }
 
 impl Tried for Origin {
@@ -99,7 +100,7 @@ impl Tried for Origin {
             "axfr_apply::read_checked" => read(alloc, sheet, &self.name),
             _ => {
                 let wanted = Wanted::Newer { have: 1 };
-                sheet.show(&TransferReader::start(alloc, 0, &self.name, wanted)?)
+                sheet.show_result(TransferReader::start(alloc, 0, &self.name, wanted))
             }
         }
     }

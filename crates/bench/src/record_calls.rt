@@ -3,10 +3,10 @@
 use crate::bench_error::BenchError;
 use crate::samples::{DROPPED, row, row_of, soa};
 use crate::sheet::Sheet;
-use crate::tried::{Tried, changed_twice, tried_twice};
+use crate::tried::{Tried, after, beside, changed_twice, made_twice};
 use dns_name::{Name, Octets};
-use dns_record::{Record, Records, Row, Soa, read_record, soa_of, write_record};
-use std::alloc::Global;
+use dns_record::{Record, RecordError, Records, Row, Soa, read_record, soa_of, write_record};
+use std::alloc::{AllocError, Global};
 
 /// The names of these calls.
 pub const NAMES: &str = "dns_record::read_record\n\
@@ -28,11 +28,29 @@ struct Sample {
     soa_record: Record,
 }
 
+fn record(alloc: Global) -> Result<Record, RecordError> {
+    let (record, _after) = read_record(alloc, DROPPED, 0)?;
+    Ok(record)
+}
+
+// The record of a SOA, whose owner is the root.
+fn record_of(alloc: Global, soa: &Soa) -> Result<Record, AllocError> {
+    let owner = Name::root(alloc)?;
+    soa.record(alloc, owner)
+}
+
+// A SOA with its record.
+fn soas(alloc: Global) -> Result<(Soa, Record), AllocError> {
+    let soa = soa(alloc, 1)?;
+    let record = record_of(alloc, &soa);
+    beside(soa, record)
+}
+
 fn make_sample(alloc: Global) -> Result<Sample, BenchError> {
     let row = row(alloc, DROPPED)?;
-    let soa = soa(alloc, 1)?;
-    let soa_record = soa.record(alloc, Name::root(alloc)?)?;
-    let (record, _after) = read_record(alloc, DROPPED, 0)?;
+    let own = beside(row, soas(alloc))?;
+    let all = beside(own, record(alloc))?;
+    let ((row, (soa, soa_record)), record) = all;
     Ok(Sample {
         record,
         row,
@@ -41,45 +59,47 @@ fn make_sample(alloc: Global) -> Result<Sample, BenchError> {
     })
 }
 
-// What a call writes.
-fn written(alloc: Global, call: &str, sample: &Sample) -> Result<Octets, BenchError> {
-    let mut out = Octets::new(alloc);
+fn write(call: &str, sample: &Sample, out: &mut Octets) -> Result<(), AllocError> {
     let record = &sample.record;
     match call {
         "dns_record::write_record" => write_record(
-            &mut out,
+            out,
             record.owner(),
             record.rtype(),
             record.class(),
             7,
             b"\x01a\0",
-        )?,
-        "dns_record::Record::write" => record.write(&mut out)?,
-        _ => sample.row.write_identity(&mut out)?,
+        ),
+        "dns_record::Record::write" => record.write(out),
+        _ => sample.row.write_identity(out),
     }
-    Ok(out)
+}
+
+// What a call writes.
+fn written(alloc: Global, call: &str, sample: &Sample) -> Result<Octets, AllocError> {
+    let mut out = Octets::new(alloc);
+    let done = write(call, sample, &mut out);
+    after(out, done)
 }
 
 impl Tried for Sample {
     fn once(&mut self, alloc: Global, sheet: &mut Sheet, call: &str) -> Result<(), BenchError> {
         match call {
-            "dns_record::read_record" => sheet.show(&read_record(alloc, DROPPED, 0)?),
-            "dns_record::Row::of" => sheet.show(&row_of(alloc, &self.record)?),
-            "dns_record::Row::identity" => sheet.show(&self.row.identity(alloc)?),
-            "dns_record::Soa::record" => {
-                sheet.show(&self.soa.record(alloc, Name::root(alloc)?)?)
-            }
-            "dns_record::soa_of" => sheet.show(&soa_of(alloc, &self.soa_record)?),
-            _ => sheet.show(&written(alloc, call, self)?),
+            "dns_record::read_record" => sheet.show_result(read_record(alloc, DROPPED, 0)),
+            "dns_record::Row::of" => sheet.show_result(row_of(alloc, &self.record)),
+            "dns_record::Row::identity" => sheet.show_result(self.row.identity(alloc)),
+            "dns_record::Soa::record" => sheet.show_result(record_of(alloc, &self.soa)),
+            "dns_record::soa_of" => sheet.show_result(soa_of(alloc, &self.soa_record)),
+            _ => sheet.show_result(written(alloc, call, self)),
         }
     }
 }
 
 impl Tried for Records {
     fn once(&mut self, alloc: Global, sheet: &mut Sheet, _call: &str) -> Result<(), BenchError> {
-        let (record, _after) = read_record(alloc, DROPPED, 0)?;
-        self.push(record)?;
-        sheet.show(&self.as_slice())
+        self.push(record(alloc)?)?;
+        sheet.show(&self.as_slice());
+        Ok(())
     }
 }
 
@@ -87,6 +107,6 @@ impl Tried for Records {
 pub fn twice(alloc: Global, sheet: &mut Sheet, call: &str) -> Result<(), BenchError> {
     match call {
         "dns_record::Records::push" => changed_twice(alloc, sheet, call, Records::new(alloc)),
-        _ => tried_twice(alloc, sheet, call, make_sample(alloc)?),
+        _ => made_twice(alloc, sheet, call, make_sample(alloc)),
     }
 }

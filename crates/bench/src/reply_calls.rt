@@ -5,7 +5,7 @@ use crate::facts_sample::facts;
 use crate::policy_sample::policy;
 use crate::samples::{LOCAL_QUERY, QUERY, query};
 use crate::sheet::Sheet;
-use crate::tried::{Tried, tried_twice};
+use crate::tried::{Tried, beside, tried_twice};
 use dns_message::Query;
 use policy_snapshot::Snapshot;
 use reply_build::{Verdict, build};
@@ -36,7 +36,7 @@ fn hit(
         before: &[],
         name,
     };
-    sheet.show(&build(alloc, query, verdict, facts, 512)?)
+    sheet.show_result(build(alloc, query, verdict, facts, 512))
 }
 
 // A policy, a query, and what is known of it.
@@ -52,17 +52,16 @@ impl Tried for Known {
         let query = &self.query;
         match call {
             "reply_build::build::pass" => {
-                sheet.show(&build(alloc, query, Verdict::Pass, &self.facts, 512)?)
+                sheet.show_result(build(alloc, query, Verdict::Pass, &self.facts, 512))
             }
             "reply_build::build::fail" => {
-                sheet.show(&build(alloc, query, Verdict::Fail, &self.facts, 512)?)
+                sheet.show_result(build(alloc, query, Verdict::Fail, &self.facts, 512))
             }
             "reply_build::build::ask" => {
                 let nothing = Facts::new(alloc);
-                sheet.show(&build(alloc, query, Verdict::Pass, &nothing, 512)?)
+                sheet.show_result(build(alloc, query, Verdict::Pass, &nothing, 512))
             }
-            "reply_build::build::hit" => hit(alloc, sheet, &self.policy, query, &self.facts),
-            _ => Err(BenchError::Words),
+            _ => hit(alloc, sheet, &self.policy, query, &self.facts),
         }
     }
 }
@@ -74,8 +73,9 @@ pub fn twice(alloc: Global, sheet: &mut Sheet, call: &str) -> Result<(), BenchEr
         _ => QUERY,
     };
     let policy = policy(alloc)?;
-    let query = query(alloc, message)?;
-    let facts = facts(alloc)?;
+    let both = beside(policy, query(alloc, message))?;
+    let all = beside(both, facts(alloc))?;
+    let ((policy, query), facts) = all;
     let known = Known {
         policy,
         query,

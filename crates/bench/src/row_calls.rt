@@ -1,11 +1,12 @@
 //! Calls of lists of rows.
 
 use crate::bench_error::BenchError;
-use crate::samples::{DENIED, DROPPED, KINDS, LOCAL, row, rows};
+use crate::samples::{DENIED, DROPPED, KINDS, LOCAL, push_row, row, rows};
 use crate::sheet::Sheet;
 use crate::shown::show_rows;
-use crate::tried::{Tried, changed_twice, tried_twice};
-use std::alloc::Global;
+use crate::tried::{Tried, after, made_changed_twice, made_twice};
+use dns_record::Row;
+use std::alloc::{AllocError, Global};
 use zone_rows::Rows;
 
 /// The names of these calls.
@@ -28,17 +29,22 @@ fn push_ref(alloc: Global, list: &mut Rows) -> Result<(), BenchError> {
         return Err(BenchError::Empty);
     }
     let row = others.at(0);
-    list.push_ref(&row)?;
+    Ok(list.push_ref(&row)?)
+}
+
+fn push_copies(rows: &mut Rows, row: &Row) -> Result<(), AllocError> {
+    for _count in 0..FULL {
+        rows.push(row.clone()?)?;
+    }
     Ok(())
 }
 
 fn full(alloc: Global) -> Result<Rows, BenchError> {
     let row = row(alloc, DROPPED)?;
     let mut rows = Rows::new(alloc);
-    for _count in 0..FULL {
-        rows.push(row.clone()?)?;
-    }
-    Ok(rows)
+    let done = push_copies(&mut rows, &row);
+    drop(row);
+    Ok(after(rows, done)?)
 }
 
 // What a call of the first row gives.
@@ -48,39 +54,43 @@ fn of_row(alloc: Global, sheet: &mut Sheet, call: &str, rows: &Rows) -> Result<(
     }
     let row = rows.at(0);
     match call {
-        "zone_rows::RowRef::identity" => sheet.show(&row.identity(alloc)?),
-        _ => sheet.show(&row.to_row(alloc)?),
+        "zone_rows::RowRef::identity" => sheet.show_result(row.identity(alloc)),
+        _ => sheet.show_result(row.to_row(alloc)),
     }
 }
 
 // The list that a call makes.
-fn made(alloc: Global, call: &str, rows: &Rows) -> Result<Rows, BenchError> {
+fn made(alloc: Global, call: &str, rows: &Rows) -> Result<Rows, AllocError> {
     let other = rows.share()?;
     match call {
         "zone_rows::Rows::share" => Ok(other),
-        _ => Ok(other.without_repeats(alloc)?),
+        _ => other.without_repeats(alloc),
     }
+}
+
+fn show_made(alloc: Global, sheet: &mut Sheet, call: &str, rows: &Rows) -> Result<(), BenchError> {
+    show_rows(sheet, &made(alloc, call, rows)?);
+    Ok(())
 }
 
 impl Tried for Rows {
     fn once(&mut self, alloc: Global, sheet: &mut Sheet, call: &str) -> Result<(), BenchError> {
         match call {
-            "zone_rows::Rows::push" => self.push(row(alloc, LOCAL)?)?,
+            "zone_rows::Rows::push" => push_row(alloc, self, LOCAL)?,
             "zone_rows::Rows::push_ref" => push_ref(alloc, self)?,
             // whose rows aren't shown
             "zone_rows::Rows::push::full" => {
-                self.push(row(alloc, LOCAL)?)?;
-                return sheet.show(&self.len());
+                push_row(alloc, self, LOCAL)?;
+                sheet.show(&self.len());
+                return Ok(());
             }
             "zone_rows::RowRef::identity" | "zone_rows::RowRef::to_row" => {
                 return of_row(alloc, sheet, call, self);
             }
-            _ => {
-                let other = made(alloc, call, self)?;
-                return show_rows(sheet, &other);
-            }
+            _ => return show_made(alloc, sheet, call, self),
         }
-        show_rows(sheet, self)
+        show_rows(sheet, self);
+        Ok(())
     }
 }
 
@@ -90,21 +100,17 @@ fn sample(alloc: Global, call: &str) -> Result<Rows, BenchError> {
         "zone_rows::Rows::without_repeats" => rows(alloc, &[DENIED, DROPPED, DENIED, LOCAL]),
         "zone_rows::Rows::push" | "zone_rows::Rows::push_ref" => rows(alloc, &[DENIED]),
         "zone_rows::Rows::push::full" => full(alloc),
-        "zone_rows::Rows::share"
-        | "zone_rows::RowRef::identity"
-        | "zone_rows::RowRef::to_row"
-        | "zone_rows::Rows::without_repeats::none" => rows(alloc, KINDS),
-        _ => Err(BenchError::Words),
+        _ => rows(alloc, KINDS),
     }
 }
 
 /// Does the call of this name twice.
 pub fn twice(alloc: Global, sheet: &mut Sheet, call: &str) -> Result<(), BenchError> {
-    let rows = sample(alloc, call)?;
+    let rows = sample(alloc, call);
     match call {
         "zone_rows::Rows::push" | "zone_rows::Rows::push::full" | "zone_rows::Rows::push_ref" => {
-            changed_twice(alloc, sheet, call, rows)
+            made_changed_twice(alloc, sheet, call, rows)
         }
-        _ => tried_twice(alloc, sheet, call, rows),
+        _ => made_twice(alloc, sheet, call, rows),
     }
 }

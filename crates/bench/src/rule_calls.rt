@@ -1,14 +1,12 @@
 //! Calls of triggers and actions.
 
 use crate::bench_error::BenchError;
-use crate::samples::{CLIENT, LOCAL, origin, row};
+use crate::samples::{CLIENT, LOCAL, Rule, make_rule};
 use crate::sheet::Sheet;
-use crate::tried::{Tried, tried_twice};
+use crate::tried::{Tried, made_twice};
 use action_codec::action_of;
-use dns_name::Name;
-use dns_record::Row;
 use std::alloc::Global;
-use trigger_codec::{Trigger, owner_of, trigger_of};
+use trigger_codec::{owner_of, trigger_of};
 
 /// The names of these calls.
 pub const NAMES: &str = "trigger_codec::trigger_of\n\
@@ -17,38 +15,16 @@ pub const NAMES: &str = "trigger_codec::trigger_of\n\
     trigger_codec::owner_of::pattern\n\
     action_codec::action_of\n";
 
-// A row of the zone with its trigger.
-#[derive(Drop)]
-struct Rule {
-    origin: Name,
-    row: Row,
-    trigger: Trigger,
-}
-
-fn make_rule(alloc: Global, octets: &[u8]) -> Result<Rule, BenchError> {
-    let origin = origin(alloc)?;
-    let row = row(alloc, octets)?;
-    let trigger = trigger_of(alloc, row.owner(), &origin)?;
-    Ok(Rule {
-        origin,
-        row,
-        trigger,
-    })
-}
-
 impl Tried for Rule {
     fn once(&mut self, alloc: Global, sheet: &mut Sheet, call: &str) -> Result<(), BenchError> {
         match call {
             "trigger_codec::trigger_of" | "trigger_codec::trigger_of::pattern" => {
-                sheet.show(&trigger_of(alloc, self.row.owner(), &self.origin)?)
+                sheet.show_result(trigger_of(alloc, self.row.owner(), &self.origin))
             }
             "trigger_codec::owner_of" | "trigger_codec::owner_of::pattern" => {
-                sheet.show(&owner_of(alloc, &self.trigger, &self.origin)?)
+                sheet.show_result(owner_of(alloc, &self.trigger, &self.origin))
             }
-            "action_codec::action_of" => {
-                sheet.show(&action_of(alloc, &self.trigger, &[&self.row])?)
-            }
-            _ => Err(BenchError::Words),
+            _ => sheet.show_result(action_of(alloc, &self.trigger, &[&self.row])),
         }
     }
 }
@@ -59,5 +35,5 @@ pub fn twice(alloc: Global, sheet: &mut Sheet, call: &str) -> Result<(), BenchEr
         "trigger_codec::trigger_of" | "trigger_codec::owner_of" => CLIENT,
         _ => LOCAL,
     };
-    tried_twice(alloc, sheet, call, make_rule(alloc, octets)?)
+    made_twice(alloc, sheet, call, make_rule(alloc, octets))
 }

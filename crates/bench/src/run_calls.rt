@@ -6,7 +6,7 @@ use crate::bench_error::BenchError;
 use crate::serve_calls;
 use crate::sheet::Sheet;
 use crate::shown::show_written;
-use crate::tried::{Tried, tried_twice};
+use crate::tried::{Tried, after, tried_twice};
 use edge_io::{
     ListClock, ListIds, ListLink, ListReplies, ListSink, ListSource, ListWires, TaskSpawner, Wires,
 };
@@ -39,13 +39,18 @@ const SCRIPT: &[u8] = b"zone rpz.example\n\
     query 2 udp 198.51.100.7 1235010000010000000000000178076578616d706c650000010001\n\
     give 2 0001818000010001000000000178076578616d706c6500000100010178076578616d706c6500000100010000003c0004c6336409\n";
 
-/// The words that a line has.
-pub fn words_of(alloc: Global, line: &str) -> Result<Vec<String>, AllocError> {
-    let mut words = Vec::new(alloc);
+fn push_words(alloc: Global, words: &mut Vec<String>, line: &str) -> Result<(), AllocError> {
     for word in line.split(' ') {
         words.push(String::from_str(alloc, word)?)?;
     }
-    Ok(words)
+    Ok(())
+}
+
+/// The words that a line has.
+pub fn words_of(alloc: Global, line: &str) -> Result<Vec<String>, AllocError> {
+    let mut words = Vec::new(alloc);
+    let done = push_words(alloc, &mut words, line);
+    after(words, done)
 }
 
 fn make_wires<R: Wait + Copy + Drop + Send + 'static>(
@@ -112,8 +117,9 @@ fn run_words<R: Threads + Wait + Clock + RandomSource + Copy + Drop + Send + Syn
 ) -> Result<(), BenchError> {
     let hashers = RandomState::new(rt)?;
     let (status, octets) = written(rt, alloc, words, hashers)?;
-    sheet.show(&status)?;
-    show_written(sheet, &octets)
+    sheet.show(&status);
+    show_written(sheet, &octets);
+    Ok(())
 }
 
 // A replay of the script.
@@ -124,10 +130,23 @@ impl Tried for Replay {
     fn once(&mut self, alloc: Global, sheet: &mut Sheet, _call: &str) -> Result<(), BenchError> {
         match replayed(alloc, SCRIPT.to_vec(alloc)?) {
             Ok(octets) => show_written(sheet, &octets),
-            Err(Status::OutOfMemory) => Err(BenchError::OutOfMemory),
+            Err(Status::OutOfMemory) => return Err(BenchError::OutOfMemory),
             Err(status) => sheet.show(&status),
         }
+        Ok(())
     }
+}
+
+fn both_runs<R: Threads + Wait + Clock + RandomSource + Copy + Drop + Send + Sync + 'static>(
+    rt: &R,
+    alloc: Global,
+    sheet: &mut Sheet,
+    words: &[String],
+) -> Result<(), BenchError> {
+    let first = run_words(rt, alloc, sheet, words);
+    sheet.settle(first)?;
+    let second = run_words(rt, alloc, sheet, words);
+    sheet.settle(second)
 }
 
 // Runs the words of a call twice.
@@ -142,10 +161,7 @@ fn run_twice<R: Threads + Wait + Clock + RandomSource + Copy + Drop + Send + Syn
         _ => "replay",
     };
     let words = words_of(alloc, line)?;
-    let first = run_words(rt, alloc, sheet, &words);
-    sheet.settle(first)?;
-    let second = run_words(rt, alloc, sheet, &words);
-    sheet.settle(second)
+    both_runs(rt, alloc, sheet, &words)
 }
 
 /// Does the call of this name twice.

@@ -1,11 +1,13 @@
 //! Small values that the calls are tried with.
 
 use crate::bench_error::BenchError;
+use crate::tried::{after, beside};
 use dns_message::{Incoming, Query, Question, classify};
 use dns_name::{Name, Pattern};
 use dns_record::{Record, Row, Soa, class, read_record, rtype};
 use ip_prefix::{Addr, Transport};
 use std::alloc::{AllocError, Global};
+use trigger_codec::{Trigger, trigger_of};
 use zone_rows::{Rows, Step, Steps, Transfer};
 
 /// Rows of the zone `rpz.example`, as they stand in a message: `bad.example` CNAME `.`, by which the name doesn't exist.
@@ -76,7 +78,7 @@ pub fn origin(alloc: Global) -> Result<Name, BenchError> {
 /// The SOA of a serial, with the root for both names.
 pub fn soa(alloc: Global, serial: u32) -> Result<Soa, AllocError> {
     let mname = Name::root(alloc)?;
-    let rname = Name::root(alloc)?;
+    let (mname, rname) = beside(mname, Name::root(alloc))?;
     Ok(Soa {
         mname,
         rname,
@@ -103,28 +105,66 @@ pub fn row(alloc: Global, octets: &[u8]) -> Result<Row, BenchError> {
     row_of(alloc, &record)
 }
 
+/// A row of the zone with its trigger.
+#[derive(Drop)]
+pub struct Rule {
+    pub origin: Name,
+    pub row: Row,
+    pub trigger: Trigger,
+}
+
+/// The rule of the row that stands in these octets.
+pub fn make_rule(alloc: Global, octets: &[u8]) -> Result<Rule, BenchError> {
+    let origin = origin(alloc)?;
+    let (origin, row) = beside(origin, row(alloc, octets))?;
+    let trigger = trigger_of(alloc, row.owner(), &origin);
+    let ((origin, row), trigger) = beside((origin, row), trigger)?;
+    Ok(Rule {
+        origin,
+        row,
+        trigger,
+    })
+}
+
+/// Puts the row at the end that stands in these octets.
+pub fn push_row(alloc: Global, rows: &mut Rows, octets: &[u8]) -> Result<(), BenchError> {
+    let row = row(alloc, octets)?;
+    Ok(rows.push(row)?)
+}
+
+fn push_all(alloc: Global, rows: &mut Rows, records: &[&[u8]]) -> Result<(), BenchError> {
+    for octets in records {
+        push_row(alloc, rows, octets)?;
+    }
+    Ok(())
+}
+
 /// The rows that such octets are.
 pub fn rows(alloc: Global, records: &[&[u8]]) -> Result<Rows, BenchError> {
     let mut rows = Rows::new(alloc);
-    for octets in records {
-        rows.push(row(alloc, octets)?)?;
-    }
-    Ok(rows)
+    let done = push_all(alloc, &mut rows, records);
+    after(rows, done)
 }
 
 /// A whole transfer of a serial with these rows.
 pub fn whole(alloc: Global, serial: u32, records: &[&[u8]]) -> Result<Transfer, BenchError> {
     let rows = rows(alloc, records)?;
-    let soa = soa(alloc, serial)?;
+    let (rows, soa) = beside(rows, soa(alloc, serial))?;
     Ok(Transfer::Whole { soa, rows })
+}
+
+// The SOAs of two serials.
+fn soas(alloc: Global, one: u32, other: u32) -> Result<(Soa, Soa), AllocError> {
+    let first = soa(alloc, one)?;
+    beside(first, soa(alloc, other))
 }
 
 /// From one serial to another, without `bad.example`, and with the address of `x.example`.
 pub fn step(alloc: Global, from: u32, to: u32) -> Result<Step, BenchError> {
     let deleted = rows(alloc, &[DENIED])?;
-    let added = rows(alloc, &[FRESH])?;
-    let old = soa(alloc, from)?;
-    let new = soa(alloc, to)?;
+    let both = beside(deleted, rows(alloc, &[FRESH]))?;
+    let all = beside(both, soas(alloc, from, to))?;
+    let ((deleted, added), (old, new)) = all;
     Ok(Step {
         old,
         deleted,
@@ -140,7 +180,8 @@ pub fn steps(alloc: Global) -> Result<Transfer, BenchError> {
     if step.old.serial != 1 || step.new.serial != 2 {
         return Err(BenchError::Empty);
     }
-    steps.push(step)?;
+    let done = steps.push(step);
+    let steps = after(steps, done)?;
     Ok(Transfer::Steps(steps))
 }
 

@@ -3,7 +3,7 @@
 use crate::bench_error::BenchError;
 use crate::samples::{QUERY, origin};
 use crate::sheet::Sheet;
-use crate::tried::{Tried, changed_twice, tried_twice};
+use crate::tried::{Tried, after, beside, changed_twice, made_twice};
 use dns_name::Octets;
 use policy_override::{Override, ZoneSet, ZoneSets};
 use script_codec::{ScriptState, Shown, read_line, write_shown};
@@ -21,7 +21,7 @@ fn read(alloc: Global, sheet: &mut Sheet, text: &[u8], zones: &ZoneSets) -> Resu
         zones,
         primaries: &[None],
     };
-    sheet.show(&read_line(alloc, text, 2, &state)?)
+    sheet.show_result(read_line(alloc, text, 2, &state))
 }
 
 fn make_zone(alloc: Global) -> Result<ZoneSet, BenchError> {
@@ -31,16 +31,22 @@ fn make_zone(alloc: Global) -> Result<ZoneSet, BenchError> {
     })
 }
 
+fn push_zone(alloc: Global, zones: &mut ZoneSets) -> Result<(), BenchError> {
+    let zone = make_zone(alloc)?;
+    Ok(zones.push(zone)?)
+}
+
 fn make_zones(alloc: Global) -> Result<ZoneSets, BenchError> {
     let mut zones = ZoneSets::new(alloc);
-    zones.push(make_zone(alloc)?)?;
-    Ok(zones)
+    let done = push_zone(alloc, &mut zones);
+    after(zones, done)
 }
 
 impl Tried for ZoneSets {
     fn once(&mut self, alloc: Global, sheet: &mut Sheet, _call: &str) -> Result<(), BenchError> {
-        self.push(make_zone(alloc)?)?;
-        sheet.show(&self.as_slice())
+        push_zone(alloc, self)?;
+        sheet.show(&self.as_slice());
+        Ok(())
     }
 }
 
@@ -64,14 +70,14 @@ impl Tried for Lines {
                 let text = b"zone two.example cname *.garden.test";
                 read(alloc, sheet, text, &self.zones)
             }
-            _ => sheet.show(&write_shown(alloc, &self.shown)?),
+            _ => sheet.show_result(write_shown(alloc, &self.shown)),
         }
     }
 }
 
 fn make_lines(alloc: Global) -> Result<Lines, BenchError> {
     let zones = make_zones(alloc)?;
-    let message = Octets::from_slice(alloc, QUERY)?;
+    let (zones, message) = beside(zones, Octets::from_slice(alloc, QUERY))?;
     Ok(Lines {
         zones,
         shown: Shown::Reply { worker: 1, message },
@@ -87,10 +93,6 @@ pub fn twice(alloc: Global, sheet: &mut Sheet, call: &str) -> Result<(), BenchEr
             call,
             ZoneSets::new(alloc),
         ),
-        "script_codec::read_line::zone"
-        | "script_codec::read_line::transfer"
-        | "script_codec::read_line::override"
-        | "script_codec::write_shown" => tried_twice(alloc, sheet, call, make_lines(alloc)?),
-        _ => Err(BenchError::Words),
+        _ => made_twice(alloc, sheet, call, make_lines(alloc)),
     }
 }

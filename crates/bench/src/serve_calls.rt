@@ -11,6 +11,7 @@ use crate::samples::{CLIENT_ADDR, DENIED_QUERY, QUERY};
 use crate::sheet::Sheet;
 use crate::shown::show_written;
 use crate::transfer_calls::WHOLE;
+use crate::tried::{after, beside};
 use crossbeam_channel::{Receiver, Sender, bounded};
 use dns_name::Octets;
 use edge_io::{
@@ -89,34 +90,54 @@ fn datagram(alloc: Global, bytes: &[u8]) -> Result<Arrival<ListSource, ListSink>
     })
 }
 
-// The transfer comes first, and then the two queries.
+fn push_datagrams(
+    alloc: Global,
+    datagrams: &mut Vec<Arrival<ListSource, ListSink>>,
+) -> Result<(), AllocError> {
+    datagrams.push(datagram(alloc, DENIED_QUERY)?)?;
+    datagrams.push(datagram(alloc, QUERY)?)?;
+    Ok(())
+}
+
+// The two queries.
+fn make_queries(alloc: Global) -> Result<Stage, AllocError> {
+    let mut queries = WireStage::new(alloc, Some(Wake::Due));
+    let done = push_datagrams(alloc, &mut queries.datagrams);
+    after(queries, done)
+}
+
+fn push_both(stages: &mut VecDeque<Stage>, one: Stage, other: Stage) -> Result<(), AllocError> {
+    let done = stages.push_back(one);
+    let (other, ()) = beside(other, done)?;
+    stages.push_back(other)?;
+    Ok(())
+}
+
+// The transfer comes first, and then the queries.
 fn make_stages(alloc: Global) -> Result<VecDeque<Stage>, AllocError> {
     let order = Order { number: 0 };
     let bytes = Octets::from_slice(alloc, &WHOLE[2..])?;
     let transfer = WireStage::new(alloc, Some(Wake::Frame { order, bytes }));
-    let mut queries = WireStage::new(alloc, Some(Wake::Due));
-    queries.datagrams.push(datagram(alloc, DENIED_QUERY)?)?;
-    queries.datagrams.push(datagram(alloc, QUERY)?)?;
+    let (transfer, queries) = beside(transfer, make_queries(alloc))?;
     let mut stages = VecDeque::new(alloc);
-    stages.push_back(transfer)?;
-    stages.push_back(queries)?;
-    Ok(stages)
+    let done = push_both(&mut stages, transfer, queries);
+    after(stages, done)
 }
 
 // A link that gives the response.
 fn make_links(alloc: Global) -> Result<VecDeque<ListLink>, AllocError> {
     let link = make_link(alloc, 1)?;
     let mut links = VecDeque::new(alloc);
-    links.push_back(link)?;
-    Ok(links)
+    let done = links.push_back(link);
+    Ok(after(links, done)?)
 }
 
-fn make_backs<R: Wait + Copy + Drop>(
+fn push_backs<R: Wait + Copy + Drop>(
     rt: &R,
     alloc: Global,
     sender: &Sender<Octets>,
-) -> Result<VecDeque<Posts<R>>, AllocError> {
-    let mut backs = VecDeque::new(alloc);
+    backs: &mut VecDeque<Posts<R>>,
+) -> Result<(), AllocError> {
     for _count in 0..WORKERS {
         let posts = Posts {
             rt: *rt,
@@ -125,7 +146,17 @@ fn make_backs<R: Wait + Copy + Drop>(
         };
         backs.push_back(posts)?;
     }
-    Ok(backs)
+    Ok(())
+}
+
+fn make_backs<R: Wait + Copy + Drop>(
+    rt: &R,
+    alloc: Global,
+    sender: &Sender<Octets>,
+) -> Result<VecDeque<Posts<R>>, AllocError> {
+    let mut backs = VecDeque::new(alloc);
+    let done = push_backs(rt, alloc, sender, &mut backs);
+    after(backs, done)
 }
 
 fn make_wires<R: Wait + Copy + Drop + Send + 'static>(
@@ -134,8 +165,9 @@ fn make_wires<R: Wait + Copy + Drop + Send + 'static>(
     sender: &Sender<Octets>,
 ) -> Result<Memory<R>, AllocError> {
     let stages = make_stages(alloc)?;
-    let links = make_links(alloc)?;
-    let backs = make_backs(rt, alloc, sender)?;
+    let both = beside(stages, make_links(alloc))?;
+    let all = beside(both, make_backs(rt, alloc, sender))?;
+    let ((stages, links), backs) = all;
     let none = Vec::new(alloc);
     ListWires::new(*rt, alloc, stages, links, backs, none, Vec::new(alloc))
 }
@@ -164,17 +196,16 @@ fn id_of(reply: &Octets) -> Option<u16> {
 }
 
 // How many replies there are, and those of the two IDs.
-fn show_replies(sheet: &mut Sheet, replies: &[Octets]) -> Result<(), BenchError> {
-    sheet.show(&replies.len())?;
+fn show_replies(sheet: &mut Sheet, replies: &[Octets]) {
+    sheet.show(&replies.len());
     for id in IDS {
         for reply in replies {
             if id_of(reply) == Some(id) {
-                sheet.say("sent ")?;
-                sheet.show(&reply.as_slice())?;
+                sheet.say("sent ");
+                sheet.show(&reply.as_slice());
             }
         }
     }
-    Ok(())
 }
 
 // Takes what has come, for which there is room.
@@ -196,13 +227,14 @@ fn serve<R: Threads + Wait + Clock + Copy + Drop + Send + Sync + 'static>(
     words: &[String],
     hashers: RandomState,
 ) -> Result<(), BenchError> {
-    let (sender, receiver) = bounded(alloc, ROOM)?;
-    let mut replies = Vec::with_capacity(alloc, ROOM)?;
+    let channel = bounded(alloc, ROOM)?;
+    let ((sender, receiver), mut replies) = beside(channel, Vec::with_capacity(alloc, ROOM))?;
     let (status, octets) = served(rt, alloc, words, hashers, &sender)?;
     take_all(rt, &receiver, &mut replies);
-    sheet.show(&status)?;
-    show_written(sheet, &octets)?;
-    show_replies(sheet, &replies)
+    sheet.show(&status);
+    show_written(sheet, &octets);
+    show_replies(sheet, &replies);
+    Ok(())
 }
 
 /// Does the call of this name twice.

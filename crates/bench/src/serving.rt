@@ -5,6 +5,7 @@ ghost use Rattle.std.specs.Prelude.{◌≡◌};
 use crate::bench_error::BenchError;
 use crate::caching::BenchCache;
 use crate::samples::whole;
+use crate::tried::{after, beside};
 use crate::words::Plan;
 use answer_cache::Shared;
 use axfr_apply::{Taken, Wanted};
@@ -47,15 +48,14 @@ fn worker<N: StoreName, R: Wait + Drop>(
     reader: PolicyReader<N>,
     cache: &BenchCache,
 ) -> Result<BenchWorker<N, R>, AllocError> {
-    let shared = Shared::new(rt, Arc::try_clone(cache)?);
+    let (reader, cache) = beside(reader, Arc::try_clone(cache))?;
+    let shared = Shared::new(rt, cache);
     let link = ListLink::new(Vec::new(alloc), Vec::new(alloc));
     let ids = ListIds::new(alloc, VecDeque::new(alloc));
     Ok(Worker::new(alloc, reader, shared, link, ids, NoGate))
 }
 
-// The messages as jobs of a client.
-fn jobs(alloc: Global, messages: &[Octets]) -> Result<Vec<Job>, BenchError> {
-    let mut jobs = Vec::with_capacity(alloc, messages.len())?;
+fn push_jobs(alloc: Global, jobs: &mut Vec<Job>, messages: &[Octets]) -> Result<(), AllocError> {
     for message in messages {
         jobs.push(Job {
             peer: Endpoint {
@@ -66,7 +66,14 @@ fn jobs(alloc: Global, messages: &[Octets]) -> Result<Vec<Job>, BenchError> {
             message: Octets::from_slice(alloc, message.as_slice())?,
         })?;
     }
-    Ok(jobs)
+    Ok(())
+}
+
+// The messages as jobs of a client.
+fn jobs(alloc: Global, messages: &[Octets]) -> Result<Vec<Job>, AllocError> {
+    let mut jobs = Vec::with_capacity(alloc, messages.len())?;
+    let done = push_jobs(alloc, &mut jobs, messages);
+    after(jobs, done)
 }
 
 // Whether a reply isn't SERVFAIL (RFC 1035, section 4.1.1), which comes where the link is asked.

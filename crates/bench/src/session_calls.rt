@@ -4,7 +4,7 @@ use crate::bench_error::BenchError;
 use crate::policy_sample::policy;
 use crate::samples::{CLIENT_ADDR, DENIED_QUERY, QUERY, RESPONSE, question};
 use crate::sheet::Sheet;
-use crate::tried::{Tried, tried_twice};
+use crate::tried::{Tried, after, beside, made_twice, tried_twice};
 use dns_message::Question;
 use ip_prefix::Transport;
 use policy_snapshot::Snapshot;
@@ -28,9 +28,9 @@ fn begin(alloc: Global, policy: &Version, message: &[u8]) -> Result<Session, Ben
     Ok(Session::start(alloc, own, message, CLIENT_ADDR, Transport::Udp)?)
 }
 
-fn show_state(sheet: &mut Sheet, session: &Session) -> Result<(), BenchError> {
-    sheet.show(&session.known())?;
-    sheet.show(&session.waits())
+fn show_state(sheet: &mut Sheet, session: &Session) {
+    sheet.show(&session.known());
+    sheet.show(&session.waits());
 }
 
 // A version of the policy, over which sessions start.
@@ -42,7 +42,8 @@ struct Starting {
 impl Tried for Starting {
     fn once(&mut self, alloc: Global, sheet: &mut Sheet, _call: &str) -> Result<(), BenchError> {
         let session = begin(alloc, &self.policy, QUERY)?;
-        show_state(sheet, &session)
+        show_state(sheet, &session);
+        Ok(())
     }
 }
 
@@ -62,16 +63,19 @@ fn give(alloc: Global, session: &mut Session, asked: &Question) -> Result<(), Be
     Ok(())
 }
 
+fn turn(sheet: &mut Sheet, session: &mut Session) -> Result<(), BenchError> {
+    let turn = session.turn();
+    sheet.show_result(turn)
+}
+
 impl Tried for Asking {
     fn once(&mut self, alloc: Global, sheet: &mut Sheet, call: &str) -> Result<(), BenchError> {
         match call {
             "query_session::Session::give" => give(alloc, &mut self.session, &self.asked)?,
-            "query_session::Session::turn"
-            | "query_session::Session::turn::next"
-            | "query_session::Session::turn::rule" => sheet.show(&self.session.turn()?)?,
-            _ => return Err(BenchError::Words),
+            _ => turn(sheet, &mut self.session)?,
         }
-        show_state(sheet, &self.session)
+        show_state(sheet, &self.session);
+        Ok(())
     }
 }
 
@@ -99,17 +103,21 @@ fn make_asking(alloc: Global, call: &str, policy: &Version) -> Result<Asking, Be
         _ => QUERY,
     };
     let asked = question(alloc)?;
-    let mut session = begin(alloc, policy, message)?;
-    go_on(alloc, call, &mut session, &asked)?;
-    Ok(Asking { session, asked })
+    let (asked, mut session) = beside(asked, begin(alloc, policy, message))?;
+    let done = go_on(alloc, call, &mut session, &asked);
+    after(Asking { session, asked }, done)
+}
+
+fn make_version(alloc: Global) -> Result<Version, BenchError> {
+    let policy = policy(alloc)?;
+    Ok(Arc::new(alloc, policy)?)
 }
 
 /// Does the call of this name twice.
 pub fn twice(alloc: Global, sheet: &mut Sheet, call: &str) -> Result<(), BenchError> {
-    let policy = policy(alloc)?;
-    let policy = Arc::new(alloc, policy)?;
-    match call {
-        "query_session::Session::start" => { tried_twice(alloc, sheet, call, Starting { policy }) }
-        _ => tried_twice(alloc, sheet, call, make_asking(alloc, call, &policy)?),
+    let policy = make_version(alloc)?;
+    if call == "query_session::Session::start" {
+        return tried_twice(alloc, sheet, call, Starting { policy });
     }
+    made_twice(alloc, sheet, call, make_asking(alloc, call, &policy))
 }

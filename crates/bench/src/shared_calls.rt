@@ -2,7 +2,7 @@
 
 use crate::bench_error::BenchError;
 use crate::sheet::Sheet;
-use crate::tried::{Tried, changed_twice};
+use crate::tried::{Tried, after, made_changed_twice};
 use shared_list::{Held, Share, SharedList, SharedOctets, SharedTable};
 use std::alloc::{AllocError, Global};
 
@@ -33,37 +33,37 @@ const STRINGS: u32 = 256;
 
 const STRING: &[u8; 16] = b"0123456789abcdef";
 
-fn show_numbers(sheet: &mut Sheet, numbers: &Numbers) -> Result<(), BenchError> {
+fn show_numbers(sheet: &mut Sheet, numbers: &Numbers) {
     for place in 0..numbers.len() {
-        sheet.show(numbers.get(place))?;
+        sheet.show(numbers.get(place));
     }
-    Ok(())
 }
 
-fn show_table(sheet: &mut Sheet, table: &Table) -> Result<(), BenchError> {
+fn show_table(sheet: &mut Sheet, table: &Table) {
     for place in 0..table.len() {
-        sheet.show(table.get(place).get())?;
+        sheet.show(table.get(place).get());
     }
-    Ok(())
 }
 
 impl Tried for SharedList<u32> {
     fn once(&mut self, _alloc: Global, sheet: &mut Sheet, call: &str) -> Result<(), BenchError> {
         if call == "shared_list::SharedList::share" {
-            let other = self.share()?;
-            return show_numbers(sheet, &other);
+            show_numbers(sheet, &self.share()?);
+            return Ok(());
         }
         self.push(7)?;
-        show_numbers(sheet, self)
+        show_numbers(sheet, self);
+        Ok(())
     }
 }
 
 // The place of the string that is put, and how many octets there are then.
 fn push_string(sheet: &mut Sheet, octets: &mut SharedOctets) -> Result<(), BenchError> {
     let place = octets.push(STRING)?;
-    sheet.show(&place)?;
-    sheet.show(&octets.len())?;
-    sheet.show(&octets.get(place, STRING.len()))
+    sheet.show(&place);
+    sheet.show(&octets.len());
+    sheet.show(&octets.get(place, STRING.len()));
+    Ok(())
 }
 
 impl Tried for SharedOctets {
@@ -83,49 +83,69 @@ fn set_first(alloc: Global, table: &mut Table) -> Result<(), BenchError> {
     }
     let next = table.get(0).get().wrapping_add(1);
     let held = Held::new(alloc, next)?;
-    table.set(0, held)?;
-    Ok(())
+    Ok(table.set(0, held)?)
+}
+
+fn push_held(alloc: Global, table: &mut Table, number: u32) -> Result<(), AllocError> {
+    let held = Held::new(alloc, number)?;
+    table.push(held)
 }
 
 impl Tried for SharedTable<Held<u32>> {
     fn once(&mut self, alloc: Global, sheet: &mut Sheet, call: &str) -> Result<(), BenchError> {
         match call {
             "shared_list::SharedTable::share" => {
-                let other = self.share()?;
-                return show_table(sheet, &other);
+                show_table(sheet, &self.share()?);
+                return Ok(());
             }
             "shared_list::SharedTable::set" => set_first(alloc, self)?,
-            _ => self.push(Held::new(alloc, 7)?)?,
+            _ => push_held(alloc, self, 7)?,
         }
-        show_table(sheet, self)
+        show_table(sheet, self);
+        Ok(())
     }
+}
+
+fn fill_numbers(numbers: &mut Numbers, count: u32) -> Result<(), AllocError> {
+    for number in 0..count {
+        numbers.push(number)?;
+    }
+    Ok(())
 }
 
 // So many numbers in a list.
 fn make_numbers(alloc: Global, count: u32) -> Result<Numbers, AllocError> {
     let mut numbers = Numbers::new(alloc);
-    for number in 0..count {
-        numbers.push(number)?;
+    let done = fill_numbers(&mut numbers, count);
+    after(numbers, done)
+}
+
+fn fill_octets(octets: &mut SharedOctets, count: u32) -> Result<(), AllocError> {
+    for _count in 0..count {
+        let _place = octets.push(STRING)?;
     }
-    Ok(numbers)
+    Ok(())
 }
 
 // So many strings.
 fn make_octets(alloc: Global, count: u32) -> Result<SharedOctets, AllocError> {
     let mut octets = SharedOctets::new(alloc);
-    for _count in 0..count {
-        let _place = octets.push(STRING)?;
+    let done = fill_octets(&mut octets, count);
+    after(octets, done)
+}
+
+fn fill_table(alloc: Global, table: &mut Table, count: u32) -> Result<(), AllocError> {
+    for number in 0..count {
+        push_held(alloc, table, number)?;
     }
-    Ok(octets)
+    Ok(())
 }
 
 // So many numbers in a table.
 fn make_table(alloc: Global, count: u32) -> Result<Table, AllocError> {
     let mut table = Table::new(alloc);
-    for number in 0..count {
-        table.push(Held::new(alloc, number)?)?;
-    }
-    Ok(table)
+    let done = fill_table(alloc, &mut table, count);
+    after(table, done)
 }
 
 // How many there are before the call, where a block is full with so many.
@@ -147,22 +167,18 @@ pub fn twice(alloc: Global, sheet: &mut Sheet, call: &str) -> Result<(), BenchEr
         "shared_list::SharedList::push"
         | "shared_list::SharedList::push::full"
         | "shared_list::SharedList::share" => {
-            let numbers = make_numbers(alloc, count_of(call, LIST_BLOCK))?;
-            changed_twice(alloc, sheet, call, numbers)
+            let numbers = make_numbers(alloc, count_of(call, LIST_BLOCK));
+            made_changed_twice(alloc, sheet, call, numbers)
         }
         "shared_list::SharedOctets::push"
         | "shared_list::SharedOctets::push::full"
         | "shared_list::SharedOctets::share" => {
-            let octets = make_octets(alloc, count_of(call, STRINGS))?;
-            changed_twice(alloc, sheet, call, octets)
+            let octets = make_octets(alloc, count_of(call, STRINGS));
+            made_changed_twice(alloc, sheet, call, octets)
         }
-        "shared_list::SharedTable::push"
-        | "shared_list::SharedTable::push::full"
-        | "shared_list::SharedTable::set"
-        | "shared_list::SharedTable::share" => {
-            let table = make_table(alloc, count_of(call, TABLE_GROUP))?;
-            changed_twice(alloc, sheet, call, table)
+        _ => {
+            let table = make_table(alloc, count_of(call, TABLE_GROUP));
+            made_changed_twice(alloc, sheet, call, table)
         }
-        _ => Err(BenchError::Words),
     }
 }

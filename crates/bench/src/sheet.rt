@@ -12,6 +12,8 @@ const ROOM: usize = 131_072;
 pub struct Sheet {
     pub lines: String,
     pub line: String,
+    // whether there was no memory for a part of the line, so that what shows a value needn't ask at each part
+    is_cut: bool,
 }
 
 impl Sheet {
@@ -19,50 +21,78 @@ impl Sheet {
     pub fn new(alloc: Global) -> Result<Self, AllocError> {
         let lines = String::with_capacity(alloc, ROOM)?;
         let line = String::with_capacity(alloc, ROOM)?;
-        Ok(Sheet { lines, line })
+        Ok(Sheet {
+            lines,
+            line,
+            is_cut: false,
+        })
     }
 
     /// Writes this into the line.
-    pub fn show<T: Debug>(&mut self, value: &T) -> Result<(), BenchError> {
-        write!(self.line, "{value:?} ")?;
+    pub fn show<T: Debug>(&mut self, value: &T) {
+        if write!(self.line, "{value:?} ").is_err() {
+            self.is_cut = true;
+        }
+    }
+
+    /// Writes what a call gave into the line.
+    pub fn show_result<T: Debug + Drop, E: Drop>(
+        &mut self,
+        given: Result<T, E>,
+    ) -> Result<(), BenchError>
+    where
+        BenchError: From<E>,
+    {
+        let value = given?;
+        self.show(&value);
         Ok(())
     }
 
     /// Writes these words into the line.
-    pub fn say(&mut self, words: &str) -> Result<(), BenchError> {
-        self.line.push_str(words)?;
-        Ok(())
+    pub fn say(&mut self, words: &str) {
+        if self.line.push_str(words).is_err() {
+            self.is_cut = true;
+        }
     }
 
     // Puts the line at the end.
     fn keep(&mut self) -> Result<(), BenchError> {
+        if self.is_cut {
+            return Err(BenchError::OutOfMemory);
+        }
         self.lines.push_str(self.line.as_str())?;
         self.lines.push('\n')?;
         self.line.clear();
         Ok(())
     }
 
+    // The line says no more than that.
+    fn say_out_of_memory(&mut self) {
+        self.is_cut = false;
+        self.line.clear();
+        self.say("out of memory");
+    }
+
     /// Ends the line of a call, which says no more than that where the call got no memory. Any other error ends the program.
     pub fn settle(&mut self, done: Result<(), BenchError>) -> Result<(), BenchError> {
-        if let Err(error) = done {
-            if !error.is_out_of_memory() {
-                return Err(error);
-            }
-            self.line.clear();
-            self.line.push_str("out of memory")?;
+        match done {
+            Err(error) if !error.is_out_of_memory() => return Err(error),
+            Err(_) => self.say_out_of_memory(),
+            Ok(()) if self.is_cut => self.say_out_of_memory(),
+            Ok(()) => {}
         }
         self.keep()
     }
 
     /// Says in a line of its own that the call may change the value that it is called on.
     pub fn changes(&mut self) -> Result<(), BenchError> {
-        self.say("changes")?;
+        self.say("changes");
         self.keep()
     }
 
     /// Says in a line of its own that the first call ends the value, whether it gets memory or not.
     pub fn ends(&mut self) -> Result<(), BenchError> {
-        self.say("ends")?;
+        self.say("ends");
         self.keep()
     }
 }

@@ -1,49 +1,46 @@
 //! Rows, transfers, zones and entries of tries as text.
 
 use crate::bench_error::BenchError;
-use crate::samples::{FRESH, KINDS, origin, row};
+use crate::samples::{FRESH, KINDS, make_rule};
 use crate::sheet::Sheet;
 use octet_trie::OctetFound;
-use std::alloc::Global;
+use std::alloc::{AllocError, Global};
 use std::fmt::Debug;
 use trie_keys::Marked;
-use trigger_codec::trigger_of;
 use zone_index::Zone;
 use zone_rows::{Rows, Step, Steps, Transfer};
 
 /// Each row of a list, for which no memory is wanted.
-pub fn show_rows(sheet: &mut Sheet, rows: &Rows) -> Result<(), BenchError> {
+pub fn show_rows(sheet: &mut Sheet, rows: &Rows) {
     for place in 0..rows.len() {
         let row = rows.at(place);
-        sheet.show(&row.owner())?;
-        sheet.show(&row.rtype())?;
-        sheet.show(&row.ttl())?;
-        sheet.show(&row.rdata())?;
+        sheet.show(&row.owner());
+        sheet.show(&row.rtype());
+        sheet.show(&row.ttl());
+        sheet.show(&row.rdata());
     }
-    Ok(())
 }
 
-fn show_step(sheet: &mut Sheet, step: &Step) -> Result<(), BenchError> {
-    sheet.show(&step.old)?;
-    show_rows(sheet, &step.deleted)?;
-    sheet.show(&step.new)?;
-    show_rows(sheet, &step.added)
+fn show_step(sheet: &mut Sheet, step: &Step) {
+    sheet.show(&step.old);
+    show_rows(sheet, &step.deleted);
+    sheet.show(&step.new);
+    show_rows(sheet, &step.added);
 }
 
 /// All of the steps.
-pub fn show_steps(sheet: &mut Sheet, steps: &Steps) -> Result<(), BenchError> {
+pub fn show_steps(sheet: &mut Sheet, steps: &Steps) {
     for step in steps.as_slice() {
-        show_step(sheet, step)?;
+        show_step(sheet, step);
     }
-    Ok(())
 }
 
 /// All of a transfer.
-pub fn show_transfer(sheet: &mut Sheet, transfer: &Transfer) -> Result<(), BenchError> {
+pub fn show_transfer(sheet: &mut Sheet, transfer: &Transfer) {
     match transfer {
         Transfer::Whole { soa, rows } => {
-            sheet.show(soa)?;
-            show_rows(sheet, rows)
+            sheet.show(soa);
+            show_rows(sheet, rows);
         }
         Transfer::Steps(steps) => show_steps(sheet, steps),
     }
@@ -56,16 +53,15 @@ fn show_rule(
     zone: &Zone,
     octets: &[u8],
 ) -> Result<(), BenchError> {
-    let origin = origin(alloc)?;
-    let row = row(alloc, octets)?;
-    let trigger = trigger_of(alloc, row.owner(), &origin)?;
-    sheet.show(&zone.rule(&trigger))
+    let rule = make_rule(alloc, octets)?;
+    sheet.show(&zone.rule(&rule.trigger));
+    Ok(())
 }
 
 /// The SOA of a zone, its number of rows, and the rules of the samples.
 pub fn show_zone(alloc: Global, sheet: &mut Sheet, zone: &Zone) -> Result<(), BenchError> {
-    sheet.show(&zone.soa())?;
-    sheet.show(&zone.row_count())?;
+    sheet.show(&zone.soa());
+    sheet.show(&zone.row_count());
     for octets in KINDS {
         show_rule(alloc, sheet, zone, octets)?;
     }
@@ -73,32 +69,32 @@ pub fn show_zone(alloc: Global, sheet: &mut Sheet, zone: &Zone) -> Result<(), Be
 }
 
 /// Entries of a trie by key, each with its value.
-pub fn show_found<V: Debug>(
+pub fn show_found<V: Debug + Drop>(
     sheet: &mut Sheet,
-    entries: &[OctetFound<'_, V, bool>],
+    found: Result<Vec<OctetFound<'_, V, bool>>, AllocError>,
 ) -> Result<(), BenchError> {
-    for entry in entries {
-        sheet.show(&entry.key)?;
-        sheet.show(&entry.wild)?;
-        sheet.show(&entry.value.value)?;
+    for entry in &found? {
+        sheet.show(&entry.key);
+        sheet.show(&entry.wild);
+        sheet.show(&entry.value.value);
     }
     Ok(())
 }
 
 /// Patterns or prefixes, each with its value.
-pub fn show_marked<K: Debug, V: Debug>(
+pub fn show_marked<K: Debug + Drop, V: Debug + Drop>(
     sheet: &mut Sheet,
-    entries: &[(K, Marked<V, bool>)],
+    found: Result<Vec<(K, Marked<V, bool>)>, AllocError>,
 ) -> Result<(), BenchError> {
-    for entry in entries {
-        sheet.show(&entry.0)?;
-        sheet.show(&entry.1.value)?;
+    for entry in &found? {
+        sheet.show(&entry.0);
+        sheet.show(&entry.1.value);
     }
     Ok(())
 }
 
 /// The octets that were written.
-pub fn show_written(sheet: &mut Sheet, octets: &[u8]) -> Result<(), BenchError> {
-    sheet.say("wrote ")?;
-    sheet.show(&octets)
+pub fn show_written(sheet: &mut Sheet, octets: &[u8]) {
+    sheet.say("wrote ");
+    sheet.show(&octets);
 }

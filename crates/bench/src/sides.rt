@@ -3,6 +3,7 @@
 use crate::bench_error::BenchError;
 use crate::difference::Difference;
 use crate::transfers::wanted;
+use crate::tried::beside;
 use dns_name::Name;
 use edge_io::{Source, read_frame};
 use ixfr_apply::{Fed, TransferReader};
@@ -84,8 +85,10 @@ impl Sides {
     /// Both with nothing loaded.
     pub fn new(alloc: Global) -> Result<Self, BenchError> {
         let origin = Name::from_text(alloc, b"rpz.example")?;
+        let copy: Result<_, _> = origin.clone();
+        let (origin, copy) = beside(origin, copy)?;
         Ok(Sides {
-            zone: Zone::new(origin.clone()?),
+            zone: Zone::new(copy),
             plain: PlainZone {
                 origin,
                 content: None,
@@ -115,8 +118,8 @@ impl Sides {
         alloc: Global,
         source: &mut S,
     ) -> Result<Option<Twice>, BenchError> {
-        let mut reader = self.reader(alloc)?;
-        let mut other = self.reader(alloc)?;
+        let reader = self.reader(alloc)?;
+        let (mut reader, mut other) = beside(reader, self.reader(alloc))?;
         read_twice(alloc, source, &mut reader, &mut other)
     }
 }
@@ -145,7 +148,7 @@ fn feed_both(
     message: &[u8],
 ) -> Result<Option<Twice>, BenchError> {
     let zone = feed(reader, message)?;
-    let plain = feed(other, message)?;
+    let (zone, plain) = beside(zone, feed(other, message))?;
     match zone {
         Some(zone) => for_both(zone, plain),
         None => Ok(None),

@@ -4,7 +4,7 @@ use crate::bench_error::BenchError;
 use crate::samples::{origin, soa};
 use crate::sheet::Sheet;
 use crate::shown::show_transfer;
-use crate::tried::{Tried, tried_twice};
+use crate::tried::{Tried, beside, tried_twice};
 use axfr_apply::{Taken, Wanted};
 use dns_name::Name;
 use dns_record::Soa;
@@ -35,6 +35,16 @@ pub const STEPS: &[u8] = b"\0\xe1\0\0\x84\0\0\x01\0\x06\0\0\0\0\x03rpz\x07exampl
     \x04gone\x07example\xc0\x0c\0\x05\0\x01\0\0\0<\0\x0a\x08rpz-drop\0\
     \xc0\x0c\0\x06\0\x01\0\0\0<\0\x16\0\0\0\0\0\x02\0\0\x0e\x10\0\0\x02X\0\x01Q\x80\0\0\0<";
 
+fn show_taken(sheet: &mut Sheet, taken: Taken) -> Result<(), BenchError> {
+    match taken {
+        Taken::New(transfer) => {
+            show_transfer(sheet, &transfer);
+            Ok(())
+        }
+        Taken::Current { .. } => Err(BenchError::Current),
+    }
+}
+
 fn read(
     alloc: Global,
     sheet: &mut Sheet,
@@ -43,10 +53,9 @@ fn read(
     wanted: Wanted,
 ) -> Result<(), BenchError> {
     let mut source = Bytes::new(stream.to_vec(alloc)?);
-    match read_transfer(alloc, &mut source, 0, origin, wanted)? {
-        Taken::New(transfer) => show_transfer(sheet, &transfer),
-        Taken::Current { .. } => Err(BenchError::Current),
-    }
+    let taken = read_transfer(alloc, &mut source, 0, origin, wanted);
+    drop(source);
+    show_taken(sheet, taken?)
 }
 
 // The zone that is asked for, and its SOA.
@@ -66,11 +75,8 @@ impl Tried for Known {
             "ixfr_apply::read_transfer::steps" => {
                 read(alloc, sheet, STEPS, origin, Wanted::Newer { have: 1 })
             }
-            "ixfr_apply::request" => sheet.show(&request(alloc, 7, origin)?),
-            "ixfr_apply::request_newer" => {
-                sheet.show(&request_newer(alloc, 7, origin, &self.soa)?)
-            }
-            _ => Err(BenchError::Words),
+            "ixfr_apply::request" => sheet.show_result(request(alloc, 7, origin)),
+            _ => sheet.show_result(request_newer(alloc, 7, origin, &self.soa)),
         }
     }
 }
@@ -78,6 +84,6 @@ impl Tried for Known {
 /// Does the call of this name twice.
 pub fn twice(alloc: Global, sheet: &mut Sheet, call: &str) -> Result<(), BenchError> {
     let origin = origin(alloc)?;
-    let soa = soa(alloc, 1)?;
+    let (origin, soa) = beside(origin, soa(alloc, 1))?;
     tried_twice(alloc, sheet, call, Known { origin, soa })
 }

@@ -2,7 +2,7 @@
 
 use crate::bench_error::BenchError;
 use crate::sheet::Sheet;
-use crate::tried::{Tried, tried_twice};
+use crate::tried::{Tried, made_twice};
 use octet_trie::{OctetFound, OctetTrie};
 use std::alloc::{AllocError, Global};
 use trie_keys::Marked;
@@ -25,13 +25,13 @@ const VALUE: Marked<u32, bool> = Marked {
     mark: true,
 };
 
-/// Each entry of a trie, with its value.
+// Each entry of a trie, with its value.
 fn show_trie(sheet: &mut Sheet, trie: &Trie) -> Result<(), BenchError> {
     for entry in &trie.entries()? {
-        sheet.show(&entry.key)?;
-        sheet.show(&entry.wild)?;
-        sheet.show(&entry.value.value)?;
-        sheet.show(&entry.value.mark)?;
+        sheet.show(&entry.key);
+        sheet.show(&entry.wild);
+        sheet.show(&entry.value.value);
+        sheet.show(&entry.value.mark);
     }
     Ok(())
 }
@@ -59,21 +59,23 @@ fn listed(alloc: Global) -> Result<Trie, AllocError> {
     )
 }
 
-fn made(alloc: Global, call: &str, trie: &Trie) -> Result<Trie, BenchError> {
+fn made(alloc: Global, call: &str, trie: &Trie) -> Result<Trie, AllocError> {
     match call {
-        "octet_trie::OctetTrie::of" => Ok(listed(alloc)?),
+        "octet_trie::OctetTrie::of" => listed(alloc),
         "octet_trie::OctetTrie::inserted" => {
-            Ok(trie.share()?.inserted(b"\x07example\x03bag", false, VALUE)?)
+            trie.share()?.inserted(b"\x07example\x03bag", false, VALUE)
         }
-        "octet_trie::OctetTrie::removed" => {
-            Ok(trie.share()?.removed(b"\x07example\x03bad", false)?)
-        }
-        "octet_trie::OctetTrie::with" => Ok(trie.with(b"\x07example\x03bag", true, VALUE)?),
-        "octet_trie::OctetTrie::without" => Ok(trie.without(b"\x07example\x03bad", true)?),
-        "octet_trie::OctetTrie::rebuilt" => Ok(trie.rebuilt()?),
-        "octet_trie::OctetTrie::share" => Ok(trie.share()?),
-        _ => Err(BenchError::Words),
+        "octet_trie::OctetTrie::removed" => trie.share()?.removed(b"\x07example\x03bad", false),
+        "octet_trie::OctetTrie::with" => trie.with(b"\x07example\x03bag", true, VALUE),
+        "octet_trie::OctetTrie::without" => trie.without(b"\x07example\x03bad", true),
+        "octet_trie::OctetTrie::rebuilt" => trie.rebuilt(),
+        _ => trie.share(),
     }
+}
+
+fn show_made(sheet: &mut Sheet, made: Result<Trie, AllocError>) -> Result<(), BenchError> {
+    let trie = made?;
+    show_trie(sheet, &trie)
 }
 
 impl Tried for OctetTrie<u32, bool> {
@@ -81,8 +83,7 @@ impl Tried for OctetTrie<u32, bool> {
         if call == "octet_trie::OctetTrie::entries" {
             return show_trie(sheet, self);
         }
-        let other = made(alloc, call, self)?;
-        show_trie(sheet, &other)
+        show_made(sheet, made(alloc, call, self))
     }
 }
 
@@ -91,6 +92,10 @@ pub fn twice(alloc: Global, sheet: &mut Sheet, call: &str) -> Result<(), BenchEr
     let trie = Trie::empty(alloc);
     let trie = trie.inserted(b"\x07example\x03bad", false, VALUE)?;
     let trie = trie.inserted(b"\x07example\x03bad", true, VALUE)?;
-    let trie = trie.inserted(b"\x07example\x03bat\x01x", false, VALUE)?;
-    tried_twice(alloc, sheet, call, trie)
+    made_twice(
+        alloc,
+        sheet,
+        call,
+        trie.inserted(b"\x07example\x03bat\x01x", false, VALUE),
+    )
 }

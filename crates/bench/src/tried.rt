@@ -10,6 +10,19 @@ pub trait Tried: Drop {
     fn once(&mut self, alloc: Global, sheet: &mut Sheet, call: &str) -> Result<(), BenchError>;
 }
 
+/// A value, and what is made beside it. Where that isn't made, the value is dropped here, in one call, and not part for part where it was
+/// to be kept.
+pub fn beside<A: Drop, B: Drop, E: Drop>(value: A, made: Result<B, E>) -> Result<(A, B), E> {
+    let made = made?;
+    Ok((value, made))
+}
+
+/// A value once this is done to it.
+pub fn after<T: Drop, E: Drop>(value: T, done: Result<(), E>) -> Result<T, E> {
+    done?;
+    Ok(value)
+}
+
 /// Does the call of this name twice on the same value.
 pub fn both_times<T: Tried>(
     alloc: Global,
@@ -42,4 +55,30 @@ pub fn changed_twice<T: Tried>(
 ) -> Result<(), BenchError> {
     tried_twice(alloc, sheet, call, tried)?;
     sheet.changes()
+}
+
+/// Does the call of this name twice on the value, if it is made.
+pub fn made_twice<T: Tried, E: Drop>(
+    alloc: Global,
+    sheet: &mut Sheet,
+    call: &str,
+    made: Result<T, E>,
+) -> Result<(), BenchError>
+where
+    BenchError: From<E>,
+{
+    tried_twice(alloc, sheet, call, made?)
+}
+
+/// The same of a call that may change the value.
+pub fn made_changed_twice<T: Tried, E: Drop>(
+    alloc: Global,
+    sheet: &mut Sheet,
+    call: &str,
+    made: Result<T, E>,
+) -> Result<(), BenchError>
+where
+    BenchError: From<E>,
+{
+    changed_twice(alloc, sheet, call, made?)
 }

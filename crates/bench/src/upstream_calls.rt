@@ -4,7 +4,7 @@ use crate::bench_error::BenchError;
 use crate::facts_sample::{ALIAS, facts};
 use crate::samples::{QUERY, RESPONSE, query, question};
 use crate::sheet::Sheet;
-use crate::tried::{Tried, tried_twice};
+use crate::tried::{Tried, beside, tried_twice};
 use dns_message::{Query, Question};
 use dns_record::rtype;
 use std::alloc::Global;
@@ -34,7 +34,7 @@ fn show_chain(alloc: Global, sheet: &mut Sheet, asked: &Asked) -> Result<(), Ben
     let Some(fact) = asked.facts.get(&asked.question.name, rtype::A) else {
         return Err(BenchError::Empty);
     };
-    sheet.show(&chain(alloc, &asked.question, fact)?)
+    sheet.show_result(chain(alloc, &asked.question, fact))
 }
 
 // The servers that are known, or their addresses.
@@ -46,10 +46,10 @@ fn show_servers(
 ) -> Result<(), BenchError> {
     let lists = known_servers(alloc, &asked.facts, &asked.question.name)?;
     if call == "upstream_link::server_addresses" {
-        return sheet.show(&server_addresses(alloc, &asked.facts, &lists)?);
+        return sheet.show_result(server_addresses(alloc, &asked.facts, &lists));
     }
     for list in lists.as_slice() {
-        sheet.show(&list.as_slice())?;
+        sheet.show(&list.as_slice());
     }
     Ok(())
 }
@@ -57,7 +57,7 @@ fn show_servers(
 // What two responses say.
 fn show_facts(alloc: Global, sheet: &mut Sheet, question: &Question) -> Result<(), BenchError> {
     for response in [RESPONSE, ALIAS] {
-        sheet.show(&fact_of(alloc, response, 0, question)?)?;
+        sheet.show_result(fact_of(alloc, response, 0, question))?;
     }
     Ok(())
 }
@@ -65,13 +65,13 @@ fn show_facts(alloc: Global, sheet: &mut Sheet, question: &Question) -> Result<(
 impl Tried for Asked {
     fn once(&mut self, alloc: Global, sheet: &mut Sheet, call: &str) -> Result<(), BenchError> {
         match call {
-            "upstream_link::main_question" => sheet.show(&main_question(&self.query)?),
+            "upstream_link::main_question" => sheet.show_result(main_question(&self.query)),
             "upstream_link::question_bytes" => {
-                sheet.show(&question_bytes(alloc, 7, &self.question)?)
+                sheet.show_result(question_bytes(alloc, 7, &self.question))
             }
             "upstream_link::fact_of" => show_facts(alloc, sheet, &self.question),
             "upstream_link::chain" => show_chain(alloc, sheet, self),
-            "upstream_link::ancestors" => sheet.show(&ancestors(alloc, &self.question.name)?),
+            "upstream_link::ancestors" => sheet.show_result(ancestors(alloc, &self.question.name)),
             _ => show_servers(alloc, sheet, call, self),
         }
     }
@@ -80,8 +80,9 @@ impl Tried for Asked {
 /// Does the call of this name twice.
 pub fn twice(alloc: Global, sheet: &mut Sheet, call: &str) -> Result<(), BenchError> {
     let query = query(alloc, QUERY)?;
-    let question = question(alloc)?;
-    let facts = facts(alloc)?;
+    let both = beside(query, question(alloc))?;
+    let all = beside(both, facts(alloc))?;
+    let ((query, question), facts) = all;
     let asked = Asked {
         query,
         question,

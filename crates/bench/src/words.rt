@@ -1,6 +1,7 @@
 //! The words of the command line.
 
 use crate::bench_error::BenchError;
+use crate::tried::after;
 use dns_name::Name;
 use policy_override::{ZoneSets, as_given};
 use std::alloc::Global;
@@ -23,12 +24,23 @@ pub enum Bench {
     Workers(Plan),
 }
 
+fn push_origins(
+    alloc: Global,
+    origins: &mut Vec<Name>,
+    words: &[String],
+) -> Result<(), BenchError> {
+    for word in words {
+        let origin = Name::from_text(alloc, word.as_bytes())?;
+        origins.push(origin)?;
+    }
+    Ok(())
+}
+
 // The zones of the origins that the words name.
 fn read_zones(alloc: Global, words: &[String]) -> Result<ZoneSets, BenchError> {
     let mut origins = Vec::new(alloc);
-    for word in words {
-        origins.push(Name::from_text(alloc, word.as_bytes())?)?;
-    }
+    let done = push_origins(alloc, &mut origins, words);
+    let origins = after(origins, done)?;
     Ok(as_given(alloc, origins)?)
 }
 

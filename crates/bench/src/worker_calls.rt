@@ -6,6 +6,7 @@ use crate::publish_calls::Deed;
 use crate::samples::{CLIENT_ADDR, DENIED_QUERY, QUERY};
 use crate::sheet::Sheet;
 use crate::stream_calls::serve;
+use crate::tried::{after, beside};
 use answer_cache::AnswerCache;
 use dns_name::Octets;
 use edge_io::{Endpoint, ListClock, ListIds, ListLink, ListReplies, ListSink, ListSource};
@@ -42,8 +43,9 @@ fn make_worker<N: StoreName>(
     alloc: Global,
     reader: PolicyReader<N>,
 ) -> Result<ListWorker<N>, AllocError> {
-    let cache = AnswerCache::open(alloc, 4, BuildHasherDefault::new())?;
-    let link = make_link(alloc, 3)?;
+    let cache = AnswerCache::open(alloc, 4, BuildHasherDefault::new());
+    let all = beside(reader, cache)?;
+    let ((reader, cache), link) = beside(all, make_link(alloc, 3))?;
     let ids = ListIds::new(alloc, VecDeque::new(alloc));
     Ok(Worker::new(alloc, reader, cache, link, ids, NoGate))
 }
@@ -61,15 +63,25 @@ fn make_job(alloc: Global, is_denied: bool) -> Result<Job, AllocError> {
     })
 }
 
+fn push_items<N: StoreName>(
+    alloc: Global,
+    is_denied: bool,
+    items: &mut VecDeque<Item<N, ListSource, ListSink>>,
+) -> Result<(), BenchError> {
+    let job = make_job(alloc, is_denied)?;
+    items.push_back(Item::Job(job))?;
+    items.push_back(Item::Stop)?;
+    Ok(())
+}
+
 // The query, and the end.
 fn make_items<N: StoreName>(
     alloc: Global,
     is_denied: bool,
 ) -> Result<ListItems<N, ListSource, ListSink>, BenchError> {
-    let job = make_job(alloc, is_denied)?;
     let mut items = VecDeque::new(alloc);
-    items.push_back(Item::Job(job))?;
-    items.push_back(Item::Stop)?;
+    let done = push_items(alloc, is_denied, &mut items);
+    let items = after(items, done)?;
     Ok(ListItems::new(items))
 }
 
@@ -85,9 +97,9 @@ fn send<N: StoreName, R: Wait>(
     let mut replies: Kept = ListReplies::new(alloc, Vec::new(alloc));
     let mut clock = ListClock::new(alloc, VecDeque::new(alloc));
     let _report = worker.work(rt, &mut items, &mut replies, &mut clock, &mut NoOnward);
-    sheet.say("sent ")?;
+    sheet.say("sent ");
     for reply in &replies.sent {
-        sheet.show(&reply.bytes.as_slice())?;
+        sheet.show(&reply.bytes.as_slice());
     }
     Ok(())
 }
@@ -99,7 +111,7 @@ fn answer<N: StoreName>(
     worker: &mut ListWorker<N>,
 ) -> Result<(), BenchError> {
     let job = make_job(alloc, is_denied)?;
-    sheet.show(&worker.answer(&job, 0)?)
+    sheet.show_result(worker.answer(&job, 0))
 }
 
 fn once<N: StoreName, R: Wait>(

@@ -14,6 +14,7 @@ use crate::bench_error::BenchError;
 use crate::caching::read_cache;
 use crate::serving::{Input, serve};
 use crate::stream::read_stream;
+use crate::tried::{after, beside};
 use crate::words::Plan;
 use dns_name::{Name, Octets};
 use edge_io::{Source, read_frame};
@@ -26,9 +27,11 @@ use std::sync::Wait;
 use std::thread::Threads;
 use std::time::Clock;
 
-// Messages up to an empty one, or to the end of the input.
-fn read_messages<S: Source>(alloc: Global, source: &mut S) -> Result<Vec<Octets>, BenchError> {
-    let mut messages = Vec::new(alloc);
+fn push_messages<S: Source>(
+    alloc: Global,
+    messages: &mut Vec<Octets>,
+    source: &mut S,
+) -> Result<(), BenchError> {
     for _turn in 0..u64::MAX {
         let Some(message) = read_frame(alloc, source)? else {
             break;
@@ -38,24 +41,31 @@ fn read_messages<S: Source>(alloc: Global, source: &mut S) -> Result<Vec<Octets>
         }
         messages.push(message)?;
     }
-    Ok(messages)
+    Ok(())
+}
+
+// Messages up to an empty one, or to the end of the input.
+fn read_messages<S: Source>(alloc: Global, source: &mut S) -> Result<Vec<Octets>, BenchError> {
+    let mut messages = Vec::new(alloc);
+    let done = push_messages(alloc, &mut messages, source);
+    after(messages, done)
 }
 
 // The transfer, and the messages of clients.
 fn read_input<S: Source>(alloc: Global, source: &mut S) -> Result<Input, BenchError> {
     let stream = read_stream(alloc, source)?;
-    let messages = read_messages(alloc, source)?;
+    let (stream, messages) = beside(stream, read_messages(alloc, source))?;
     Ok(Input { stream, messages })
 }
 
 // A store of two zones with so many readers.
 fn store(alloc: Global, plan: Plan) -> Result<Parts, BenchError> {
-    let first = Name::from_text(alloc, b"rpz.example")?;
-    let second = Name::from_text(alloc, b"two.example")?;
-    let origins = vec![in alloc; first, second]?;
     if plan.workers == 0 || plan.workers > 16 {
         return Err(BenchError::Words);
     }
+    let first = Name::from_text(alloc, b"rpz.example")?;
+    let (first, second) = beside(first, Name::from_text(alloc, b"two.example"))?;
+    let origins = vec![in alloc; first, second]?;
     Ok(start_store(as_given(alloc, origins)?, plan.workers))
 }
 

@@ -4,7 +4,7 @@ use crate::bench_error::BenchError;
 use crate::samples::{KINDS, origin, steps, whole};
 use crate::sheet::Sheet;
 use crate::shown::{show_found, show_marked, show_zone};
-use crate::tried::{Tried, tried_twice};
+use crate::tried::{Tried, beside, made_twice};
 use std::alloc::Global;
 use trigger_codec::Kind;
 use zone_index::Zone;
@@ -32,8 +32,16 @@ fn next_transfer(alloc: Global, call: &str) -> Result<Transfer, BenchError> {
 /// A zone of the serial 1 that has these rows.
 pub fn loaded(alloc: Global, records: &[&[u8]]) -> Result<Zone, BenchError> {
     let origin = origin(alloc)?;
-    let transfer = whole(alloc, 1, records)?;
+    let (origin, transfer) = beside(origin, whole(alloc, 1, records))?;
     Ok(Zone::new(origin).apply(alloc, transfer)?)
+}
+
+// The zone before a call.
+fn make_zone(alloc: Global, call: &str) -> Result<Zone, BenchError> {
+    match call {
+        "zone_index::Zone::apply::whole" => Ok(Zone::new(origin(alloc)?)),
+        _ => loaded(alloc, KINDS),
+    }
 }
 
 fn of_rules(alloc: Global, sheet: &mut Sheet, call: &str, zone: &Zone) -> Result<(), BenchError> {
@@ -43,23 +51,15 @@ fn of_rules(alloc: Global, sheet: &mut Sheet, call: &str, zone: &Zone) -> Result
     let rules = index.rules();
     match call {
         "zone_index::Rules::patterns_by_key" => {
-            show_found(
-                sheet,
-                rules.patterns_by_key(alloc, Kind::Qname, 7u32)?.as_slice(),
-            )
+            show_found(sheet, rules.patterns_by_key(alloc, Kind::Qname, 7u32))
         }
-        "zone_index::Rules::prefixes" => {
-            show_marked(
-                sheet,
-                rules.prefixes(alloc, Kind::ClientIp, 7u32)?.as_slice(),
-            )
-        }
-        _ => Err(BenchError::Words),
+        _ => show_marked(sheet, rules.prefixes(alloc, Kind::ClientIp, 7u32)),
     }
 }
 
 fn apply(alloc: Global, sheet: &mut Sheet, call: &str, zone: &Zone) -> Result<(), BenchError> {
-    let next = zone.apply(alloc, next_transfer(alloc, call)?)?;
+    let transfer = next_transfer(alloc, call)?;
+    let next = zone.apply(alloc, transfer)?;
     show_zone(alloc, sheet, &next)
 }
 
@@ -71,7 +71,7 @@ fn apply_changes(
 ) -> Result<(), BenchError> {
     let transfer = next_transfer(alloc, call)?;
     let (next, changes) = zone.apply_changes(alloc, transfer, 100)?;
-    sheet.show(&changes)?;
+    sheet.show(&changes);
     show_zone(alloc, sheet, &next)
 }
 
@@ -90,9 +90,5 @@ impl Tried for Zone {
 
 /// Does the call of this name twice.
 pub fn twice(alloc: Global, sheet: &mut Sheet, call: &str) -> Result<(), BenchError> {
-    let zone = match call {
-        "zone_index::Zone::apply::whole" => Zone::new(origin(alloc)?),
-        _ => loaded(alloc, KINDS)?,
-    };
-    tried_twice(alloc, sheet, call, zone)
+    made_twice(alloc, sheet, call, make_zone(alloc, call))
 }
