@@ -1,11 +1,10 @@
 //! Calls of zones that are plain lists of rows, of steps, and of sets of keys.
 
-ghost use Rattle.std.specs.Prelude.{◌≡◌, true, OnErr, OnOk};
-ghost use Rattle.dns_record.specs.Serial.{is_newer};
+ghost use Rattle.std.specs.Prelude.{◌≡◌, true};
 ghost use Rattle.zone_rows.specs.Steps.{ends_at};
 
 use crate::bench_error::BenchError;
-use crate::samples::{DENIED, DROPPED, KINDS, origin, rows, soa, step, steps, whole};
+use crate::samples::{DENIED, DROPPED, KINDS, origin, push_step, rows, soa, steps, whole};
 use crate::sheet::Sheet;
 use crate::shown::{show_rows, show_steps};
 use crate::tried::{Tried, beside, changed_twice, made_twice};
@@ -57,20 +56,6 @@ impl Tried for PlainZone {
     }
 }
 
-// Puts a step between these serials at the end.
-fn push(alloc: Global, steps: &mut Steps, from: u32, to: u32) -> Result<(), BenchError>
-    requires follows { ends_at steps.old from ≡ true }
-    requires newer { is_newer from to ≡ true }
-    ensures ok { OnOk result (ends_at steps.new to ≡ true) }
-    ensures err { OnErr result (steps.new ≡ steps.old) }
-{
-    let step = step(alloc, from, to)?;
-    if step.old.serial != from || step.new.serial != to {
-        return Err(BenchError::Empty);
-    }
-    Ok(steps.push(step)?)
-}
-
 // What a push came to.
 fn settle_push(
     sheet: &mut Sheet,
@@ -87,14 +72,14 @@ fn settle_push(
 fn push_both(alloc: Global, sheet: &mut Sheet, steps: &mut Steps) -> Result<(), BenchError>
     requires { ends_at steps.old 1 ≡ true }
 {
-    let second = match push(alloc, steps, 1, 2) {
+    let second = match push_step(alloc, steps, 1, 2) {
         Ok(()) => {
             settle_push(sheet, steps, Ok(()))?;
-            push(alloc, steps, 2, 3)
+            push_step(alloc, steps, 2, 3)
         }
         Err(error) => {
             sheet.settle(Err(error))?;
-            push(alloc, steps, 1, 2)
+            push_step(alloc, steps, 1, 2)
         }
     };
     settle_push(sheet, steps, second)

@@ -1,5 +1,9 @@
 //! Small values that the calls are tried with.
 
+ghost use Rattle.std.specs.Prelude.{◌≡◌, true, OnErr, OnOk};
+ghost use Rattle.dns_record.specs.Serial.{is_newer};
+ghost use Rattle.zone_rows.specs.Steps.{ends_at};
+
 use crate::bench_error::BenchError;
 use crate::tried::{after, beside};
 use dns_message::{Incoming, Query, Question, classify};
@@ -159,8 +163,8 @@ fn soas(alloc: Global, one: u32, other: u32) -> Result<(Soa, Soa), AllocError> {
     beside(first, soa(alloc, other))
 }
 
-/// From one serial to another, without `bad.example`, and with the address of `x.example`.
-pub fn step(alloc: Global, from: u32, to: u32) -> Result<Step, BenchError> {
+// From one serial to another, without `bad.example`, and with the address of `x.example`.
+fn step(alloc: Global, from: u32, to: u32) -> Result<Step, BenchError> {
     let deleted = rows(alloc, &[DENIED])?;
     let both = beside(deleted, rows(alloc, &[FRESH]))?;
     let all = beside(both, soas(alloc, from, to))?;
@@ -173,14 +177,24 @@ pub fn step(alloc: Global, from: u32, to: u32) -> Result<Step, BenchError> {
     })
 }
 
-/// Steps from the serial 1 to 2, as one.
-pub fn steps(alloc: Global) -> Result<Transfer, BenchError> {
-    let step = step(alloc, 1, 2)?;
-    let mut steps = Steps::new(alloc);
-    if step.old.serial != 1 || step.new.serial != 2 {
+/// Puts a step between these serials at the end.
+pub fn push_step(alloc: Global, steps: &mut Steps, from: u32, to: u32) -> Result<(), BenchError>
+    requires follows { ends_at steps.old from ≡ true }
+    requires newer { is_newer from to ≡ true }
+    ensures ok { OnOk result (ends_at steps.new to ≡ true) }
+    ensures err { OnErr result (steps.new ≡ steps.old) }
+{
+    let step = step(alloc, from, to)?;
+    if step.old.serial != from || step.new.serial != to {
         return Err(BenchError::Empty);
     }
-    let done = steps.push(step);
+    Ok(steps.push(step)?)
+}
+
+/// Steps from the serial 1 to 2, as one.
+pub fn steps(alloc: Global) -> Result<Transfer, BenchError> {
+    let mut steps = Steps::new(alloc);
+    let done = push_step(alloc, &mut steps, 1, 2);
     let steps = after(steps, done)?;
     Ok(Transfer::Steps(steps))
 }
