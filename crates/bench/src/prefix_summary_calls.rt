@@ -9,7 +9,6 @@ use crate::tried::{Tried, beside, tried_twice};
 use ip_prefix::{Addr, Prefix};
 use std::alloc::{AllocError, Global};
 use summary_index::{PrefixSummary, Zones, merged_prefixes};
-use trie_keys::Marked;
 use trigger_codec::Kind;
 use zone_index::{Rules, Zone};
 
@@ -51,15 +50,16 @@ fn listed(alloc: Global, zone: &Zone, zones: Zones) -> Result<PrefixSummary, Ben
     Ok(PrefixSummary::listed(alloc, zones, &entries)?)
 }
 
-// The prefixes of both.
-fn all_prefixes(
+// A summary of the prefixes of the rules of two zones.
+fn merge(
     alloc: Global,
     first: &Rules<'_>,
     second: &Rules<'_>,
-) -> Result<Vec<(Prefix, Marked<Zones, bool>)>, AllocError> {
+) -> Result<PrefixSummary, AllocError> {
     let own = first.prefixes(alloc, Kind::ClientIp, zone_one())?;
-    let (own, other) = beside(own, second.prefixes(alloc, Kind::ClientIp, zone_two()))?;
-    merged_prefixes(alloc, &own, &other)
+    let other = second.prefixes(alloc, Kind::ClientIp, zone_two())?;
+    let all = merged_prefixes(alloc, &own, &other)?;
+    PrefixSummary::listed(alloc, zone_one().with(2), &all)
 }
 
 // A summary of the prefixes of both.
@@ -67,8 +67,7 @@ fn both_listed(alloc: Global, both: &Both) -> Result<PrefixSummary, BenchError> 
     let (Some(first), Some(second)) = (both.first.index(), both.second.index()) else {
         return Err(BenchError::Empty);
     };
-    let all = all_prefixes(alloc, first.rules(), second.rules())?;
-    Ok(PrefixSummary::listed(alloc, zone_one().with(2), &all)?)
+    Ok(merge(alloc, first.rules(), second.rules())?)
 }
 
 // A summary where the zones that have this prefix are those.

@@ -74,7 +74,7 @@ fn merge(
     second: &NameSummary,
 ) -> Result<NameSummary, AllocError> {
     let own = first.without_zone(32)?;
-    let (own, other) = beside(own, second.without_zone(32))?;
+    let other = second.without_zone(32)?;
     let all = merged(alloc, &own, &other)?;
     NameSummary::listed(alloc, zone_one().with(2), &all)
 }
