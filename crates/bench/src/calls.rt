@@ -92,7 +92,7 @@ fn of_queries(alloc: Global, sheet: &mut Sheet, call: &str) -> Result<(), BenchE
         "reply_build" => reply_calls::twice(alloc, sheet, call),
         "query_session" => session_calls::twice(alloc, sheet, call),
         "rpz_core" => core_calls::twice(alloc, sheet, call),
-        "script_codec" => script_calls::twice(alloc, sheet, call),
+        "script_codec" | "policy_override" => script_calls::twice(alloc, sheet, call),
         "edge_io" => edge_calls::twice(alloc, sheet, call),
         _ => of_zones(alloc, sheet, call),
     }
