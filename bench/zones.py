@@ -1,11 +1,12 @@
 #!/usr/bin/env python3
-"""What several policy zones cost: queries over 1, 8 and 32 zones, and the summary that tells which of them can match.
+"""What several policy zones cost: queries over 1, 8, 32 and 64 zones, and the summary that tells which of them can match.
 
     python3 bench/zones.py BENCH RPZ [--before OLD_BENCH] [--rules N] [--cpu N]
 
-BENCH and RPZ are the built programs bench and rpz; OLD_BENCH an earlier bench, which then takes turns with the new one.
+BENCH and RPZ are the built programs bench and rpz; OLD_BENCH an earlier bench, which takes 32 zones at most, and then takes turns with
+the new one.
 
-The first table: queries a second over 1, 8 and 32 zones of 1,000 rules each (those of queries.py), for exact and wildcard hits in the
+The first table: queries a second over 1, 8, 32 and 64 zones of 1,000 rules each (those of queries.py), for exact and wildcard hits in the
 last zone, which alone has rules for these names; for names that each zone has, where the first one decides; and for passes, which no
 zone has a rule for. Each is the best of some turns, in each of which all of them are run once; behind it stands how many times as long
 a query takes as over one zone in the same turns.
@@ -30,7 +31,8 @@ import time
 from queries import BENCH_QUERIES, MANY_RULES, bench_seconds, rules, words_of, write_lines, write_transfer
 from stream import ORIGIN, label, write_steps, write_zone
 
-ZONES = (1, 8, 32)
+ZONES = (1, 8, 32, 64)
+BEFORE_ZONES = (1, 8, 32)  # of an earlier program
 ROUNDS = 5
 LOADS = 3
 LINE_ROWS = 1_500  # rows of a line of a script
@@ -80,6 +82,11 @@ def origins(zones):
     return [f"z{zone:02}.example" for zone in range(1, zones + 1)]
 
 
+def counts_of(name, before):
+    """Over how many zones this program is asked."""
+    return BEFORE_ZONES if name == before else ZONES
+
+
 def query_table(program, before):
     programs = [program] + [before] * bool(before)
     for title, write in CASES.items():
@@ -89,16 +96,16 @@ def query_table(program, before):
                 paths[zones] = os.path.join(folder, str(zones))
                 with open(paths[zones], "wb") as out:
                     write(out, zones)
-            times = {(name, zones): [] for name in programs for zones in ZONES}
+            times = {(name, zones): [] for name in programs for zones in counts_of(name, before)}
             for _ in range(ROUNDS):
                 for name, zones in times:
                     times[name, zones].append(bench_seconds(words_of(name, *origins(zones)), paths[zones], zones * MANY_RULES))
         best = {key: min(all_times) for key, all_times in times.items()}
         for name in programs:
-            said = [f"{BENCH_QUERIES / best[name, zones]:.0f} over {zones} ({best[name, zones] / best[name, 1]:.2f})" for zones in ZONES]
+            said = [f"{BENCH_QUERIES / best[name, zones]:.0f} over {zones} ({best[name, zones] / best[name, 1]:.2f})" for zones in counts_of(name, before)]
             print(f"{title}{' (before)' if name == before else ''}: queries/s {', '.join(said)}", flush=True)
         if before:
-            said = [f"{best[program, zones] / best[before, zones]:.3f} with {zones}" for zones in ZONES]
+            said = [f"{best[program, zones] / best[before, zones]:.3f} with {zones}" for zones in BEFORE_ZONES]
             print(f"  the time of the earlier program, zones: {', '.join(said)}", flush=True)
 
 

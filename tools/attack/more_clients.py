@@ -284,7 +284,7 @@ def allow_descriptors(count):
 @case(preexec_fn=allow_descriptors(64))
 def few_descriptors(it):
     """300 clients that say nothing, where 64 descriptors are allowed: it says so at its start, and all others are served."""
-    told = "rpz: 64 descriptors are allowed, and 2112 may be wanted (ulimit -n)"
+    told = "rpz: 64 descriptors are allowed, and 2144 may be wanted (ulimit -n)"
     fail_if(it.server.complaints() != [told], f"standard error has {it.server.complaints()}")
     with connections(it.port, 300):
         yield

@@ -5,7 +5,7 @@ from dataclasses import dataclass, field
 
 import rules
 
-MOST_LINE, MOST_MESSAGE, MOST_ZONES, MOST_NUMBER, WORKERS = 200_000, 65_535, 32, 4_294_967_295, 16
+MOST_LINE, MOST_MESSAGE, MOST_ZONES, MOST_NUMBER, WORKERS = 200_000, 65_535, 64, 4_294_967_295, 16
 FORMS = {
     b"zone": ("name",), b"primary": ("zone", "address"), b"xfer": ("zone", "octets"), b"full": ("zone",),
     b"query": ("worker", "transport", "address", "message"), b"give": ("worker", "message"), b"fail": ("worker",),

@@ -34,7 +34,7 @@ pub enum BenchError {
     },
     /// There is no transfer.
     Empty,
-    /// There are more than 32 zones, or a transfer was not taken.
+    /// There are more than 64 zones, or a transfer was not taken.
     NotTaken,
     /// The line is neither `query` nor `give`.
     OtherLine,

@@ -19,6 +19,7 @@ use rpz_core::{Core, Event, Output};
 use script_codec::{Line, ScriptState, read_unnumbered};
 use std::alloc::Global;
 use std::io;
+use zone_rows::ZONE_LIMIT;
 
 // So many bytes of messages, and no more than the longest one beyond, are written at once.
 const PIECE: usize = 262_144;
@@ -60,10 +61,10 @@ fn start<S: Source>(
     zones: &ZoneSets,
     source: &mut S,
 ) -> Result<(Core, usize), BenchError> {
-    if zones.len() > 32 {
+    if zones.len() > ZONE_LIMIT {
         return Err(BenchError::NotTaken);
     }
-    let primaries = [None; 32];
+    let primaries = [None; ZONE_LIMIT];
     let mut core = Core::start(alloc, zones.as_slice(), &primaries[..zones.len()])?;
     let total = load_all(alloc, &mut core, zones.len() as u32, source);
     beside(core, total)

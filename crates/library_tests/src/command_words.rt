@@ -278,12 +278,12 @@ fn other_lines_ask_for_nothing(rt: HostRuntime) {
 }
 
 #[test]
-fn at_most_32_zones_are_taken(rt: HostRuntime) {
-    let most = line_of_zones(rt.alloc(), 32).expect(&rt, "no error");
+fn at_most_64_zones_are_taken(rt: HostRuntime) {
+    let most = line_of_zones(rt.alloc(), 64).expect(&rt, "no error");
     let settings = served(rt.alloc(), most.as_str())
         .expect(&rt, "no error")
         .expect(&rt, "no server");
-    assert_same(&rt, settings.zones.len(), 32);
-    let more = line_of_zones(rt.alloc(), 33).expect(&rt, "no error");
+    assert_same(&rt, settings.zones.len(), 64);
+    let more = line_of_zones(rt.alloc(), 65).expect(&rt, "no error");
     assert!(rt; matches!(asked(rt.alloc(), more.as_str()), Err(WordsError::Usage)));
 }

@@ -14,7 +14,7 @@ use std::alloc::{AllocError, Global};
 use std::marker::Model;
 use std::sync::Wait;
 
-/// The zones of a server, at most 32: what is published of them, when each is polled, and the transfers that are under way, at most one
+/// The zones of a server, at most 64: what is published of them, when each is polled, and the transfers that are under way, at most one
 /// of each zone. It is not `Drop`: end it by [`Feeder::close`].
 ///
 /// It reads no clock: seconds are given. What comes of the transfers that it orders are wakes of the wires.
@@ -91,7 +91,7 @@ impl<N: StoreName> Feeder<N> {
         ensures { IfOk result (λ feeder.
             feeder ≡ first_feeder origins.items primaries.items publisher now) }
     {
-        // called for its clause: there are at most 32 zones
+        // called for its clause: there are at most 64 zones
         let _count = publisher.zone_count();
         match first_tables(alloc, &publisher, &primaries, now) {
             Ok(

@@ -221,7 +221,7 @@ impl<N: StoreName> Publisher<N> {
         zone_of(&self.latest.version, number).origin()
     }
 
-    /// How many zones the policy has, at most 32.
+    /// How many zones the policy has, at most 64.
     pub fn zone_count(&self) -> usize
         ensures count { result ≡ length self.now.version.zones }
         ensures limit { result ≤ ZONE_LIMIT }

@@ -199,7 +199,7 @@ impl<N: StoreName> PolicyReader<N> {
     }
 
     /// Takes the version that is published. It waits for nobody. Where that is the one that it took before, it takes no memory but
-    /// the count of its holders, which no other thread counts; else as much as there are zones, at most 32. It answers an error where
+    /// the count of its holders, which no other thread counts; else as much as there are zones, at most 64. It answers an error where
     /// memory runs out, and is as it was then.
     pub fn pin(&mut self) -> Result<Arc<Snapshot, Global>, AllocError>
         ensures stands { IfOk result

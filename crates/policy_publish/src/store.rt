@@ -45,7 +45,7 @@ impl Model for Parts {
         (length p.settings ≤ ZONE_LIMIT) × (0 < p.readers) × (p.readers ≤ READER_LIMIT) };
 }
 
-/// A store with zones of these settings in this order, at most 32, and so many readers, 1 to 1,024. It waits for nobody and takes no memory.
+/// A store with zones of these settings in this order, at most 64, and so many readers, 1 to 1,024. It waits for nobody and takes no memory.
 pub fn start_store(settings: ZoneSets, readers: usize) -> Parts
     requires settings { length settings ≤ ZONE_LIMIT }
     requires readers { (0 < readers) × (readers ≤ READER_LIMIT) }

@@ -42,7 +42,7 @@ module _ {Y : Type 0} (g : Y → PlainZone) (ys : List Y) (all : PlainZones) (ar
   there : zone_at all (n + 1) ≡ Some (g y)
   there = ap (λ (zones : PlainZones). zone_at zones (n + 1)) (sym are) ∙ zone_here g ys k (n + 1) y lt is (omega (arith, count))
 
-  pub within : n + 1 ≤ 32
+  pub within : n + 1 ≤ ZONE_LIMIT
   within = omega (arith, count, lt, limit)
 
   -- whether the zone has rules of a kind
@@ -78,7 +78,7 @@ by_place zones k n zone e at =
     at_place zones n (omega (arith, e)) ∙ ap (slice_get zones) place ∙ at
 
 module _ {Y : Type 0} (g : Y → PlainZone) (ys : List Y) (all : PlainZones) (are : map g ys ≡ all) (limit : length ys ≤ ZONE_LIMIT) (s : PlainSummaries) (knows : KnowsAll all s) where
-  below : (k : ℕ) (zone : PlainZone) → slice_get all k ≡ Some zone → k + 1 ≤ 32
+  below : (k : ℕ) (zone : PlainZone) → slice_get all k ≡ Some zone → k + 1 ≤ ZONE_LIMIT
   below k zone at = omega (arith, slice_get_within all k zone at, ap length are, length-map ys g, limit)
 
   -- no zone has rules of the kind

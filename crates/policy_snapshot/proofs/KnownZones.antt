@@ -27,6 +27,7 @@ use Rattle.policy_snapshot.specs.Summed.{KnowsZone, PlainSummaries, content_entr
 use Rattle.policy_snapshot.specs.declared.new_zone.NewZone.{NewZone}
 use Rattle.policy_snapshot.proofs.ListedRules.{no_zone}
 use Rattle.policy_snapshot.proofs.NewZones.{at_place}
+use Rattle.zone_rows.specs.declared.zone.TheConstants.{ZONE_LIMIT}
 
 some_is : (x y : PlainZone) → Some x ≡ Some y → x ≡ y
 some_is x y e = cc e
@@ -72,7 +73,7 @@ having_by n origin content s knows kinds.NsDname = knows.nsdname.having ∙ sym 
 having_by n origin content s knows kinds.NsIp = knows.nsip.having ∙ sym (some_any (content_entries origin content).nsip)
 
 -- the zones that have rules of a kind
-pub having_is : (zones : PlainZones) (s : PlainSummaries) (n : ℕ) (zone : PlainZone) (kind : Kind) → KnowsAll zones s → 1 ≤ n → n ≤ 32 → zone_at zones n ≡ Some zone
+pub having_is : (zones : PlainZones) (s : PlainSummaries) (n : ℕ) (zone : PlainZone) (kind : Kind) → KnowsAll zones s → 1 ≤ n → n ≤ ZONE_LIMIT → zone_at zones n ≡ Some zone
     → has_zone (zones_having s kind) n ≡ has_kind_in kind zone.origin zone.content
 having_is zones s n zone kind knows some within e =
     having_by n zone.origin zone.content s (knows.each n zone some within e) kind ∙ sym (kind_in kind zone.origin zone.content)
@@ -135,7 +136,7 @@ module _ (zones : PlainZones) (s : PlainSummaries) where
 
 -- ---- a zone in place of another one
 
-pub is_there : (next : NewZone) → length (zones_before next) ≤ 32 → IsSome (zone_at (zones_before next) next.number) → IsThere next
+pub is_there : (next : NewZone) → length (zones_before next) ≤ ZONE_LIMIT → IsSome (zone_at (zones_before next) next.number) → IsThere next
 is_there next limit there =
     let at = number_there (zones_before next) next.number there in
     record { some = at.0; within = at.1; limit = limit }

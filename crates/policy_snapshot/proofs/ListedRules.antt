@@ -15,6 +15,7 @@ use Rattle.summary_index.specs.Zones.{has_zone}
 use Rattle.zone_rows.specs.declared.zone.PlainZone.{PlainZone}
 use Rattle.policy_snapshot.specs.Policy.{PlainZones, zone_at}
 use Rattle.policy_snapshot.proofs.NewZones.{new_is, number_within, some_there, stays}
+use Rattle.zone_rows.specs.declared.zone.TheConstants.{ZONE_LIMIT}
 
 -- ---- numbers and tests
 
@@ -86,9 +87,9 @@ one_of P (y ∷ ys) (suc k) x all lt is = one_of P ys k x all.1 (omega (arith, l
 
 module _ {K : Type 0} (order : K → K → Ordering) (valid : K → Type 0) (same : (a b : K) → valid a → valid b → is_at (order a) b ≡ true → a ≡ b) where
   here_by : (b : Bool) (q : K) → valid q → (number : ℕ) (has : Bool) (rule : K → Bool) (before after : List (K × Standing)) → has ≡ rule q
-      → ((n : ℕ) → 1 ≤ n → n ≤ 32 → has_zone (zones_at order q after) n ≡ cond (n == number) has (has_zone (zones_at order q before) n))
+      → ((n : ℕ) → 1 ≤ n → n ≤ ZONE_LIMIT → has_zone (zones_at order q after) n ≡ cond (n == number) has (has_zone (zones_at order q before) n))
       → ((p : K) → is_at (order p) q ≡ false → zones_at order p after ≡ zones_at order p before)
-      → (p : K) → valid p → (n : ℕ) → 1 ≤ n → n ≤ 32 → is_at (order p) q ≡ b
+      → (p : K) → valid p → (n : ℕ) → 1 ≤ n → n ≤ ZONE_LIMIT → is_at (order p) q ≡ b
       → has_zone (zones_at order p after) n ≡ cond (n == number && b) (rule p) (has_zone (zones_at order p before) n)
   here_by true q is number has rule before after has_is here elsewhere p valid_p n some within at =
       let e : p ≡ q = same p q valid_p is at in
@@ -102,9 +103,9 @@ module _ {K : Type 0} (order : K → K → Ordering) (valid : K → Type 0) (sam
 
   -- what stands once the zone of a number has a rule at a key, or has none, as it does there
   pub edited_here : (q : K) → valid q → (number : ℕ) (has : Bool) (rule : K → Bool) (before after : List (K × Standing)) → has ≡ rule q
-      → ((n : ℕ) → 1 ≤ n → n ≤ 32 → has_zone (zones_at order q after) n ≡ cond (n == number) has (has_zone (zones_at order q before) n))
+      → ((n : ℕ) → 1 ≤ n → n ≤ ZONE_LIMIT → has_zone (zones_at order q after) n ≡ cond (n == number) has (has_zone (zones_at order q before) n))
       → ((p : K) → is_at (order p) q ≡ false → zones_at order p after ≡ zones_at order p before)
-      → (p : K) → valid p → (n : ℕ) → 1 ≤ n → n ≤ 32
+      → (p : K) → valid p → (n : ℕ) → 1 ≤ n → n ≤ ZONE_LIMIT
       → has_zone (zones_at order p after) n ≡ cond (n == number && is_at (order p) q) (rule p) (has_zone (zones_at order p before) n)
   edited_here q is number has rule before after has_is here elsewhere p valid_p n some within =
       here_by (is_at (order p) q) q is number has rule before after has_is here elsewhere p valid_p n some within refl
@@ -120,17 +121,17 @@ module _ {K A : Type 0} (order : K → K → Ordering) (valid : K → Type 0) (r
   abbrev pub has_some : PlainZone → Bool
   has_some zone = list_any (λ _. true) (rules zone)
 
-  -- the summary knows the rules of each zone of the policy, whose number is from 1 to 32
+  -- the summary knows the rules of each zone of the policy, whose number is from 1 to 64
   abbrev pub KnowsEach : PlainZones → PlainSummary K → Type 0
-  KnowsEach zones s = (n : ℕ) (zone : PlainZone) → 1 ≤ n → n ≤ 32 → zone_at zones n ≡ Some zone → Knows order valid n (rules zone) s
+  KnowsEach zones s = (n : ℕ) (zone : PlainZone) → 1 ≤ n → n ≤ ZONE_LIMIT → zone_at zones n ≡ Some zone → Knows order valid n (rules zone) s
 
   -- these zones of the policy have rules
   abbrev pub HaveSome : PlainZones → ℕ → Type 0
-  HaveSome zones having = (n : ℕ) (zone : PlainZone) → 1 ≤ n → n ≤ 32 → zone_at zones n ≡ Some zone → has_zone having n ≡ has_some zone
+  HaveSome zones having = (n : ℕ) (zone : PlainZone) → 1 ≤ n → n ≤ ZONE_LIMIT → zone_at zones n ≡ Some zone → has_zone having n ≡ has_some zone
 
   -- at each key stand, by number, the zones of the policy that have a rule there
   abbrev pub StandEach : PlainZones → (K → ℕ → Bool) → Type 0
-  StandEach zones at = (key : K) → valid key → (n : ℕ) (zone : PlainZone) → 1 ≤ n → n ≤ 32 → zone_at zones n ≡ Some zone → at key n ≡ has_at zone key
+  StandEach zones at = (key : K) → valid key → (n : ℕ) (zone : PlainZone) → 1 ≤ n → n ≤ ZONE_LIMIT → zone_at zones n ≡ Some zone → at key n ≡ has_at zone key
 
   none_at : (zone : PlainZone) (key : K) → has_some zone ≡ false → has_at zone key ≡ false
   none_at zone key none = ap (λ (l : List (K × A)). is_some (lookup (is_at (order key)) l)) (none_is (rules zone) none)
@@ -156,14 +157,14 @@ module _ {K A : Type 0} (order : K → K → Ordering) (valid : K → Type 0) (r
     after = slice_set zones (number - 1) new
 
     known_by : (b : Bool) (s : PlainSummary K) → Knows order valid number (rules new) s → KnowsEach zones s
-        → (n : ℕ) (zone : PlainZone) → (n == number) ≡ b → 1 ≤ n → n ≤ 32 → zone_at after n ≡ Some zone → Knows order valid n (rules zone) s
+        → (n : ℕ) (zone : PlainZone) → (n == number) ≡ b → 1 ≤ n → n ≤ ZONE_LIMIT → zone_at after n ≡ Some zone → Knows order valid n (rules zone) s
     known_by true s here others n zone at some within e =
         subst (λ (m : ℕ). Knows order valid m (rules zone) s) (sym (eqb-true n number at))
         (subst (λ (z : PlainZone). Knows order valid number (rules z) s) (new_is zones number n new low some zone at e) here)
     known_by false s here others n zone at some within e = others n zone some within (sym (stays zones number n new low some at) ∙ e)
 
     -- where the zone has no rules and had none, all is known as it was
-    pub known_as_before : (s : PlainSummary K) → number ≤ 32 → KnowsEach zones s → has_zone s.having number ≡ false → has_some new ≡ false → KnowsEach after s
+    pub known_as_before : (s : PlainSummary K) → number ≤ ZONE_LIMIT → KnowsEach zones s → has_zone s.having number ≡ false → has_some new ≡ false → KnowsEach after s
     known_as_before s limit knows had has n zone some within e =
         let old = some_there zones number low there in
         let known = knows number old.0 low limit old.1 in
@@ -171,25 +172,25 @@ module _ {K A : Type 0} (order : K → K → Ordering) (valid : K → Type 0) (r
         known_by (n == number) s (subst (λ (l : List (K × A)). Knows order valid number l s) same known) knows n zone refl some within e
 
     have_by : (b : Bool) (having : ℕ) (has : Bool) (s : PlainSummary K) → KnowsEach zones s → has ≡ has_some new
-        → (n : ℕ) (zone : PlainZone) → (n == number) ≡ b → has_zone having n ≡ cond b has (has_zone s.having n) → 1 ≤ n → n ≤ 32 → zone_at after n ≡ Some zone → has_zone having n ≡ has_some zone
+        → (n : ℕ) (zone : PlainZone) → (n == number) ≡ b → has_zone having n ≡ cond b has (has_zone s.having n) → 1 ≤ n → n ≤ ZONE_LIMIT → zone_at after n ≡ Some zone → has_zone having n ≡ has_some zone
     have_by true having has s knows is n zone at w some within e = w ∙ is ∙ ap has_some (new_is zones number n new low some zone at e)
     have_by false having has s knows is n zone at w some within e = w ∙ (knows n zone some within (sym (stays zones number n new low some at) ∙ e)).having
 
     -- the zones that have rules then
     pub have_after : (having : ℕ) (has : Bool) (s : PlainSummary K) → KnowsEach zones s → has ≡ has_some new
-        → ((n : ℕ) → 1 ≤ n → n ≤ 32 → has_zone having n ≡ cond (n == number) has (has_zone s.having n)) → HaveSome after having
+        → ((n : ℕ) → 1 ≤ n → n ≤ ZONE_LIMIT → has_zone having n ≡ cond (n == number) has (has_zone s.having n)) → HaveSome after having
     have_after having has s knows is with n zone some within e = have_by (n == number) having has s knows is n zone refl (with n some within) some within e
 
     relisted_by : (b : Bool) (at : K → ℕ → Bool) (s : PlainSummary K) → KnowsEach zones s → s.is_listed ≡ true
         → (key : K) → valid key → (n : ℕ) (zone : PlainZone) → (n == number) ≡ b → at key n ≡ ((not b && has_zone (zones_at order key s.triggers) n) || (b && has_at new key))
-        → 1 ≤ n → n ≤ 32 → zone_at after n ≡ Some zone → at key n ≡ has_at zone key
+        → 1 ≤ n → n ≤ ZONE_LIMIT → zone_at after n ≡ Some zone → at key n ≡ has_at zone key
     relisted_by true at s knows listed key is n zone here w some within e = w ∙ ap (λ (z : PlainZone). has_at z key) (new_is zones number n new low some zone here e)
     relisted_by false at s knows listed key is n zone here w some within e =
         w ∙ or_false (has_zone (zones_at order key s.triggers) n) ∙ (knows n zone some within (sym (stays zones number n new low some here) ∙ e)).exact listed key is
 
     -- what stands of the others, and the rules of the zone
     pub stand_relisted : (at : K → ℕ → Bool) (s : PlainSummary K) → KnowsEach zones s → s.is_listed ≡ true
-        → ((key : K) → valid key → (n : ℕ) → 1 ≤ n → n ≤ 32 → at key n ≡ ((not (n == number) && has_zone (zones_at order key s.triggers) n) || (n == number && has_at new key)))
+        → ((key : K) → valid key → (n : ℕ) → 1 ≤ n → n ≤ ZONE_LIMIT → at key n ≡ ((not (n == number) && has_zone (zones_at order key s.triggers) n) || (n == number && has_at new key)))
         → StandEach after at
     stand_relisted at s knows listed merged key is n zone some within e = relisted_by (n == number) at s knows listed key is n zone refl (merged key is n some within) some within e
 
@@ -197,7 +198,7 @@ module _ {K A : Type 0} (order : K → K → Ordering) (valid : K → Type 0) (r
 
   -- At each key stand those of the first so many zones that have a rule there.
   pub record ListedTo (zones : PlainZones) (k : ℕ) (at : K → ℕ → Bool) : Type 0 where
-    pub each : (key : K) → valid key → (n : ℕ) (zone : PlainZone) → 1 ≤ n → n ≤ 32 → zone_at zones n ≡ Some zone → at key n ≡ (nat_le n k && has_at zone key)
+    pub each : (key : K) → valid key → (n : ℕ) (zone : PlainZone) → 1 ≤ n → n ≤ ZONE_LIMIT → zone_at zones n ≡ Some zone → at key n ≡ (nat_le n k && has_at zone key)
 
   pub listed_none : (zones : PlainZones) (at : K → ℕ → Bool) → ((key : K) (n : ℕ) → at key n ≡ false) → ListedTo zones 0 at
   listed_none zones at none = record { each = λ key is n zone some within e. none key n ∙ ap (λ (b : Bool). b && has_at zone key) (sym (le_no n 0 some)) }
@@ -216,7 +217,7 @@ module _ {K A : Type 0} (order : K → K → Ordering) (valid : K → Type 0) (r
 
   -- and those of the next zone
   pub listed_more : (zones : PlainZones) (k : ℕ) (new : PlainZone) (at after : K → ℕ → Bool) → zone_at zones (k + 1) ≡ Some new → ListedTo zones k at
-      → ((key : K) → valid key → (n : ℕ) → 1 ≤ n → n ≤ 32 → after key n ≡ (at key n || (n == (k + 1) && has_at new key))) → ListedTo zones (k + 1) after
+      → ((key : K) → valid key → (n : ℕ) → 1 ≤ n → n ≤ ZONE_LIMIT → after key n ≡ (at key n || (n == (k + 1) && has_at new key))) → ListedTo zones (k + 1) after
   listed_more zones k new at after there before merged = record {
     each = λ key is n zone some within e. more_by (n == (k + 1)) zones k new (at key n) (after key n) key n zone there e refl (before.each key is n zone some within e) (merged key is n some within);
   }
@@ -242,7 +243,7 @@ module _ {K A : Type 0} (order : K → K → Ordering) (valid : K → Type 0) (r
   module _ {T : Type 0} (same : K → T → Bool) (number : ℕ) (new : PlainZone) where
     -- At the keys of these triggers the zone stands as it has rules now; all else is as before.
     pub record EditedTo (before at : K → ℕ → Bool) (done : List T) : Type 0 where
-      pub each : (key : K) → valid key → (n : ℕ) → 1 ≤ n → n ≤ 32 → at key n ≡ cond (n == number && list_any (same key) done) (has_at new key) (before key n)
+      pub each : (key : K) → valid key → (n : ℕ) → 1 ≤ n → n ≤ ZONE_LIMIT → at key n ≡ cond (n == number && list_any (same key) done) (has_at new key) (before key n)
 
     none_edited : (a h x : Bool) → x ≡ cond (a && false) h x
     none_edited true h x = refl
@@ -253,7 +254,7 @@ module _ {K A : Type 0} (order : K → K → Ordering) (valid : K → Type 0) (r
 
     -- one trigger more
     pub edited_next : (before at next : K → ℕ → Bool) (done more : List T) (t : T) → ((key : K) → list_any (same key) more ≡ (list_any (same key) done || same key t)) → EditedTo before at done
-        → ((key : K) → valid key → (n : ℕ) → 1 ≤ n → n ≤ 32 → next key n ≡ cond (n == number && same key t) (has_at new key) (at key n)) → EditedTo before next more
+        → ((key : K) → valid key → (n : ℕ) → 1 ≤ n → n ≤ ZONE_LIMIT → next key n ≡ cond (n == number && same key t) (has_at new key) (at key n)) → EditedTo before next more
     edited_next before at next done more t one edited w = record {
       each = λ key is n some within.
           w key is n some within
@@ -266,9 +267,9 @@ module _ {K A : Type 0} (order : K → K → Ordering) (valid : K → Type 0) (r
     abbrev pub AreKept : PlainZones → List T → Type 0
     AreKept zones all = (old : PlainZone) → zone_at zones number ≡ Some old → (key : K) → valid key → list_any (same key) all ≡ false → has_at new key ≡ has_at old key
 
-    edited_by : (b d : Bool) (zones : PlainZones) (low : 1 ≤ number) (there : number ≤ length zones) (limit : number ≤ 32) (at : K → ℕ → Bool) (s : PlainSummary K) (all : List T) → KnowsEach zones s → s.is_listed ≡ true → AreKept zones all
+    edited_by : (b d : Bool) (zones : PlainZones) (low : 1 ≤ number) (there : number ≤ length zones) (limit : number ≤ ZONE_LIMIT) (at : K → ℕ → Bool) (s : PlainSummary K) (all : List T) → KnowsEach zones s → s.is_listed ≡ true → AreKept zones all
         → (key : K) → valid key → (n : ℕ) (zone : PlainZone) → (n == number) ≡ b → list_any (same key) all ≡ d → at key n ≡ cond (b && d) (has_at new key) (has_zone (zones_at order key s.triggers) n)
-        → 1 ≤ n → n ≤ 32 → zone_at (slice_set zones (number - 1) new) n ≡ Some zone → at key n ≡ has_at zone key
+        → 1 ≤ n → n ≤ ZONE_LIMIT → zone_at (slice_set zones (number - 1) new) n ≡ Some zone → at key n ≡ has_at zone key
     edited_by true true zones low there limit at s all knows listed kept key is n zone here any w some within e = w ∙ ap (λ (z : PlainZone). has_at z key) (new_is zones number n new low some zone here e)
     edited_by true false zones low there limit at s all knows listed kept key is n zone here any w some within e =
         let old = some_there zones number low there in
@@ -281,7 +282,7 @@ module _ {K A : Type 0} (order : K → K → Ordering) (valid : K → Type 0) (r
         w ∙ (knows n zone some within (sym (stays zones number n new low some here) ∙ e)).exact listed key is
 
     -- what stands once all are edited
-    pub stand_edited : (zones : PlainZones) → 1 ≤ number → number ≤ length zones → number ≤ 32 → (at : K → ℕ → Bool) (s : PlainSummary K) (all : List T) → KnowsEach zones s → s.is_listed ≡ true → AreKept zones all
+    pub stand_edited : (zones : PlainZones) → 1 ≤ number → number ≤ length zones → number ≤ ZONE_LIMIT → (at : K → ℕ → Bool) (s : PlainSummary K) (all : List T) → KnowsEach zones s → s.is_listed ≡ true → AreKept zones all
         → EditedTo (λ key n. has_zone (zones_at order key s.triggers) n) at all → StandEach (slice_set zones (number - 1) new) at
     stand_edited zones low there limit at s all knows listed kept edited key is n zone some within e =
         edited_by (n == number) (list_any (same key) all) zones low there limit at s all knows listed kept key is n zone refl refl (edited.each key is n some within) some within e

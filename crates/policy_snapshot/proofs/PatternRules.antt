@@ -43,6 +43,7 @@ use Rattle.policy_snapshot.specs.Summed.{content_entries}
 use Rattle.policy_snapshot.specs.declared.new_zone.NewZone.{NewZone}
 use Rattle.policy_snapshot.proofs.ListedRules.{EditedTo, HaveSome, ListedTo, StandEach, edited_here, edited_next, edited_none, have_after, known_as_before, known_listed, known_unlisted, listed_all, listed_more, listed_none, listed_past, marked_at, no_zone, nothing_at, stand_edited, stand_relisted}
 use Rattle.policy_snapshot.proofs.NewZones.{some_there}
+use Rattle.zone_rows.specs.declared.zone.TheConstants.{ZONE_LIMIT}
 
 -- the rules of the kind in a zone
 abbrev pub rules_in : Kind → PlainZone → List (PlainPattern × Action)
@@ -122,9 +123,9 @@ some_by_key kind zone index rules number none zones is same empty with entries s
 
 -- entries with the rules of a zone
 pub merged_by_key : (number : ℕ) (rule : PlainPattern → Bool) (first second rules : List (OctetFound ℕ Bool)) (all : List (OctetFound ℕ Bool)) → second ≡ rules
-    → ((p : PlainPattern) → IsPattern p → (n : ℕ) → 1 ≤ n → n ≤ 32 → has_zone (zones_by_key (pattern_key p) rules) n ≡ (n == number && rule p))
+    → ((p : PlainPattern) → IsPattern p → (n : ℕ) → 1 ≤ n → n ≤ ZONE_LIMIT → has_zone (zones_by_key (pattern_key p) rules) n ≡ (n == number && rule p))
     → ((key : List ℕ) (n : ℕ) → has_zone (zones_by_key key all) n ≡ (has_zone (zones_by_key key first) n || has_zone (zones_by_key key second) n))
-    → (p : PlainPattern) → IsPattern p → (n : ℕ) → 1 ≤ n → n ≤ 32 → has_zone (zones_by_key (pattern_key p) all) n ≡ (has_zone (zones_by_key (pattern_key p) first) n || (n == number && rule p))
+    → (p : PlainPattern) → IsPattern p → (n : ℕ) → 1 ≤ n → n ≤ ZONE_LIMIT → has_zone (zones_by_key (pattern_key p) all) n ≡ (has_zone (zones_by_key (pattern_key p) first) n || (n == number && rule p))
 merged_by_key number rule first second rules all same by_rule merged p is n some within =
     merged (pattern_key p) n
     ∙ ap (λ es. has_zone (zones_by_key (pattern_key p) first) n || has_zone (zones_by_key (pattern_key p) es) n) same
@@ -220,9 +221,9 @@ edited_not kind t p number n has before of e =
 -- and where it has one
 pub edited_of : TriggerLaws → (kind : Kind) (t : Trigger) (q : PlainPattern) (zone : PlainZone) (number : ℕ) (has : Bool) (before after : List (PlainPattern × Standing))
     → is_of_patterns kind ≡ true → Some q ≡ pattern_of_kind kind t → IsTrigger t → has ≡ is_some (content_rule zone.origin zone.content t)
-    → ((n : ℕ) → 1 ≤ n → n ≤ 32 → has_zone (zones_at pattern_order q after) n ≡ cond (n == number) has (has_zone (zones_at pattern_order q before) n))
+    → ((n : ℕ) → 1 ≤ n → n ≤ ZONE_LIMIT → has_zone (zones_at pattern_order q after) n ≡ cond (n == number) has (has_zone (zones_at pattern_order q before) n))
     → ((p : PlainPattern) → is_at (pattern_order p) q ≡ false → zones_at pattern_order p after ≡ zones_at pattern_order p before)
-    → (p : PlainPattern) → IsPattern p → (n : ℕ) → 1 ≤ n → n ≤ 32
+    → (p : PlainPattern) → IsPattern p → (n : ℕ) → 1 ≤ n → n ≤ ZONE_LIMIT
     → has_zone (zones_at pattern_order p after) n ≡ cond (n == number && is_same (pattern_trigger kind p) t) (has_pattern kind zone p) (has_zone (zones_at pattern_order p before) n)
 edited_of laws kind t q zone number has before after of e is has_is here elsewhere p is_p n some within =
     let at = trigger_of kind t q of e in
@@ -245,7 +246,7 @@ kept_of laws kind next triggers of others old e p is none =
 key_is : (p : PlainPattern) → IsPattern p → IsKey p
 key_is p is = record { name = is.is_base; lower_case = is.is_lower_case }
 
-limit : (next : NewZone) → IsThere next → next.number ≤ 32
+limit : (next : NewZone) → IsThere next → next.number ≤ ZONE_LIMIT
 limit next there = omega (arith, there.within, there.limit)
 
 -- at each pattern stand those of the first so many zones that have a rule there
@@ -268,7 +269,7 @@ names_edited_none kind next before after same =
 -- one trigger more
 pub names_edited_more : (kind : Kind) (next : NewZone) (before after last : PlainSummary PlainPattern) (triggers : List Trigger) (k : ℕ) (t : Trigger) → k < length triggers → t ≡ get_or triggers k t
     → AreEdited kind next before after (take k triggers)
-    → ((p : PlainPattern) → IsPattern p → (n : ℕ) → 1 ≤ n → n ≤ 32
+    → ((p : PlainPattern) → IsPattern p → (n : ℕ) → 1 ≤ n → n ≤ ZONE_LIMIT
     → has_zone (zones_at pattern_order p last.triggers) n
     ≡ cond (n == next.number && is_same (pattern_trigger kind p) t) (has_pattern kind next.zone.now p) (has_zone (zones_at pattern_order p after.triggers) n))
     → AreEdited kind next before last (take (k + 1) triggers)
@@ -309,7 +310,7 @@ module _ (kind : Kind) (of : is_of_patterns kind ≡ true) where
 
     -- the zones that have rules then
     pub names_having : (had having : ℕ) (has : Bool) → had ≡ s.having → has ≡ has_kind_in kind next.zone.now.origin next.zone.now.content
-        → ((n : ℕ) → 1 ≤ n → n ≤ 32 → has_zone having n ≡ cond (n == next.number) has (has_zone had n)) → ZonesHave kind (zones_after next) having
+        → ((n : ℕ) → 1 ≤ n → n ≤ ZONE_LIMIT → has_zone having n ≡ cond (n == next.number) has (has_zone had n)) → ZonesHave kind (zones_after next) having
     names_having had having has same is with = record {
       each = λ n zone some within e.
           have_after pattern_order IsPattern (rules_in kind) (zones_before next) next.number next.zone.now there.some there.within having has s knows.each (is ∙ some_of kind next.zone.now of)
@@ -319,8 +320,8 @@ module _ (kind : Kind) (of : is_of_patterns kind ≡ true) where
 
     -- one that is listed anew, from what there was of other zones and from the rules of the zone
     pub names_relisted : s.is_listed ≡ true → (others first entries last : List (OctetFound ℕ Bool)) → first ≡ others → last ≡ entries
-        → ((p : PlainPattern) → IsKey p → (n : ℕ) → 1 ≤ n → n ≤ 32 → has_zone (zones_by_key (pattern_key p) others) n ≡ (not (n == next.number) && has_zone (zones_at pattern_order p s.triggers) n))
-        → ((p : PlainPattern) → IsPattern p → (n : ℕ) → 1 ≤ n → n ≤ 32
+        → ((p : PlainPattern) → IsKey p → (n : ℕ) → 1 ≤ n → n ≤ ZONE_LIMIT → has_zone (zones_by_key (pattern_key p) others) n ≡ (not (n == next.number) && has_zone (zones_at pattern_order p s.triggers) n))
+        → ((p : PlainPattern) → IsPattern p → (n : ℕ) → 1 ≤ n → n ≤ ZONE_LIMIT
         → has_zone (zones_by_key (pattern_key p) entries) n ≡ (has_zone (zones_by_key (pattern_key p) first) n || (n == next.number && has_pattern kind next.zone.now p)))
         → (t : PlainSummary PlainPattern) (having : ℕ) → ZonesHave kind (zones_after next) having → t.having ≡ having
         → ((p : PlainPattern) → IsKey p → zones_at pattern_order p t.triggers ≡ zones_by_key (pattern_key p) last) → KnowsPatterns kind (zones_after next) t
@@ -354,7 +355,7 @@ module _ (kind : Kind) (of : is_of_patterns kind ≡ true) where
   -- and those of the next zone
   pub names_more : (zones : PlainZones) (k number : ℕ) (new : PlainZone) (entries first after last : List (OctetFound ℕ Bool)) → first ≡ entries → last ≡ after → number ≡ k → zone_at zones (number + 1) ≡ Some new
       → NamesTo kind zones k entries
-      → ((p : PlainPattern) → IsPattern p → (n : ℕ) → 1 ≤ n → n ≤ 32 → has_zone (zones_by_key (pattern_key p) after) n ≡ (has_zone (zones_by_key (pattern_key p) first) n || (n == (number + 1) && has_pattern kind new p)))
+      → ((p : PlainPattern) → IsPattern p → (n : ℕ) → 1 ≤ n → n ≤ ZONE_LIMIT → has_zone (zones_by_key (pattern_key p) after) n ≡ (has_zone (zones_by_key (pattern_key p) first) n || (n == (number + 1) && has_pattern kind new p)))
       → NamesTo kind zones (k + 1) last
   names_more zones k number new entries first after last same equal count there before merged =
       listed_more pattern_order IsPattern (rules_in kind) zones k new (λ p n. has_zone (zones_by_key (pattern_key p) entries) n) (λ p n. has_zone (zones_by_key (pattern_key p) last) n)
@@ -366,7 +367,7 @@ module _ (kind : Kind) (of : is_of_patterns kind ≡ true) where
       ∙ ap (λ (m : ℕ). has_zone (zones_by_key (pattern_key p) entries) n || (n == (m + 1) && has_pattern kind new p)) count)
 
   -- the next zone has none
-  pub names_past : (zones : PlainZones) (having k number : ℕ) (entries last : List (OctetFound ℕ Bool)) → last ≡ entries → number ≡ k → k < length zones → length zones ≤ 32 → ZonesHave kind zones having
+  pub names_past : (zones : PlainZones) (having k number : ℕ) (entries last : List (OctetFound ℕ Bool)) → last ≡ entries → number ≡ k → k < length zones → length zones ≤ ZONE_LIMIT → ZonesHave kind zones having
       → has_zone having (number + 1) ≡ false → NamesTo kind zones k entries → NamesTo kind zones (k + 1) last
   names_past zones having k number entries last equal count lt limit have none before =
       let new = some_there zones (k + 1) (omega arith) (omega (arith, lt)) in

@@ -33,6 +33,7 @@ use Rattle.policy_snapshot.proofs.KnownZones.{some_any}
 use Rattle.policy_snapshot.proofs.ListedRules.{EditedTo, HaveSome, ListedTo, StandEach, edited_here, edited_next, edited_none, have_after, known_as_before, known_listed, known_unlisted, listed_all, listed_more, listed_none, listed_past, no_zone, stand_edited, stand_relisted}
 use Rattle.policy_snapshot.proofs.NewZones.{some_there}
 use Rattle.policy_snapshot.proofs.PatternRules.{TriggerLaws}
+use Rattle.zone_rows.specs.declared.zone.TheConstants.{ZONE_LIMIT}
 
 -- the rules of the kind in a zone
 abbrev pub rules_in : Kind → PlainZone → List (PlainPrefix × Action)
@@ -145,9 +146,9 @@ edited_not kind t p number n has before of e =
 -- and where it has one
 pub edited_of : TriggerLaws → (kind : Kind) (t : Trigger) (q : PlainPrefix) (zone : PlainZone) (number : ℕ) (has : Bool) (before after : List (PlainPrefix × Standing))
     → is_of_patterns kind ≡ false → Some q ≡ prefix_of_kind kind t → has ≡ is_some (content_rule zone.origin zone.content t)
-    → ((n : ℕ) → 1 ≤ n → n ≤ 32 → has_zone (zones_at prefix_order q after) n ≡ cond (n == number) has (has_zone (zones_at prefix_order q before) n))
+    → ((n : ℕ) → 1 ≤ n → n ≤ ZONE_LIMIT → has_zone (zones_at prefix_order q after) n ≡ cond (n == number) has (has_zone (zones_at prefix_order q before) n))
     → ((p : PlainPrefix) → is_at (prefix_order p) q ≡ false → zones_at prefix_order p after ≡ zones_at prefix_order p before)
-    → (p : PlainPrefix) (n : ℕ) → 1 ≤ n → n ≤ 32
+    → (p : PlainPrefix) (n : ℕ) → 1 ≤ n → n ≤ ZONE_LIMIT
     → has_zone (zones_at prefix_order p after) n ≡ cond (n == number && is_same (prefix_trigger kind p) t) (has_prefix kind zone p) (has_zone (zones_at prefix_order p before) n)
 edited_of laws kind t q zone number has before after of e has_is here elsewhere p n some within =
     let at = trigger_of kind t q of e in
@@ -158,9 +159,9 @@ edited_of laws kind t q zone number has before after of e has_is here elsewhere 
 
 pub edited_if : {E : Type 0} → TriggerLaws → (kind : Kind) (t : Trigger) (q : PlainPrefix) (zone : PlainZone) (number : ℕ) (has : Bool) (before : PlainSummary PlainPrefix) (r : Result (PlainSummary PlainPrefix) E)
     → is_of_patterns kind ≡ false → Some q ≡ prefix_of_kind kind t → has ≡ is_some (content_rule zone.origin zone.content t)
-    → IfOk r (λ after. (n : ℕ) → 1 ≤ n → n ≤ 32 → has_zone (zones_at prefix_order q after.triggers) n ≡ cond (n == number) has (has_zone (zones_at prefix_order q before.triggers) n))
+    → IfOk r (λ after. (n : ℕ) → 1 ≤ n → n ≤ ZONE_LIMIT → has_zone (zones_at prefix_order q after.triggers) n ≡ cond (n == number) has (has_zone (zones_at prefix_order q before.triggers) n))
     → IfOk r (λ after. (p : PlainPrefix) → is_at (prefix_order p) q ≡ false → zones_at prefix_order p after.triggers ≡ zones_at prefix_order p before.triggers)
-    → IfOk r (λ after. (p : PlainPrefix) (n : ℕ) → 1 ≤ n → n ≤ 32
+    → IfOk r (λ after. (p : PlainPrefix) (n : ℕ) → 1 ≤ n → n ≤ ZONE_LIMIT
     → has_zone (zones_at prefix_order p after.triggers) n ≡ cond (n == number && is_same (prefix_trigger kind p) t) (has_prefix kind zone p) (has_zone (zones_at prefix_order p before.triggers) n))
 edited_if laws kind t q zone number has before (Ok after) of e has_is here elsewhere = edited_of laws kind t q zone number has before.triggers after.triggers of e has_is here elsewhere
 edited_if laws kind t q zone number has before (Err x) of e has_is here elsewhere = tt
@@ -209,7 +210,7 @@ module _ (kind : Kind) (next : NewZone) (having : ℕ) (before : PlainSummary Pl
 
   -- one trigger more
   pub edits_more : (s after : PlainSummary PlainPrefix) (all : List Trigger) (k : ℕ) (t : Trigger) → EditsTo kind next having before s (take k all) → k < length all → t ≡ get_or all k t → after.having ≡ s.having → after.is_listed ≡ s.is_listed
-      → ((p : PlainPrefix) (n : ℕ) → 1 ≤ n → n ≤ 32
+      → ((p : PlainPrefix) (n : ℕ) → 1 ≤ n → n ≤ ZONE_LIMIT
       → has_zone (zones_at prefix_order p after.triggers) n ≡ cond (n == next.number && is_same (prefix_trigger kind p) t) (has_prefix kind next.zone.now p) (has_zone (zones_at prefix_order p s.triggers) n))
       → EditsTo kind next having before after (take (k + 1) all)
   edits_more s after all k t edits lt is having_is listed at = record {
@@ -264,7 +265,7 @@ module _ (kind : Kind) (of : is_of_patterns kind ≡ false) where
   -- with the rules of the next zone
   pub lists_more : (zones : PlainZones) (number k : ℕ) (new : PlainZone) (es given made last : List (PlainPrefix × Standing)) → ListsTo kind zones number k es → zone_at zones (number + 1) ≡ Some new → given ≡ es → last ≡ made
       → IsStrictlySortedBy prefix_order (keys_of made)
-      → ((p : PlainPrefix) (n : ℕ) → 1 ≤ n → n ≤ 32 → has_zone (zones_at prefix_order p made) n ≡ (has_zone (zones_at prefix_order p given) n || (n == number + 1 && has_prefix kind new p)))
+      → ((p : PlainPrefix) (n : ℕ) → 1 ≤ n → n ≤ ZONE_LIMIT → has_zone (zones_at prefix_order p made) n ≡ (has_zone (zones_at prefix_order p given) n || (n == number + 1 && has_prefix kind new p)))
       → ListsTo kind zones (number + 1) (k + 1) last
   lists_more zones number k new es given made last lists there from to sorted more = record {
     count = ap (λ (m : ℕ). m + 1) lists.count;
@@ -286,7 +287,7 @@ module _ (kind : Kind) (of : is_of_patterns kind ≡ false) where
       let zones : PlainZones = zones_after next in
       let size : length zones ≡ length next.zones.now = length-set (zones_before next) (next.number - 1) next.zone.now ∙ length-map next.zones.now arc_value in
       let within : k + 1 ≤ length zones = omega (arith, lt, size) in
-      let limit : number + 1 ≤ 32 = omega (arith, lists.count, lt, there.limit, length-map next.zones.now arc_value) in
+      let limit : number + 1 ≤ ZONE_LIMIT = omega (arith, lists.count, lt, there.limit, length-map next.zones.now arc_value) in
       let zone = some_there zones (k + 1) (omega arith) within in
       let found : zone_at zones (number + 1) ≡ Some zone.0 = ap (λ (m : ℕ). zone_at zones (m + 1)) lists.count ∙ zone.1 in
       record {
@@ -314,12 +315,12 @@ module _ (kind : Kind) (of : is_of_patterns kind ≡ false) where
       each = known_as_before prefix_order AnyPrefix (rules_in kind) (zones_before next) next.number next.zone.now there.some there.within s (limit next there) knows.each had (no_rules_in next.zone.now has);
     }
       where
-        limit : (next : NewZone) → IsThere next → next.number ≤ 32
+        limit : (next : NewZone) → IsThere next → next.number ≤ ZONE_LIMIT
         limit next there = omega (arith, there.within, there.limit)
 
     -- the zones that have rules then
     pub prefixes_having : (having : ℕ) (has : Bool) → has ≡ has_kind_in kind next.zone.now.origin next.zone.now.content
-        → ((n : ℕ) → 1 ≤ n → n ≤ 32 → has_zone having n ≡ cond (n == next.number) has (has_zone s.having n)) → ZonesHave kind (zones_after next) having
+        → ((n : ℕ) → 1 ≤ n → n ≤ ZONE_LIMIT → has_zone having n ≡ cond (n == next.number) has (has_zone s.having n)) → ZonesHave kind (zones_after next) having
     prefixes_having having has is with = record {
       each = λ n zone some within e.
           have_after prefix_order AnyPrefix (rules_in kind) (zones_before next) next.number next.zone.now there.some there.within having has s knows.each (is ∙ some_of kind next.zone.now of) with n zone some within e
@@ -328,8 +329,8 @@ module _ (kind : Kind) (of : is_of_patterns kind ≡ false) where
 
     -- what stands of the other zones, and the rules of the zone
     pub prefixes_merged : (others entries : List (PlainPrefix × Standing)) → s.is_listed ≡ true
-        → ((p : PlainPrefix) (n : ℕ) → 1 ≤ n → n ≤ 32 → has_zone (zones_at prefix_order p others) n ≡ (not (n == next.number) && has_zone (zones_at prefix_order p s.triggers) n))
-        → ((p : PlainPrefix) (n : ℕ) → 1 ≤ n → n ≤ 32 → has_zone (zones_at prefix_order p entries) n ≡ (has_zone (zones_at prefix_order p others) n || (n == next.number && has_prefix kind next.zone.now p)))
+        → ((p : PlainPrefix) (n : ℕ) → 1 ≤ n → n ≤ ZONE_LIMIT → has_zone (zones_at prefix_order p others) n ≡ (not (n == next.number) && has_zone (zones_at prefix_order p s.triggers) n))
+        → ((p : PlainPrefix) (n : ℕ) → 1 ≤ n → n ≤ ZONE_LIMIT → has_zone (zones_at prefix_order p entries) n ≡ (has_zone (zones_at prefix_order p others) n || (n == next.number && has_prefix kind next.zone.now p)))
         → StandEach prefix_order AnyPrefix (rules_in kind) (zones_after next) (λ p n. has_zone (zones_at prefix_order p entries) n)
     prefixes_merged others entries listed left more =
         stand_relisted prefix_order AnyPrefix (rules_in kind) (zones_before next) next.number next.zone.now there.some there.within (λ p n. has_zone (zones_at prefix_order p entries) n) s knows.each listed

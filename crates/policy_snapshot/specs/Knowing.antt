@@ -6,6 +6,7 @@ use Rattle.summary_index.specs.Summary.{no_rules}
 use Rattle.zone_rows.specs.declared.zone.PlainZone.{PlainZone}
 use Rattle.policy_snapshot.specs.Policy.{PlainZones, zone_at}
 use Rattle.policy_snapshot.specs.Summed.{KnowsZone, PlainSummaries, content_entries}
+use Rattle.zone_rows.specs.declared.zone.TheConstants.{ZONE_LIMIT}
 
 -- no zone has rules
 abbrev pub no_summaries : PlainSummaries
@@ -25,7 +26,7 @@ zones_having s kinds.ResponseIp = s.response_ip.having
 zones_having s kinds.NsDname = s.nsdname.having
 zones_having s kinds.NsIp = s.nsip.having
 
--- The summaries know the rules of each zone of the policy, whose number is from 1 to 32.
+-- The summaries know the rules of each zone of the policy, whose number is from 1 to 64.
 pub record KnowsAll (zones : PlainZones) (s : PlainSummaries) : Type 0 where
-  pub each : (n : ℕ) (zone : PlainZone) → 1 ≤ n → n ≤ 32 → zone_at zones n ≡ Some zone →
+  pub each : (n : ℕ) (zone : PlainZone) → 1 ≤ n → n ≤ ZONE_LIMIT → zone_at zones n ≡ Some zone →
       KnowsZone n (content_entries zone.origin zone.content) s

@@ -25,6 +25,7 @@ use Rattle.policy_snapshot.specs.Lookup.{has_kind_in}
 use Rattle.policy_snapshot.specs.Policy.{PlainZones, zone_at}
 use Rattle.policy_snapshot.specs.Summed.{AnyPrefix, content_entries}
 use Rattle.policy_snapshot.specs.declared.new_zone.NewZone.{NewZone}
+use Rattle.zone_rows.specs.declared.zone.TheConstants.{ZONE_LIMIT}
 
 -- the policy before a zone is another, and behind it
 abbrev pub zones_before : NewZone → PlainZones
@@ -33,11 +34,11 @@ zones_before next = map arc_value next.zones.now
 abbrev pub zones_after : NewZone → PlainZones
 zones_after next = slice_set (zones_before next) (next.number - 1) next.zone.now
 
--- a zone has this number, and there are at most 32
+-- a zone has this number, and there are at most 64
 pub record IsThere (next : NewZone) : Type 0 where
   pub some : 1 ≤ next.number
   pub within : next.number ≤ length (zones_before next)
-  pub limit : length (zones_before next) ≤ 32
+  pub limit : length (zones_before next) ≤ ZONE_LIMIT
 
 -- where these may have changed, the rules of the zone at all other triggers are as before
 pub record AreChangesAt (next : NewZone) (changes : Changes) : Type 0 where
@@ -52,7 +53,7 @@ pub record AreSameElsewhere (next : NewZone) (triggers : List Trigger) : Type 0 
 
 -- these zones, of those of the policy, have rules of the kind
 pub record ZonesHave (kind : Kind) (zones : PlainZones) (having : ℕ) : Type 0 where
-  pub each : (n : ℕ) (zone : PlainZone) → 1 ≤ n → n ≤ 32 → zone_at zones n ≡ Some zone →
+  pub each : (n : ℕ) (zone : PlainZone) → 1 ≤ n → n ≤ ZONE_LIMIT → zone_at zones n ≡ Some zone →
       has_zone having n ≡ has_kind_in kind zone.origin zone.content
 
 -- Triggers of the kind are patterns; they are prefixes.
@@ -63,14 +64,14 @@ is_of_patterns kinds.ResponseIp = false
 is_of_patterns kinds.NsDname = true
 is_of_patterns kinds.NsIp = false
 
--- A summary of a kind of patterns knows the rules of each zone of the policy, whose number is from 1 to 32.
+-- A summary of a kind of patterns knows the rules of each zone of the policy, whose number is from 1 to 64.
 pub record KnowsPatterns (kind : Kind) (zones : PlainZones) (s : PlainSummary PlainPattern) : Type 0 where
-  pub each : (n : ℕ) (zone : PlainZone) → 1 ≤ n → n ≤ 32 → zone_at zones n ≡ Some zone →
+  pub each : (n : ℕ) (zone : PlainZone) → 1 ≤ n → n ≤ ZONE_LIMIT → zone_at zones n ≡ Some zone →
       Knows pattern_order IsPattern n (pattern_rules (content_entries zone.origin zone.content) kind) s
 
 -- The same of a kind of prefixes.
 pub record KnowsPrefixes (kind : Kind) (zones : PlainZones) (s : PlainSummary PlainPrefix) : Type 0 where
-  pub each : (n : ℕ) (zone : PlainZone) → 1 ≤ n → n ≤ 32 → zone_at zones n ≡ Some zone →
+  pub each : (n : ℕ) (zone : PlainZone) → 1 ≤ n → n ≤ ZONE_LIMIT → zone_at zones n ≡ Some zone →
       Knows prefix_order AnyPrefix n (prefix_rules (content_entries zone.origin zone.content) kind) s
 
 -- the zone has a rule of this kind at the pattern, or the prefix

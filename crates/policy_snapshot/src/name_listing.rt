@@ -15,6 +15,7 @@ ghost use Rattle.trigger_codec.specs.Bases.{IsPattern, IsTrigger};
 ghost use Rattle.zone_index.specs.Listed.{is_same};
 ghost use Rattle.policy_snapshot.specs.Listing.{AreChangesAt, AreSameElsewhere, IsThere, KnowsPatterns, ZonesHave};
 ghost use Rattle.policy_snapshot.specs.Listing.{has_pattern, is_of_patterns, pattern_of_kind, pattern_trigger, zones_after, zones_before};
+ghost use Rattle.zone_rows.specs.declared.zone.TheConstants.{ZONE_LIMIT};
 
 use crate::new_zone::NewZone;
 use crate::summaries::{has_kind, zones_with};
@@ -70,9 +71,9 @@ fn rules_by_key<'a>(
 ) -> Result<Vec<OctetFound<'a, Zones, bool>>, AllocError>
     requires kind { is_of_patterns kind ≡ true }
     requires some { 1 ≤ number }
-    requires within { number ≤ 32 }
+    requires within { number ≤ ZONE_LIMIT }
     ensures keys { IfOk result (λ entries. IsNameTrie (map found_entry entries.items)) }
-    ensures rules { IfOk result (λ entries. (p : PlainPattern) → IsPattern p → (n : ℕ) → 1 ≤ n → n ≤ 32 →
+    ensures rules { IfOk result (λ entries. (p : PlainPattern) → IsPattern p → (n : ℕ) → 1 ≤ n → n ≤ ZONE_LIMIT →
         has_zone (zones_by_key (pattern_key p) entries.items) n ≡ (n == number && has_pattern kind zone.now p)) }
 {
     match zone.index() {
@@ -95,10 +96,10 @@ fn with_rules<'a>(
 ) -> Result<Vec<OctetFound<'a, Zones, bool>>, AllocError>
     requires kind { is_of_patterns kind ≡ true }
     requires some { 1 ≤ number }
-    requires within { number ≤ 32 }
+    requires within { number ≤ ZONE_LIMIT }
     requires keys { IsNameTrie (map found_entry entries.now) }
     ensures keys { IfOk result (λ all. IsNameTrie (map found_entry all.items)) }
-    ensures rules { IfOk result (λ all. (p : PlainPattern) → IsPattern p → (n : ℕ) → 1 ≤ n → n ≤ 32 →
+    ensures rules { IfOk result (λ all. (p : PlainPattern) → IsPattern p → (n : ℕ) → 1 ≤ n → n ≤ ZONE_LIMIT →
         has_zone (zones_by_key (pattern_key p) all.items) n
         ≡ (has_zone (zones_by_key (pattern_key p) entries.now) n || (n == number && has_pattern kind zone.now p))) }
 {
@@ -185,11 +186,11 @@ fn edited_at(
 ) -> Result<NameSummary, AllocError>
     requires kind { is_of_patterns kind ≡ true }
     requires some { 1 ≤ number }
-    requires within { number ≤ 32 }
+    requires within { number ≤ ZONE_LIMIT }
     requires trigger { IsTrigger trigger.now }
     ensures having { IfOk result (λ after. after.having ≡ summary.having) }
     ensures listed { IfOk result (λ after. after.is_listed ≡ summary.is_listed) }
-    ensures at { IfOk result (λ after. (p : PlainPattern) → IsPattern p → (n : ℕ) → 1 ≤ n → n ≤ 32 →
+    ensures at { IfOk result (λ after. (p : PlainPattern) → IsPattern p → (n : ℕ) → 1 ≤ n → n ≤ ZONE_LIMIT →
         has_zone (zones_at pattern_order p after.triggers) n
         ≡ (if n == number && is_same (pattern_trigger kind p) trigger.now then has_pattern kind zone.now p
         else has_zone (zones_at pattern_order p summary.triggers) n)) }
@@ -210,10 +211,10 @@ fn with_zone_at(
     has: bool,
 ) -> Result<NameSummary, AllocError>
     requires some { 1 ≤ number }
-    requires within { number ≤ 32 }
+    requires within { number ≤ ZONE_LIMIT }
     ensures having { IfOk result (λ after. after.having ≡ summary.having) }
     ensures listed { IfOk result (λ after. after.is_listed ≡ summary.is_listed) }
-    ensures here { IfOk result (λ after. (n : ℕ) → 1 ≤ n → n ≤ 32 →
+    ensures here { IfOk result (λ after. (n : ℕ) → 1 ≤ n → n ≤ ZONE_LIMIT →
         has_zone (zones_at pattern_order pattern.now after.triggers) n
         ≡ (if n == number then has else has_zone (zones_at pattern_order pattern.now summary.triggers) n)) }
     ensures elsewhere { IfOk result (λ after. (p : PlainPattern) → is_at (pattern_order p) pattern.now ≡ false →

@@ -10,6 +10,7 @@ ghost use Rattle.upstream_link.specs.Known.{AreInOrder};
 ghost use Rattle.policy_snapshot.specs.Lookup as form;
 ghost use Rattle.policy_snapshot.specs.Overridden.{override_action};
 ghost use Rattle.policy_snapshot.specs.Sight.{sight_seen};
+ghost use Rattle.zone_rows.specs.declared.zone.TheConstants.{ZONE_LIMIT};
 
 use crate::lookup::zone_hit;
 use crate::sight::Sight;
@@ -31,7 +32,7 @@ pub(crate) fn ruled_hit<'a>(
     sight: &Sight<'_>,
 ) -> Option<Hit<'a>>
     requires some { 1 ≤ number }
-    requires within { number ≤ 32 }
+    requires within { number ≤ ZONE_LIMIT }
     requires name { sight.now.lower.now ≡ lowered sight.now.name.now }
     requires servers { All AreInOrder (map (λ list. list.now) sight.now.servers.now) }
     requires passed { has_zone candidates number ≡ false →

@@ -10,6 +10,7 @@ ghost use Rattle.summary_index.specs.Zones.{has_zone};
 ghost use Rattle.zone_index.specs.Listed.{is_same};
 ghost use Rattle.policy_snapshot.specs.Listing.{AreChangesAt, AreSameElsewhere, IsThere, KnowsPrefixes, ZonesHave};
 ghost use Rattle.policy_snapshot.specs.Listing.{has_prefix, is_of_patterns, prefix_of_kind, prefix_trigger, zones_after, zones_before};
+ghost use Rattle.zone_rows.specs.declared.zone.TheConstants.{ZONE_LIMIT};
 
 use crate::new_zone::NewZone;
 use crate::summaries::{has_kind, zones_with};
@@ -64,9 +65,9 @@ fn rules_by_rank(
 ) -> Result<Vec<(Prefix, Marked<Zones, bool>)>, AllocError>
     requires kind { is_of_patterns kind ≡ false }
     requires some { 1 ≤ number }
-    requires within { number ≤ 32 }
+    requires within { number ≤ ZONE_LIMIT }
     ensures keys { IfOk result (λ entries. IsStrictlySortedBy prefix_order (keys_of entries.items)) }
-    ensures rules { IfOk result (λ entries. (p : PlainPrefix) → (n : ℕ) → 1 ≤ n → n ≤ 32 →
+    ensures rules { IfOk result (λ entries. (p : PlainPrefix) → (n : ℕ) → 1 ≤ n → n ≤ ZONE_LIMIT →
         has_zone (zones_at prefix_order p entries.items) n ≡ (n == number && has_prefix kind zone.now p)) }
 {
     match zone.index() {
@@ -89,10 +90,10 @@ fn with_rules(
 ) -> Result<Vec<(Prefix, Marked<Zones, bool>)>, AllocError>
     requires kind { is_of_patterns kind ≡ false }
     requires some { 1 ≤ number }
-    requires within { number ≤ 32 }
+    requires within { number ≤ ZONE_LIMIT }
     requires keys { IsStrictlySortedBy prefix_order (keys_of entries.now) }
     ensures keys { IfOk result (λ all. IsStrictlySortedBy prefix_order (keys_of all.items)) }
-    ensures rules { IfOk result (λ all. (p : PlainPrefix) → (n : ℕ) → 1 ≤ n → n ≤ 32 →
+    ensures rules { IfOk result (λ all. (p : PlainPrefix) → (n : ℕ) → 1 ≤ n → n ≤ ZONE_LIMIT →
         has_zone (zones_at prefix_order p all.items) n
         ≡ (has_zone (zones_at prefix_order p entries.now) n || (n == number && has_prefix kind zone.now p))) }
 {
@@ -178,10 +179,10 @@ fn edited_at(
 ) -> Result<PrefixSummary, AllocError>
     requires kind { is_of_patterns kind ≡ false }
     requires some { 1 ≤ number }
-    requires within { number ≤ 32 }
+    requires within { number ≤ ZONE_LIMIT }
     ensures having { IfOk result (λ after. after.having ≡ summary.having) }
     ensures listed { IfOk result (λ after. after.is_listed ≡ summary.is_listed) }
-    ensures at { IfOk result (λ after. (p : PlainPrefix) → (n : ℕ) → 1 ≤ n → n ≤ 32 →
+    ensures at { IfOk result (λ after. (p : PlainPrefix) → (n : ℕ) → 1 ≤ n → n ≤ ZONE_LIMIT →
         has_zone (zones_at prefix_order p after.triggers) n
         ≡ (if n == number && is_same (prefix_trigger kind p) trigger.now then has_prefix kind zone.now p
         else has_zone (zones_at prefix_order p summary.triggers) n)) }
@@ -202,10 +203,10 @@ fn with_zone_at(
     has: bool,
 ) -> Result<PrefixSummary, AllocError>
     requires some { 1 ≤ number }
-    requires within { number ≤ 32 }
+    requires within { number ≤ ZONE_LIMIT }
     ensures having { IfOk result (λ after. after.having ≡ summary.having) }
     ensures listed { IfOk result (λ after. after.is_listed ≡ summary.is_listed) }
-    ensures here { IfOk result (λ after. (n : ℕ) → 1 ≤ n → n ≤ 32 →
+    ensures here { IfOk result (λ after. (n : ℕ) → 1 ≤ n → n ≤ ZONE_LIMIT →
         has_zone (zones_at prefix_order prefix.now after.triggers) n
         ≡ (if n == number then has else has_zone (zones_at prefix_order prefix.now summary.triggers) n)) }
     ensures elsewhere { IfOk result (λ after. (p : PlainPrefix) → is_at (prefix_order p) prefix.now ≡ false →

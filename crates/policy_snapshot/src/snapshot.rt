@@ -71,7 +71,7 @@ impl Model for Snapshot {
 }
 
 impl Snapshot {
-    /// Zones of these settings in this order, with nothing loaded. There are at most 32.
+    /// Zones of these settings in this order, with nothing loaded. There are at most 64.
     pub fn start(alloc: Global, settings: &[ZoneSet]) -> Result<Self, AllocError>
         requires { length settings.now ≤ ZONE_LIMIT }
         ensures { IfOk result (λ snapshot. snapshot ≡ new_snapshot settings.now) }
@@ -90,7 +90,7 @@ impl Snapshot {
         })
     }
 
-    /// How many zones the policy has, at most 32. Its clauses also say that the rows of each zone are rows.
+    /// How many zones the policy has, at most 64. Its clauses also say that the rows of each zone are rows.
     pub fn zone_count(&self) -> usize
         ensures count { result ≡ length self.now.zones }
         ensures limit { result ≤ ZONE_LIMIT }

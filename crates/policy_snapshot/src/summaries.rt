@@ -6,6 +6,7 @@ ghost use Rattle.summary_index.specs.Zones.{has_zone};
 ghost use Rattle.policy_snapshot.specs.Knowing.{KnowsAll, no_summaries as nothing_known, zones_having};
 ghost use Rattle.policy_snapshot.specs.Listing.{AreChangesAt, IsThere, zones_after, zones_before};
 ghost use Rattle.policy_snapshot.specs.Lookup as form;
+ghost use Rattle.zone_rows.specs.declared.zone.TheConstants.{ZONE_LIMIT};
 
 use crate::name_listing::names_after;
 use crate::new_zone::NewZone;
@@ -106,8 +107,8 @@ pub(crate) fn shared_summaries(
 /// The zones with the one of this number, or without it.
 pub(crate) fn zones_with(zones: Zones, number: u32, has: bool) -> Zones
     requires some { 1 ≤ number }
-    requires within { number ≤ 32 }
-    ensures { (n : ℕ) → 1 ≤ n → n ≤ 32 →
+    requires within { number ≤ ZONE_LIMIT }
+    ensures { (n : ℕ) → 1 ≤ n → n ≤ ZONE_LIMIT →
         has_zone result n ≡ (if n == number then has else has_zone zones n) }
 {
     if has {

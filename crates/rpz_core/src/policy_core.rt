@@ -57,7 +57,7 @@ impl Model for Core {
 }
 
 impl Core {
-    /// Zones of these settings in this order, at most 32, with nothing loaded, each of which has its primary or none. All of them are
+    /// Zones of these settings in this order, at most 64, with nothing loaded, each of which has its primary or none. All of them are
     /// due, and no query is pending.
     pub fn start(
         alloc: Global,

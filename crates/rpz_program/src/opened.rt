@@ -9,7 +9,7 @@ use policy_override::{ZoneSet, ZoneSets};
 use std::alloc::{AllocError, Global};
 use std::marker::Model;
 
-/// The zones that were opened, at most 32, each with its primary or none. Contracts see both lists.
+/// The zones that were opened, at most 64, each with its primary or none. Contracts see both lists.
 #[derive(Drop)]
 pub(crate) struct Opened {
     zones: ZoneSets,

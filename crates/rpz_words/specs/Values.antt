@@ -150,7 +150,7 @@ zone_settings_of (text ∷ texts) = do
   zones ← zone_settings_of texts
   Some (zone ∷ zones)
 
--- the zones of a policy: 1 to 32, of distinct names
+-- the zones of a policy: 1 to 64, of distinct names
 unfoldable pub zones_of : List (List ℕ) → Option (List ZoneSetting)
 zones_of texts = do
   _ ← none_if (length texts == 0 || nat_lt ZONE_LIMIT (length texts))

@@ -9,7 +9,7 @@ ghost use Rattle.rpz_words.specs.Words.{command_of};
 ghost use Rattle.rpz_words.specs.declared.command.Command.{Command};
 
 /// What words ask for is within its limits: a server takes an arrival or more, has 1 to 16 workers that answer datagrams and 1 to 512
-/// that ask the upstream, a cache of 16 to 1,048,576 answers, and 1 to 32 zones of distinct names; a load run has at most 1,000,000
+/// that ask the upstream, a cache of 16 to 1,048,576 answers, and 1 to 64 zones of distinct names; a load run has at most 1,000,000
 /// rules and as many queries, and 1 to 16 workers.
 pub fn what_is_asked_for_is_within_limits()
     ensures { (found : Option (Text × List Row)) (command : Command) →

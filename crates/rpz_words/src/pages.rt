@@ -41,7 +41,7 @@ what the rules don't decide.
   TURNS             after how many arrivals it ends, 1 to 4294967295; or `forever`
   WORKERS           how many threads answer datagrams: 1 to 16
   ZONE@PRIMARY      a policy zone, and the primary that it is transferred from,
-                    A.B.C.D:PORT; 1 to 32 zones, in order of precedence
+                    A.B.C.D:PORT; 1 to 64 zones, in order of precedence
 
 What stands behind a ZONE@PRIMARY takes the place of what its rules do:
   =given            nothing else: they do what the zone says, as without it

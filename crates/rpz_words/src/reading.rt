@@ -29,7 +29,7 @@ use std::alloc::{AllocError, Global};
 
 /// What the words of a command line ask for, without the program's name: a page where they are those of one, which takes no
 /// memory. `Usage` comes where they are none of the command set, a value hasn't its form, a number is out of its bounds, there are
-/// more than 32 zones, or two have one name.
+/// more than 64 zones, or two have one name.
 #[tactic(auto, using(crate::proofs::Limits::outcome_within))]
 pub fn read_words(alloc: Global, words: &[String]) -> Result<Command, WordsError>
     ensures ok { IfOk result (λ command. command_in words.now ≡ Some command) }

@@ -68,7 +68,7 @@ pub struct Settings {
     pub hold: Option<u32>,
     /// How many connections of clients are open at most, in all and of one client: 1 to 65,535 each.
     pub connections: ConnectionLimits,
-    /// The policy zones in order, 1 to 32, of distinct names: rules of earlier ones go before those of later ones.
+    /// The policy zones in order, 1 to 64, of distinct names: rules of earlier ones go before those of later ones.
     pub zones: Zones,
 }
 

@@ -27,7 +27,7 @@ pub enum LineFault {
     Override,
     /// A zone is opened, or given a primary, after a line of another kind than these two.
     Late,
-    /// As many zones are open as may be: 32.
+    /// As many zones are open as may be: 64.
     Many,
     /// The zone is open already, or has a primary already.
     Repeated,

@@ -24,12 +24,13 @@ use Rattle.summary_index.proofs.Listing.{zones_standing}
 use Rattle.summary_index.proofs.Looking.{InOrder, apart_from}
 use Rattle.summary_index.proofs.Merges.{by_entries, by_keys}
 use Rattle.summary_index.proofs.Putting.{none_found}
+use Rattle.zone_rows.specs.declared.zone.TheConstants.{ZONE_LIMIT}
 
 and_false : (b : Bool) → (b && false) ≡ false
 and_false true = refl
 and_false false = refl
 
-zones_left : (number n zones : ℕ) → 1 ≤ number → number ≤ 32 → 1 ≤ n → n ≤ 32 → has_zone (zones_without number zones) n ≡ (not (n == number) && has_zone zones n)
+zones_left : (number n zones : ℕ) → 1 ≤ number → number ≤ ZONE_LIMIT → 1 ≤ n → n ≤ ZONE_LIMIT → has_zone (zones_without number zones) n ≡ (not (n == number) && has_zone zones n)
 zones_left number n zones some within low high =
     ap (λ (mask : ℕ). has_zone mask n) (sym (same_mask zones number some within)) ∙ without_zone zones number n some within low high
 
@@ -81,7 +82,7 @@ module _ {K : Type 0} {order : K → K → Ordering} (total : IsTotalOrder order
   one_of_them n z q e es rest true h sorted here others = dropped n z q e es (lookup (is_at (order q)) rest) (is_at (order q) e.0) refl (eqb-true z 0 h) sorted here others
   one_of_them n z q e es rest false h sorted here others = kept n z e (lookup (is_at (order q)) es) (lookup (is_at (order q)) rest) (is_at (order q) e.0) here others
 
-  pub found_without : (n : ℕ) (q : K) (es : List (K × Standing)) → 1 ≤ number → number ≤ 32 → 1 ≤ n → n ≤ 32 → InOrder total es
+  pub found_without : (n : ℕ) (q : K) (es : List (K × Standing)) → 1 ≤ number → number ≤ ZONE_LIMIT → 1 ≤ n → n ≤ ZONE_LIMIT → InOrder total es
       → has_zone (zones_at order q (entries_without number es)) n ≡ (not (n == number) && has_zone (zones_at order q es) n)
   unfolding IsStrictlySortedBy
   found_without n q [] some within low high sorted = no_zone n ∙ sym (and_false (not (n == number))) ∙ ap (λ (b : Bool). not (n == number) && b) (sym (no_zone n))
@@ -109,8 +110,8 @@ module _ {K : Type 0} {order : K → K → Ordering} (total : IsTotalOrder order
   pub sorted_without : (number : ℕ) (es left : List (K × Standing)) → IsStrictlySortedBy order (keys_of es) → left ≡ entries_without number es → IsStrictlySortedBy order (keys_of left)
   sorted_without number es left sorted e = subst (λ xs. IsStrictlySortedBy order (keys_of xs)) (sym e) (ordered_without total number es sorted)
 
-  pub zones_of_left : (number : ℕ) (es left : List (K × Standing)) → 1 ≤ number → number ≤ 32 → IsStrictlySortedBy order (keys_of es) → left ≡ entries_without number es
-      → (key : K) (n : ℕ) → 1 ≤ n → n ≤ 32 → has_zone (zones_at order key left) n ≡ (not (n == number) && has_zone (zones_at order key es) n)
+  pub zones_of_left : (number : ℕ) (es left : List (K × Standing)) → 1 ≤ number → number ≤ ZONE_LIMIT → IsStrictlySortedBy order (keys_of es) → left ≡ entries_without number es
+      → (key : K) (n : ℕ) → 1 ≤ n → n ≤ ZONE_LIMIT → has_zone (zones_at order key left) n ≡ (not (n == number) && has_zone (zones_at order key es) n)
   zones_of_left number es left some within sorted e key n low high =
       ap (λ xs. has_zone (zones_at order key xs) n) e ∙ found_without total number n key es some within low high sorted
 
@@ -124,8 +125,8 @@ keys_without number es left is e = record {
 }
 
 pub zones_of_patterns : ((p : PlainPattern) → pattern_in (pattern_key p) ≡ p) → (number : ℕ) (es left : List (List ℕ × Standing)) (trie : List (PlainPattern × Standing))
-    → 1 ≤ number → number ≤ 32 → IsNameTrie es → ranked_patterns es ≡ trie → left ≡ entries_without number es
-    → (p : PlainPattern) (n : ℕ) → 1 ≤ n → n ≤ 32 → has_zone (zones_at key_order (pattern_key p) left) n ≡ (not (n == number) && has_zone (zones_at pattern_order p trie) n)
+    → 1 ≤ number → number ≤ ZONE_LIMIT → IsNameTrie es → ranked_patterns es ≡ trie → left ≡ entries_without number es
+    → (p : PlainPattern) (n : ℕ) → 1 ≤ n → n ≤ ZONE_LIMIT → has_zone (zones_at key_order (pattern_key p) left) n ≡ (not (n == number) && has_zone (zones_at pattern_order p trie) n)
 zones_of_patterns back number es left trie some within is same e p n low high =
     zones_of_left key_total number es left some within is.ordered e (pattern_key p) n low high
     ∙ ap (λ (zones : ℕ). not (n == number) && has_zone zones n) (zones_standing back es trie is same p)

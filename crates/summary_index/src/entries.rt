@@ -3,6 +3,7 @@
 ghost use Rattle.std.specs.Prelude.{◌≡◌, ◌≤◌, ◌++◌, [], ◌∷◌, map, IfOk};
 ghost use Rattle.octet_trie.specs.Trie.{found_entry};
 ghost use Rattle.summary_index.specs.Entries.{entries_without, entry_of, entry_without, in_trie, standing};
+ghost use Rattle.zone_rows.specs.declared.zone.TheConstants.{ZONE_LIMIT};
 
 use crate::zones::Zones;
 use octet_trie::OctetFound;
@@ -68,14 +69,14 @@ fn push_with<'a>(
     push(entry.key, entry.wild, value, entries)
 }
 
-/// The entries without the zone of this number, which is from 1 to 32, and without those that no zone is left at.
+/// The entries without the zone of this number, which is from 1 to 64, and without those that no zone is left at.
 pub(crate) fn without_zone<'a>(
     alloc: Global,
     entries: &[OctetFound<'a, Zones, bool>],
     number: u32,
 ) -> Result<Vec<OctetFound<'a, Zones, bool>>, AllocError>
     requires some { 1 ≤ number }
-    requires within { number ≤ 32 }
+    requires within { number ≤ ZONE_LIMIT }
     ensures { let all = entries_without number (map found_entry entries.now) in
         IfOk result (λ left. map found_entry left.items ≡ all) }
 {
@@ -93,7 +94,7 @@ fn push_without<'a>(
     entries: &mut Vec<OctetFound<'a, Zones, bool>>,
 ) -> Result<(), AllocError>
     requires some { 1 ≤ number }
-    requires within { number ≤ 32 }
+    requires within { number ≤ ZONE_LIMIT }
     ensures { let more = entry_without number (found_entry entry.now) in
         IfOk result (λ _. map found_entry entries.new.items ≡ map found_entry entries.old.items ++ more) }
 {

@@ -14,6 +14,7 @@ ghost use Rattle.qname_index.specs.Trie.{IsNameTrie};
 ghost use Rattle.summary_index.specs.Entries.{zones_by_key};
 ghost use Rattle.summary_index.specs.Summary.{may_fit, no_rules, put_zones, zones_at, zones_in};
 ghost use Rattle.summary_index.specs.Zones.{has_zone};
+ghost use Rattle.zone_rows.specs.declared.zone.TheConstants.{ZONE_LIMIT};
 
 use crate::entries::{marked, without_zone};
 use crate::zones::Zones;
@@ -153,13 +154,13 @@ impl NameSummary {
         })
     }
 
-    /// The entries by the octets of their patterns' keys, in the order of these, without the zone of this number, which is from 1 to 32,
+    /// The entries by the octets of their patterns' keys, in the order of these, without the zone of this number, which is from 1 to 64,
     /// and without those that no zone is left at.
     pub fn without_zone(&self, number: u32) -> Result<Vec<OctetFound<'_, Zones, bool>>, AllocError>
         requires some { 1 ≤ number }
-        requires within { number ≤ 32 }
+        requires within { number ≤ ZONE_LIMIT }
         ensures keys { IfOk result (λ entries. IsNameTrie (map found_entry entries.items)) }
-        ensures zones { IfOk result (λ entries. (p : PlainPattern) → IsKey p → (n : ℕ) → 1 ≤ n → n ≤ 32 →
+        ensures zones { IfOk result (λ entries. (p : PlainPattern) → IsKey p → (n : ℕ) → 1 ≤ n → n ≤ ZONE_LIMIT →
             has_zone (zones_by_key (pattern_key p) entries.items) n
             ≡ (not (n == number) && has_zone (zones_at pattern_order p self.now.triggers) n)) }
         ensures left { IfOk result (λ entries. AllByRecursion (λ e. (e.value.value == 0) ≡ false) entries.items) }

@@ -2,6 +2,7 @@
 
 ghost use Rattle.std.specs.Prelude.{◌≡◌, ◌≤◌, ◌++◌, map, IfOk};
 ghost use Rattle.summary_index.specs.Entries.{entries_without, entry_without, in_trie};
+ghost use Rattle.zone_rows.specs.declared.zone.TheConstants.{ZONE_LIMIT};
 
 use crate::zones::Zones;
 use ip_prefix::Prefix;
@@ -39,14 +40,14 @@ pub(crate) fn marked_prefixes(
     Ok(marked)
 }
 
-/// The entries without the zone of this number, which is from 1 to 32, and without those that no zone is left at.
+/// The entries without the zone of this number, which is from 1 to 64, and without those that no zone is left at.
 pub(crate) fn without_zone(
     alloc: Global,
     entries: &[(Prefix, Marked<Zones, bool>)],
     number: u32,
 ) -> Result<Vec<(Prefix, Marked<Zones, bool>)>, AllocError>
     requires some { 1 ≤ number }
-    requires within { number ≤ 32 }
+    requires within { number ≤ ZONE_LIMIT }
     ensures { IfOk result (λ left. left.items ≡ entries_without number entries.now) }
 {
     let mut left = Vec::with_capacity(alloc, entries.len())?;
@@ -63,7 +64,7 @@ fn push_without(
     entries: &mut Vec<(Prefix, Marked<Zones, bool>)>,
 ) -> Result<(), AllocError>
     requires some { 1 ≤ number }
-    requires within { number ≤ 32 }
+    requires within { number ≤ ZONE_LIMIT }
     ensures { IfOk result (λ _. entries.new.items ≡ entries.old.items ++ entry_without number entry.now) }
 {
     let zones = entry.1.value.without(number);

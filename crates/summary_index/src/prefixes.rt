@@ -8,6 +8,7 @@ ghost use Rattle.std.specs.Map.{keys_of};
 ghost use Rattle.ip_prefix.specs.Prefix.{PlainPrefix, contains, prefix_order};
 ghost use Rattle.summary_index.specs.Summary.{may_fit, no_rules, put_zones, zones_at, zones_in};
 ghost use Rattle.summary_index.specs.Zones.{has_zone};
+ghost use Rattle.zone_rows.specs.declared.zone.TheConstants.{ZONE_LIMIT};
 
 use crate::prefix_entries::{marked_prefixes, without_zone};
 use crate::zones::Zones;
@@ -143,7 +144,7 @@ impl PrefixSummary {
         })
     }
 
-    /// The entries in order of precedence, without the zone of this number, which is from 1 to 32, and without those that no zone is
+    /// The entries in order of precedence, without the zone of this number, which is from 1 to 64, and without those that no zone is
     /// left at.
     pub fn without_zone(
         &self,
@@ -151,9 +152,9 @@ impl PrefixSummary {
         number: u32,
     ) -> Result<Vec<(Prefix, Marked<Zones, bool>)>, AllocError>
         requires some { 1 ≤ number }
-        requires within { number ≤ 32 }
+        requires within { number ≤ ZONE_LIMIT }
         ensures sorted { IfOk result (λ entries. IsStrictlySortedBy prefix_order (keys_of entries.items)) }
-        ensures zones { IfOk result (λ entries. (p : PlainPrefix) → (n : ℕ) → 1 ≤ n → n ≤ 32 →
+        ensures zones { IfOk result (λ entries. (p : PlainPrefix) → (n : ℕ) → 1 ≤ n → n ≤ ZONE_LIMIT →
             has_zone (zones_at prefix_order p entries.items) n
             ≡ (not (n == number) && has_zone (zones_at prefix_order p self.now.triggers) n)) }
         ensures left { IfOk result (λ entries. AllByRecursion (λ e. (e.1.value == 0) ≡ false) entries.items) }

@@ -2,15 +2,16 @@
 
 ghost use Rattle.std.specs.Prelude.{◌≡◌, ℕ, ◌≤◌, ◌==◌, ◌||◌, ◌&&◌, bit_or, false, not};
 ghost use Rattle.summary_index.specs.Zones.{has_zone, zones_without};
+ghost use Rattle.zone_rows.specs.declared.zone.TheConstants.{ZONE_LIMIT};
 
 use std::marker::Model;
 use trie_keys::NumberSet;
 
-/// A set of zones of a policy, by their numbers, from 1 to 32. It takes four octets.
+/// A set of zones of a policy, by their numbers, from 1 to 64. It takes eight octets.
 #[derive(Clone, Copy, Debug, Default, PartialEq, Eq)]
 pub struct Zones {
     // bit 0 stands for zone 1
-    mask: u32,
+    mask: u64,
 }
 
 impl Model for Zones {
@@ -20,7 +21,7 @@ impl Model for Zones {
 
     ghost view = { λ z. z.mask };
 
-    ghost invariant = { λ z. z.mask < 2 ^ 32 };
+    ghost invariant = { λ z. z.mask < 2 ^ 64 };
 
     ghost inverse = { λ z. record { mask = z } };
 }
@@ -48,10 +49,10 @@ impl NumberSet for Zones {
 }
 
 impl Zones {
-    /// With the zone of this number, which is from 1 to 32.
+    /// With the zone of this number, which is from 1 to 64.
     pub fn with(self, number: u32) -> Self
         requires some { 1 ≤ number }
-        requires within { number ≤ 32 }
+        requires within { number ≤ ZONE_LIMIT }
         ensures { (n : ℕ) → 1 ≤ n → has_zone result n ≡ (n == number || has_zone self n) }
     {
         Zones {
@@ -59,11 +60,11 @@ impl Zones {
         }
     }
 
-    /// Without the zone of this number, which is from 1 to 32.
+    /// Without the zone of this number, which is from 1 to 64.
     pub fn without(self, number: u32) -> Self
         requires some { 1 ≤ number }
-        requires within { number ≤ 32 }
-        ensures others { (n : ℕ) → 1 ≤ n → n ≤ 32 → has_zone result n ≡ (not (n == number) && has_zone self n) }
+        requires within { number ≤ ZONE_LIMIT }
+        ensures others { (n : ℕ) → 1 ≤ n → n ≤ ZONE_LIMIT → has_zone result n ≡ (not (n == number) && has_zone self n) }
         ensures mask { result ≡ zones_without number self }
     {
         Zones {
@@ -71,10 +72,10 @@ impl Zones {
         }
     }
 
-    /// Whether the zone of this number is one of them. The number is from 1 to 32.
+    /// Whether the zone of this number is one of them. The number is from 1 to 64.
     pub fn has(self, number: u32) -> bool
         requires some { 1 ≤ number }
-        requires within { number ≤ 32 }
+        requires within { number ≤ ZONE_LIMIT }
         ensures { result ≡ has_zone self number }
     {
         self.mask >> (number - 1) & 1 == 1

@@ -16,7 +16,7 @@ use std::alloc::Global;
 pub const ROW_LIMIT: u32 = 16_777_216;
 
 /// How many zones a policy has at most.
-pub const ZONE_LIMIT: usize = 32;
+pub const ZONE_LIMIT: usize = 64;
 
 /// A zone: its origin, and what it holds once a transfer was taken.
 #[derive(Debug, Drop)]

@@ -1,4 +1,5 @@
 use Rattle.std.proofs.Common.{◌∙◌, ◌||◌, bit_or}
+use lib.Bits.{or_lt}
 use Rattle.summary_index.specs.Zones.{has_zone}
 use Rattle.summary_index.proofs.Bits.{zones_of_both}
 use Rattle.summary_index.proofs.zones.ZonesNumberSet.union.Goals as goal
@@ -10,3 +11,6 @@ returns c = record {
       ∙ (λ i. has_zone (c.self.view_is i) n || has_zone (c.other.view_is i) n);
   mask = (λ i. bit_or (c.self.view_is i) (c.other.view_is i));
 }
+
+pub invariant_of-result : goal.invariant_of-result
+invariant_of-result c = or_lt 64 c.self.inside.mask c.other.inside.mask c.self.invariant c.other.invariant
