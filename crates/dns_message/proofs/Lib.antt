@@ -14,3 +14,10 @@ pub mod MessageFaults
 pub mod Lasting
 pub mod Begins
 pub mod InPlace
+pub mod CompressedData
+pub mod CompressedRecords
+pub mod CompressedMessages
+pub mod DataLoop
+pub mod Drafts
+pub mod Fronts
+pub mod ProgressSteps

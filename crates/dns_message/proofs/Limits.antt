@@ -25,10 +25,10 @@ length-counts q a u d =
       length-number_octets 2 d,
     )
 
-length-header : (h : Header) (q a u d : ℕ) → length (header_octets 0 h q a u d) ≡ 12
+pub length-header : (z : ℕ) (h : Header) (q a u d : ℕ) → length (header_octets z h q a u d) ≡ 12
 unfolding header_octets
-length-header h q a u d =
-    let flags : List ℕ = first_flags h ∷ second_flags 0 h ∷ [] in
+length-header z h q a u d =
+    let flags : List ℕ = first_flags h ∷ second_flags z h ∷ [] in
     omega (arith, length-append (number_octets 2 h.id ++ flags) (count_octets q a u d), length-append (number_octets 2 h.id) flags, length-number_octets 2 h.id, length-counts q a u d)
 
 question_short : (question : Option Question) → IfSome question IsQuestion → length (question_octets question) ≤ 259
@@ -77,7 +77,7 @@ truncated_short h question edns is =
       length-append ((header ++ asked) ++ none) none,
       length-append (header ++ asked) none,
       length-append header asked,
-      length-header (truncated_header h) (question_count question) 0 0 (0 + opt_count edns),
+      length-header 0 (truncated_header h) (question_count question) 0 0 (0 + opt_count edns),
       question_short question is,
       opt_short edns,
       no_records,

@@ -20,7 +20,7 @@ use Rattle.dns_message.proofs.RecordsGrammar.{records_written}
 abbrev time_to_live : Edns → ℕ
 time_to_live e = e.extended * 16777216 + e.version * 65536
 
-abbrev opt_record : Edns → PlainRecord
+abbrev pub opt_record : Edns → PlainRecord
 opt_record e = record { owner = []; rtype = 41; class = e.payload; ttl = time_to_live e; rdata = [] }
 
 four_octets : (n a b : ℕ) → n ≡ a * 16777216 + b * 65536 → a < 256 → b < 256 → number_octets 4 n ≡ a ∷ b ∷ 0 ∷ 0 ∷ []
@@ -35,7 +35,7 @@ four_octets n a b e f g =
 ttl_octets : (e : Edns) → IsEdns e → number_octets 4 (time_to_live e) ≡ e.extended ∷ e.version ∷ 0 ∷ 0 ∷ []
 ttl_octets e is = four_octets (time_to_live e) e.extended e.version refl is.extended_fits is.version_fits
 
-opt_spelled : (e : Edns) → IsEdns e → opt_octets (Some e) ≡ record_octets (opt_record e)
+pub opt_spelled : (e : Edns) → IsEdns e → opt_octets (Some e) ≡ record_octets (opt_record e)
 unfolding opt_octets record_octets
 opt_spelled e is =
     let octets : List ℕ = number_octets 2 41 ++ number_octets 2 e.payload ++ (e.extended ∷ e.version ∷ 0 ∷ 0 ∷ []) ++ number_octets 2 0 in
@@ -60,7 +60,7 @@ opt_told e is =
     rw (version, extended) refl
 
 -- the OPT record that is written, if there is one
-abbrev opt_list : Option Edns → List PlainRecord
+abbrev pub opt_list : Option Edns → List PlainRecord
 opt_list None = []
 opt_list (Some e) = opt_record e ∷ []
 
@@ -71,11 +71,11 @@ pub record WrittenAdditional (records : List PlainRecord) (edns : Option Edns) (
   pub told : edns_in (filter is_opt all) ≡ Ok edns
   pub others : filter (λ r. not (is_opt r)) all ≡ records
 
-opts_counted : (edns : Option Edns) → length (opt_list edns) ≡ opt_count edns
+pub opts_counted : (edns : Option Edns) → length (opt_list edns) ≡ opt_count edns
 opts_counted None = refl
 opts_counted (Some e) = refl
 
-opts_are : (edns : Option Edns) → IfSome edns IsEdns → AllByRecursion IsRecord (opt_list edns)
+pub opts_are : (edns : Option Edns) → IfSome edns IsEdns → AllByRecursion IsRecord (opt_list edns)
 opts_are None is = tt
 opts_are (Some e) is = (opt_is e is, tt)
 
@@ -84,15 +84,15 @@ unfolding records_octets opt_octets
 opts_spelled None is = refl
 opts_spelled (Some e) is = append-nil (record_octets (opt_record e)) ∙ sym (opt_spelled e is)
 
-opts_told : (edns : Option Edns) → IfSome edns IsEdns → edns_in (filter is_opt (opt_list edns)) ≡ Ok edns
+pub opts_told : (edns : Option Edns) → IfSome edns IsEdns → edns_in (filter is_opt (opt_list edns)) ≡ Ok edns
 opts_told None is = refl
 opts_told (Some e) is = ap (λ (x : Edns). Ok (Some x)) (opt_told e is)
 
-opts_alone : (edns : Option Edns) → filter (λ r. not (is_opt r)) (opt_list edns) ≡ []
+pub opts_alone : (edns : Option Edns) → filter (λ r. not (is_opt r)) (opt_list edns) ≡ []
 opts_alone None = refl
 opts_alone (Some e) = refl
 
-both_are : (records more : List PlainRecord) → AllByRecursion IsRecord records → AllByRecursion IsRecord more → AllByRecursion IsRecord (records ++ more)
+pub both_are : (records more : List PlainRecord) → AllByRecursion IsRecord records → AllByRecursion IsRecord more → AllByRecursion IsRecord (records ++ more)
 both_are [] more a b = b
 both_are (r ∷ rs) more a b = (a.0, both_are rs more a.1 b)
 
@@ -100,13 +100,13 @@ both_spelled : (records more : List PlainRecord) → records_octets (records ++ 
 unfolding records_octets
 both_spelled records more = flat_map-append record_octets records more
 
-none_more : (records opts : List PlainRecord) → AllByRecursion (λ r. is_opt r ≡ false) records → filter is_opt (records ++ opts) ≡ filter is_opt opts
+pub none_more : (records opts : List PlainRecord) → AllByRecursion (λ r. is_opt r ≡ false) records → filter is_opt (records ++ opts) ≡ filter is_opt opts
 none_more [] opts plain = refl
 none_more (r ∷ rs) opts plain =
     let e : is_opt r ≡ false = plain.0 in
     rw e (none_more rs opts plain.1)
 
-all_others : (records opts : List PlainRecord) → AllByRecursion (λ r. is_opt r ≡ false) records → filter (λ r. not (is_opt r)) opts ≡ [] → filter (λ r. not (is_opt r)) (records ++ opts) ≡ records
+pub all_others : (records opts : List PlainRecord) → AllByRecursion (λ r. is_opt r ≡ false) records → filter (λ r. not (is_opt r)) opts ≡ [] → filter (λ r. not (is_opt r)) (records ++ opts) ≡ records
 all_others [] opts plain none = none
 all_others (r ∷ rs) opts plain none =
     let e : is_opt r ≡ false = plain.0 in

@@ -1,11 +1,10 @@
 -- What is written in several steps, one after another.
-use Rattle.std.proofs.Common.{◌≡◌, ℕ, ◌+◌, ◌/◌, ◌%◌, ◌<◌, List, [], ◌∷◌, ◌++◌, length, map, take, get_or, sym, ap, ◌∙◌, append_assoc, arith}
+use Rattle.std.proofs.Common.{◌≡◌, ℕ, ◌+◌, ◌/◌, ◌%◌, ◌<◌, List, [], ◌∷◌, ◌++◌, length, take, get_or, sym, ap, ◌∙◌, append_assoc, arith}
 use Rattle.std.specs.List.{flat_map}
-use Rattle.std.proofs.lemmas.List.{append-nil, map-append, take_more}
+use Rattle.std.proofs.lemmas.List.{append-nil, take_more}
 use Rattle.std.proofs.lemmas.List.Concat.{flat_map-append}
 use Rattle.dns_record.specs.Number.{number_octets}
 use Rattle.dns_record.specs.Record.{PlainRecord, record_octets}
-use Rattle.dns_message.specs.Aged.{aged}
 use Rattle.dns_message.specs.Spelling.{records_octets}
 
 -- only the lowest 16 bits are written
@@ -29,19 +28,6 @@ records_more records i d before out out' lt e f =
 pub none_written : (before : List ℕ) (records : List PlainRecord) → before ≡ before ++ records_octets (take 0 records)
 unfolding records_octets
 none_written before records = sym (append-nil before)
-
--- one record more, when so many seconds have passed since it came
-pub aged_more : (seconds : ℕ) (records : List PlainRecord) (i : ℕ) (d : PlainRecord) (before out out' : List ℕ) → i < length records → out ≡ before ++ records_octets (map (aged seconds) (take i records)) → out' ≡ out ++ record_octets (aged seconds (get_or records i d)) → out' ≡ before ++ records_octets (map (aged seconds) (take (i + 1) records))
-unfolding records_octets
-aged_more seconds records i d before out out' lt e f =
-    let first = map (aged seconds) (take i records) in
-    let next = aged seconds (get_or records i d) in
-    let one = record_octets next in
-    let octets = flat_map record_octets first in
-    let all : map (aged seconds) (take (i + 1) records) ≡ first ++ next ∷ [] = ap (map (aged seconds)) (take_more records i d lt) ∙ map-append (aged seconds) (take i records) (get_or records i d ∷ []) in
-    let more : flat_map record_octets (map (aged seconds) (take (i + 1) records)) ≡ octets ++ one =
-    ap (flat_map record_octets) all ∙ flat_map-append record_octets first (next ∷ []) ∙ ap (λ (l : List ℕ). octets ++ l) (append-nil one) in
-    f ∙ ap (λ (l : List ℕ). l ++ one) e ∙ append_assoc before octets one ∙ ap (λ (l : List ℕ). before ++ l) (sym more)
 
 -- six pieces after what stands before them
 pub regrouped : (before a b c d e f : List ℕ) → (((((before ++ a) ++ b) ++ c) ++ d) ++ e) ++ f ≡ before ++ (((((a ++ b) ++ c) ++ d) ++ e) ++ f)

@@ -91,7 +91,7 @@ laid z m bytes after h =
 
 -- from the parts to what is read
 
-count_small : (q : Option Question) → question_count q < 256 ^ 2
+pub count_small : (q : Option Question) → question_count q < 256 ^ 2
 count_small None = omega arith
 count_small (Some q) = omega arith
 
@@ -120,7 +120,7 @@ message_read m z bytes is z_fits long h =
       others = additional.others;
     })
 
-whole_stands : (bytes : List ℕ) → Stands bytes bytes 0 (length bytes)
+pub whole_stands : (bytes : List ℕ) → Stands bytes bytes 0 (length bytes)
 whole_stands bytes = record { begins = take_all (length bytes) bytes (omega arith); ends = omega arith }
 
 long_enough : (z : ℕ) (m : Message) → 12 ≤ length (message_octets z m)

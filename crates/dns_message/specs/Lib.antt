@@ -8,3 +8,5 @@ pub mod Request
 pub mod Limit
 pub mod Aged
 pub mod Written
+pub mod Compressed
+pub mod Progress

@@ -9,7 +9,7 @@ use Rattle.dns_message.specs.declared.limit.TheConstants.{LEAST_LIMIT, GREATEST_
 use Rattle.dns_message.specs.declared.message.Message.{Message}
 use Rattle.dns_message.specs.declared.question.Question.{Question}
 use Rattle.dns_message.specs.declared.request.Query.{Query}
-use Rattle.dns_message.specs.Spelling.{parts_octets, spelling}
+use Rattle.dns_message.specs.Spelling.{parts_octets}
 
 -- over UDP: the size that the OPT record of the request tells, within bounds; the least without one
 abbrev pub udp_limit : Option Edns → ℕ
@@ -57,10 +57,6 @@ truncated_octets h question edns = parts_octets 0 (truncated_header h) question 
 -- a message, or its truncated form exactly where it is longer than the limit
 abbrev pub within_limit : ℕ → List ℕ → List ℕ → List ℕ
 within_limit limit whole cut = if nat_lt limit (length whole) then cut else whole
-
--- a message as it is written within a limit
-abbrev pub spelling_within : ℕ → Message → List ℕ
-spelling_within limit m = within_limit limit (spelling m) (spelling (truncated_form m))
 
 -- the octets of a message of this header, question and OPT record, or of its truncated form, within a limit
 abbrev pub octets_within : ℕ → List ℕ → Header → Option Question → Option Edns → List ℕ

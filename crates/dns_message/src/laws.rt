@@ -1,13 +1,14 @@
 //! Laws of messages. Each function is its clauses, and does nothing.
 
-ghost use Rattle.std.specs.Prelude.{◌≡◌, ℕ, ◌<◌, List, Ok, Err};
+ghost use Rattle.std.specs.Prelude.{◌≡◌, ℕ, ◌+◌, ◌<◌, List, length, take, Ok, Err};
 ghost use Rattle.dns_record.specs.Number.{AreOctets};
 ghost use Rattle.dns_message.specs.declared.fault.MessageFault.{MessageFault};
 ghost use Rattle.dns_message.specs.declared.message.Message.{Message};
+ghost use Rattle.dns_message.specs.Compressed.{compressed_message};
 ghost use Rattle.dns_message.specs.Faults.{MessageShows};
 ghost use Rattle.dns_message.specs.Grammar.{MessageAt};
 ghost use Rattle.dns_message.specs.Reading.{message_of};
-ghost use Rattle.dns_message.specs.Spelling.{message_octets, IsMessage};
+ghost use Rattle.dns_message.specs.Spelling.{header_octets, message_octets, opt_count, question_count, IsMessage};
 
 /// Exactly the messages that the bytes are by the rules of the grammar are read, and exactly the faults are given
 /// that the bytes show by them.
@@ -21,11 +22,23 @@ pub fn a_message_is_read_by_its_grammar()
         MessageShows bytes fault → message_of bytes ≡ Err fault }
 {}
 
-/// What `write_message` writes is read as the message, also where the bits Z of the header are set; and what is
+/// A message whose names stand in full is read as the message, also where the bits Z of the header are set; and what is
 /// read is such a message.
 pub fn a_message_is_read_as_it_is_spelled()
     ensures written { (m : Message) (z : ℕ) → IsMessage m → z < 8 →
         message_of (message_octets z m) ≡ Ok m }
     ensures is_message { (bytes : List ℕ) (m : Message) → AreOctets bytes →
         message_of bytes ≡ Ok m → IsMessage m }
+{}
+
+/// A message whose names are compressed is read as the message, also where the bits Z of the header are set.
+pub fn a_compressed_message_is_read()
+    ensures { (m : Message) (z : ℕ) → IsMessage m → z < 8 → message_of (compressed_message z m) ≡ Ok m }
+{}
+
+/// A message whose names are compressed begins with its header.
+pub fn a_compressed_message_begins_with_its_header()
+    ensures { (m : Message) (z : ℕ) → take 12 (compressed_message z m)
+        ≡ header_octets z m.header (question_count m.question) (length m.answer)
+        (length m.authority) (length m.additional + opt_count m.edns) }
 {}

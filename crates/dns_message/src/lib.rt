@@ -1,13 +1,15 @@
-//! Messages of the domain name system (RFC 1035, section 4), read whole and written with names in full, and
-//! the triage of requests.
+//! Messages of the domain name system (RFC 1035, section 4), read whole, and written with names in full or
+//! compressed; and the triage of requests.
 #![tactic(auto)]
 
+mod compressed_data;
 mod edns;
 mod fault;
 mod header;
 pub mod laws;
 mod limit;
 mod message;
+mod message_writer;
 mod opt_reading;
 mod question;
 mod reading;
@@ -22,6 +24,7 @@ pub use fault::{MessageError, MessageFault};
 pub use header::Header;
 pub use limit::{GREATEST_LIMIT, LEAST_LIMIT, reply_limit};
 pub use message::Message;
+pub use message_writer::{KNOWN_KEY, MessageWriter, record_ref, write_message};
 pub use question::Question;
 pub use reading::{read_header, read_message};
 pub use record_refs::RecordRefs;
@@ -30,7 +33,5 @@ pub use triage::{
     FORMAT_ERROR, NO_ERROR, NOT_IMPLEMENTED, REFUSED, classify, has_later_version,
     read_query_parts, refusal, speaks,
 };
-pub use writing::{
-    finish_message, write_aged_records, write_message, write_parts, write_records, write_start,
-};
+pub use writing::{write_full, write_parts, write_start};
 pub use written::WrittenRecords;

@@ -1,11 +1,9 @@
 //! Writes a message, its names in full.
 
-ghost use Rattle.std.specs.Prelude.{◌≡◌, ◌≤◌, ◌++◌, length, map, take, option_copied, IfOk, IfSome, OnOk, OnErr};
+ghost use Rattle.std.specs.Prelude.{◌≡◌, ◌≤◌, ◌++◌, length, take, option_copied, IfOk, IfSome, OnOk, OnErr};
 ghost use Rattle.dns_record.specs.Number.{number_octets};
-ghost use Rattle.dns_record.specs.Record.{record_octets};
-ghost use Rattle.dns_message.specs.Aged.{aged};
-ghost use Rattle.dns_message.specs.Limit.{octets_within, spelling_within};
-ghost use Rattle.dns_message.specs.Spelling.{first_flags as flags_first, second_flags as flags_second, question_octets, records_octets, opt_octets, header_octets, start_octets, parts_octets, IsQuestion};
+ghost use Rattle.dns_message.specs.Limit.{octets_within};
+ghost use Rattle.dns_message.specs.Spelling.{first_flags as flags_first, second_flags as flags_second, spelling, question_octets, records_octets, opt_octets, header_octets, start_octets, parts_octets, IsQuestion};
 
 use crate::edns::Edns;
 use crate::header::Header;
@@ -14,37 +12,30 @@ use crate::message::Message;
 use crate::question::Question;
 use dns_name::Octets;
 use dns_record::number::push_u16;
-use dns_record::{Record, rtype, write_record};
+use dns_record::{Record, rtype};
 use std::alloc::{AllocError, Global};
 
-/// The bytes of the message, its names in full and the bits Z 0, or, exactly where these are more than the
-/// limit, those of its truncated form: the header with TC 1, the question, and the OPT record.
-pub fn write_message(alloc: Global, message: &Message, limit: usize) -> Result<Octets, AllocError>
-    requires low { LEAST_LIMIT ≤ limit }
-    requires high { limit ≤ GREATEST_LIMIT }
-    ensures octets { IfOk result (λ octets. octets ≡ spelling_within limit message.now) }
-    ensures fits { IfOk result (λ octets. length octets ≤ limit) }
+/// The bytes of the message, its names in full and the bits Z 0.
+pub fn write_full(alloc: Global, message: &Message) -> Result<Octets, AllocError>
+    ensures { IfOk result (λ octets. octets ≡ spelling message.now) }
 {
     let mut out = Octets::with_capacity(alloc, 512)?;
-    let question = message.question.as_ref();
-    let edns = message.edns.as_ref();
     write_parts(
         &mut out,
         &message.header,
-        question,
+        message.question.as_ref(),
         message.answer.as_slice(),
         message.authority.as_slice(),
         message.additional.as_slice(),
-        edns,
+        message.edns.as_ref(),
     )?;
-    truncate_beyond(&mut out, limit, &message.header, question, edns)?;
     Ok(out)
 }
 
 /// Ends a message that was written piece by piece, from the start of the buffer on: puts the OPT record behind
 /// it, or, exactly where it is then longer than the limit, its truncated form in its place: the header with TC
 /// 1, the question, and the OPT record. An `Err` leaves some of the message or some of its truncated form.
-pub fn finish_message(
+pub(crate) fn finish_message(
     out: &mut Octets,
     limit: usize,
     header: &Header,
@@ -127,8 +118,8 @@ pub fn write_parts(
 }
 
 /// Writes the header, its bits Z 0, and the question of a message at the end. So many records are to follow in each
-/// section, the OPT record counted with the additional ones, of which the low 16 bits are written; [`write_records`]
-/// and [`dns_record::write_record`] write them, and [`finish_message`] the OPT record. An `Err` leaves what was written before, and maybe a part of the message behind it.
+/// section, the OPT record counted with the additional ones, of which the low 16 bits are written. An `Err` leaves what was written
+/// before, and maybe a part of the message behind it.
 #[tactic(auto, unfolding(crate::specs::Spelling::start_octets), using(crate::proofs::Pieces::two_regrouped))]
 pub fn write_start(
     out: &mut Octets,
@@ -156,7 +147,7 @@ pub fn write_start(
 
 // Writes the header, its bits Z 0.
 #[tactic(auto, unfolding(crate::specs::Spelling::header_octets, crate::specs::Spelling::count_octets))]
-fn write_header(
+pub(crate) fn write_header(
     out: &mut Octets,
     header: &Header,
     questions: usize,
@@ -220,9 +211,9 @@ fn write_question(out: &mut Octets, question: Option<&Question>) -> Result<(), A
     }
 }
 
-/// Writes records one after another at the end, their names in full. An `Err` leaves what was written before, and
-/// maybe some of the records behind it.
-pub fn write_records(out: &mut Octets, records: &[Record]) -> Result<(), AllocError>
+// Writes records one after another at the end, their names in full. An `Err` leaves what was written before, and
+// maybe some of the records behind it.
+fn write_records(out: &mut Octets, records: &[Record]) -> Result<(), AllocError>
     ensures ok { OnOk result (out.new ≡ out.old ++ records_octets records.now) }
     ensures begins { take (length out.old) out.new ≡ out.old }
 {
@@ -230,32 +221,6 @@ pub fn write_records(out: &mut Octets, records: &[Record]) -> Result<(), AllocEr
         rr.write(out)?;
     }
     Ok(())
-}
-
-/// Writes records that came so many seconds ago, one after another at the end, their names in full. The seconds are taken from
-/// each TTL, which is 0 at the least. An `Err` leaves what was written before, and maybe some of the records behind it.
-pub fn write_aged_records(
-    out: &mut Octets,
-    records: &[Record],
-    seconds: u32,
-) -> Result<(), AllocError>
-    ensures ok { OnOk result
-        (out.new ≡ out.old ++ records_octets (map (aged seconds) records.now)) }
-    ensures begins { take (length out.old) out.new ≡ out.old }
-{
-    for rr in records {
-        write_aged(out, rr, seconds)?;
-    }
-    Ok(())
-}
-
-// Writes a record that came so many seconds ago.
-fn write_aged(out: &mut Octets, rr: &Record, seconds: u32) -> Result<(), AllocError>
-    ensures ok { OnOk result (out.new ≡ out.old ++ record_octets (aged seconds rr.now)) }
-    ensures begins { take (length out.old) out.new ≡ out.old }
-{
-    let ttl = rr.ttl().saturating_sub(seconds);
-    write_record(out, rr.owner(), rr.rtype(), rr.class(), ttl, rr.rdata())
 }
 
 // Writes the OPT record, where there is one: no flags and no options.

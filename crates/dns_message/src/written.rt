@@ -2,9 +2,9 @@
 
 ghost use Rattle.std.specs.Prelude.{◌≡◌, [], ◌∷◌, ◌++◌, ◌+◌, ◌<◌, ◌≤◌, ◌^◌, IfOk, OnOk};
 ghost use Rattle.dns_record.specs.Record.{IsRecord};
-ghost use Rattle.dns_message.specs.Written.{lasting_octets, place_of};
+ghost use Rattle.dns_message.specs.Written.{lasting_octets, span_of};
 
-use crate::record_refs::{Place, RecordRefs};
+use crate::record_refs::{RecordRefs, RecordSpan};
 use dns_name::Octets;
 use dns_record::Record;
 use dns_record::number::push_u16;
@@ -17,7 +17,7 @@ use std::marker::Model;
 pub struct WrittenRecords {
     // All records one after another, but for their TTLs.
     octets: Octets,
-    places: Vec<Place>,
+    spans: Vec<RecordSpan>,
 }
 
 impl Model for WrittenRecords {
@@ -27,10 +27,10 @@ impl Model for WrittenRecords {
 
     ghost Value = { List PlainRecord };
 
-    ghost view = { λ w. records_in w.octets w.places.items };
+    ghost view = { λ w. records_in w.octets w.spans.items };
 
-    ghost invariant = { λ w. AreWritten w.octets w.places.items
-        (records_in w.octets w.places.items) };
+    ghost invariant = { λ w. AreWritten w.octets w.spans.items
+        (records_in w.octets w.spans.items) };
 }
 
 impl WrittenRecords {
@@ -39,18 +39,18 @@ impl WrittenRecords {
         ensures { IfOk result (λ written. written ≡ records.now) }
     {
         let mut octets = Octets::with_capacity(alloc, octet_room(records))?;
-        let mut places = Vec::with_capacity(alloc, records.len())?;
+        let mut spans = Vec::with_capacity(alloc, records.len())?;
         for rr in records {
-            push_record(&mut octets, &mut places, rr)?;
+            push_record(&mut octets, &mut spans, rr)?;
         }
-        Ok(WrittenRecords { octets, places })
+        Ok(WrittenRecords { octets, spans })
     }
 
     /// The records, where they lie.
     pub fn records(&self) -> RecordRefs<'_>
         ensures { result ≡ self.now }
     {
-        RecordRefs::new(self.octets.as_slice(), self.places.as_slice())
+        RecordRefs::new(self.octets.as_slice(), self.spans.as_slice())
     }
 }
 
@@ -65,10 +65,14 @@ fn octet_room(records: &[Record]) -> usize {
 }
 
 // Writes a record at the end, its TTL apart.
-#[tactic(auto, using(crate::proofs::Lasting::lasting_pieces, crate::proofs::Lasting::is_place))]
-fn push_record(octets: &mut Octets, places: &mut Vec<Place>, rr: &Record) -> Result<(), AllocError>
+#[tactic(auto, using(crate::proofs::Lasting::lasting_pieces, crate::proofs::Lasting::is_span))]
+fn push_record(
+    octets: &mut Octets,
+    spans: &mut Vec<RecordSpan>,
+    rr: &Record,
+) -> Result<(), AllocError>
     ensures octets { OnOk result (octets.new ≡ octets.old ++ lasting_octets rr.now) }
-    ensures places { OnOk result (places.new.items ≡ places.old.items ++ place_of rr.now ∷ []) }
+    ensures spans { OnOk result (spans.new.items ≡ spans.old.items ++ span_of rr.now ∷ []) }
     ensures record { OnOk result (IsRecord rr.now) }
 {
     let owner = rr.owner();
@@ -78,17 +82,17 @@ fn push_record(octets: &mut Octets, places: &mut Vec<Place>, rr: &Record) -> Res
     push_u16(octets, rr.class())?;
     push_u16(octets, rdata.len() as u16)?;
     octets.append(rdata)?;
-    places.push(place_at(owner.octets().len(), rr.ttl(), rdata.len()))?;
+    spans.push(span_at(owner.octets().len(), rr.ttl(), rdata.len()))?;
     Ok(())
 }
 
-// The place of a record with an owner and data of so many octets.
-fn place_at(owner: usize, ttl: u32, rdata: usize) -> Place
+// The span of a record with an owner and data of so many octets.
+fn span_at(owner: usize, ttl: u32, rdata: usize) -> RecordSpan
     requires owner { owner ≤ 255 }
     requires rdata { rdata < 2 ^ 16 }
     ensures { result ≡ record { front = owner + 4; ttl = ttl; back = rdata + 2 } }
 {
-    Place {
+    RecordSpan {
         front: owner as u16 + 4,
         ttl,
         back: rdata as u32 + 2,

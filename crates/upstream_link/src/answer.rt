@@ -1,19 +1,17 @@
 //! What is kept of an answer.
 
-ghost use Rattle.std.specs.Prelude.{◌≡◌, ◌++◌, length, take, option_copied, true, IfOk, OnOk};
+ghost use Rattle.std.specs.Prelude.{◌≡◌, length, option_copied, true, IfOk};
 ghost use Rattle.std.specs.List.{find, flat_map, list_any};
 ghost use Rattle.std.specs.Option.{option_map};
-ghost use Rattle.dns_message.specs.Spelling.{records_octets};
 ghost use Rattle.dns_message.specs.Written.{lasting_octets};
 ghost use Rattle.upstream_link.specs.Chain.{is_alias};
 ghost use Rattle.upstream_link.specs.Fact.{answer_in, is_soa as soa_in_class, is_answer_rcode};
 ghost use Rattle.upstream_link.specs.AnswerLife.{life_in};
-ghost use Rattle.upstream_link.specs.Kept.{IsAnswer, aged_answers, at_age, plain_answer};
+ghost use Rattle.upstream_link.specs.Kept.{IsAnswer, at_age, plain_answer};
 
 use crate::aliases::has_alias;
 use crate::life::life_by;
 use dns_message::{Message, RecordRefs, WrittenRecords};
-use dns_name::Octets;
 use dns_record::{Record, Records, class, rtype};
 use std::alloc::{AllocError, Global};
 use std::marker::Model;
@@ -129,15 +127,6 @@ impl Answer {
         ensures { result ≡ self.now.answers }
     {
         self.kept.answers.records()
-    }
-
-    /// Writes the answers at the end, with what is left of their TTLs. An `Err` leaves what was written before, and maybe some
-    /// of the answers behind it.
-    pub fn write_answers(&self, out: &mut Octets) -> Result<(), AllocError>
-        ensures ok { OnOk result (out.new ≡ out.old ++ records_octets (aged_answers self.now)) }
-        ensures begins { take (length out.old) out.new ≡ out.old }
-    {
-        self.answers().write_aged(out, self.age)
     }
 
     /// How many octets the answers take but for their TTLs, to make room for them.

@@ -4,22 +4,22 @@ use Rattle.dns_message.proofs.InPlace.{first_at, one_less}
 use Rattle.dns_message.proofs.record_refs.RecordRefsIterator.next.Goals as goal
 
 pub first_record-record-requires : goal.first_record-record-requires
-first_record-record-requires c = (first_at c.self.inside.octets.now c.self.inside.places.now c.in_ok-place.place.now c.in_ok-place.places.now c.in_ok-place.ensures.cases.0 c.self.invariant).begins
+first_record-record-requires c = (first_at c.self.inside.octets.now c.self.inside.spans.now c.in_ok-span.span.now c.in_ok-span.spans.now c.in_ok-span.ensures.cases.0 c.self.invariant).begins
 
 pub behind-self-inside-requires : goal.behind-self-inside-requires
-behind-self-inside-requires c = (first_at c.self.inside.octets.now c.self.inside.places.now c.in_ok-place.place.now c.in_ok-place.places.now c.in_ok-place.ensures.cases.0 c.self.invariant).begins.room
+behind-self-inside-requires c = (first_at c.self.inside.octets.now c.self.inside.spans.now c.in_ok-span.span.now c.in_ok-span.spans.now c.in_ok-span.ensures.cases.0 c.self.invariant).begins.room
 
 pub invariant_of-self : goal.invariant_of-self
 invariant_of-self c =
-    rw c.behind-self-inside.ensures (first_at c.self.inside.octets.now c.self.inside.places.now c.in_ok-place.place.now c.in_ok-place.places.now c.in_ok-place.ensures.cases.0 c.self.invariant).others
+    rw c.behind-self-inside.ensures (first_at c.self.inside.octets.now c.self.inside.spans.now c.in_ok-span.span.now c.in_ok-span.spans.now c.in_ok-span.ensures.cases.0 c.self.invariant).others
 
 pub returns-clause-steps : goal.returns-clause-steps
 returns-clause-steps c =
     sym c.self.view_is
-    ∙ one_less c.self.inside.octets.now c.self.inside.places.now c.in_ok-place.place.now c.in_ok-place.places.now c.first_record-record.result c.behind-self-inside.result.now c.in_ok-place.ensures.cases.0 c.first_record-record.ensures c.behind-self-inside.ensures
+    ∙ one_less c.self.inside.octets.now c.self.inside.spans.now c.in_ok-span.span.now c.in_ok-span.spans.now c.first_record-record.result c.behind-self-inside.result.now c.in_ok-span.ensures.cases.0 c.first_record-record.ensures c.behind-self-inside.ensures
 
 pub returns-clause-goes : goal.returns-clause-goes
 returns-clause-goes c =
     let step = sym c.self.view_is
-    ∙ one_less c.self.inside.octets.now c.self.inside.places.now c.in_ok-place.place.now c.in_ok-place.places.now c.first_record-record.result c.behind-self-inside.result.now c.in_ok-place.ensures.cases.0 c.first_record-record.ensures c.behind-self-inside.ensures in
+    ∙ one_less c.self.inside.octets.now c.self.inside.spans.now c.in_ok-span.span.now c.in_ok-span.spans.now c.first_record-record.result c.behind-self-inside.result.now c.in_ok-span.ensures.cases.0 c.first_record-record.ensures c.behind-self-inside.ensures in
     let shorter = ap (λ (l : List PlainRecord). length l) step in search rules

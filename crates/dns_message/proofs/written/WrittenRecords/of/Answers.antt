@@ -8,5 +8,5 @@ invariant_of-result c = written_so _ _ (take c.loop-rr.rr-index c.args.records.n
 
 pub returns : goal.returns
 returns c =
-    written_are c.loop-rr.octets c.loop-rr.places.items (take c.loop-rr.rr-index c.args.records.now) (record { are_records = c.loop-rr.invariant.2; octets_are = c.loop-rr.invariant.0; places_are = c.loop-rr.invariant.1 })
+    written_are c.loop-rr.octets c.loop-rr.spans.items (take c.loop-rr.rr-index c.args.records.now) (record { are_records = c.loop-rr.invariant.2; octets_are = c.loop-rr.invariant.0; spans_are = c.loop-rr.invariant.1 })
     ∙ take_all c.loop-rr.rr-index c.args.records.now c.loop-rr-test.false

@@ -1,0 +1,191 @@
+//! Writes the data of a record with its names compressed.
+
+ghost use Rattle.std.specs.Prelude.{◌≡◌, ◌+◌, ◌-◌, ◌^◌, ◌<◌, ◌≤◌, List, ◌∷◌, ◌++◌, length, take, drop, option_copied, IfOk, OnOk};
+ghost use Rattle.dns_record.specs.Number.{number_octets};
+ghost use Rattle.dns_record.specs.Part.{HasParts};
+ghost use Rattle.dns_record.specs.declared.part.Part.{Part as APart};
+ghost use Rattle.dns_message.specs.Compressed as form;
+ghost use Rattle.dns_message.specs.Compressed.{compressed_layout as layout_to_compress, data_by, data_part, data_parts, field_octets, part_length};
+
+use dns_name::Octets;
+use dns_record::{Part, RecordRef, layout, rtype};
+use packed_names::{Places, split_name};
+use std::alloc::{AllocError, Global};
+use std::mem;
+
+// Writes what stands behind the owner of a record: the type, the class, the TTL, the length of the data as they are written, and the
+// data. An `Err` leaves some of it behind what was written before.
+pub(crate) fn write_behind_owner<'n>(
+    alloc: Global,
+    out: &mut Octets,
+    places: &mut Places<'n>,
+    rr: &RecordRef<'n>,
+) -> Result<(), AllocError>
+    ensures octets { OnOk result (
+        let written = data_by (layout_to_compress rr.now.rtype rr.now.class) places.old
+        (length out.old + 10) rr.now.rdata in
+        out.new ≡ (out.old ++ field_octets rr.now (length written.octets)) ++ written.octets
+        ) }
+    ensures places { OnOk result (places.new
+        ≡ (data_by (layout_to_compress rr.now.rtype rr.now.class) places.old
+        (length out.old + 10) rr.now.rdata).places) }
+{
+    let rdata = rr.rdata();
+    match compressed_layout(rr.rtype(), rr.class()) {
+        None => write_plain(out, rr, rdata),
+        Some(parts) => write_compressed_data(alloc, out, places, parts, rr, rdata),
+    }
+}
+
+// The parts of the data of a type and class, if its names are compressed.
+fn compressed_layout(rtype: u16, class: u16) -> Option<&'static [Part]>
+    ensures { option_copied result ≡ layout_to_compress rtype class }
+{
+    if !has_compressed_names(rtype) {
+        return None;
+    }
+    layout(rtype, class)
+}
+
+// The types whose data have names that are compressed.
+fn has_compressed_names(rtype: u16) -> bool
+    ensures { result ≡ form.has_compressed_names rtype }
+{
+    matches!(
+        rtype,
+        rtype::NS
+            | rtype::MD
+            | rtype::MF
+            | rtype::CNAME
+            | rtype::SOA
+            | rtype::MB
+            | rtype::MG
+            | rtype::MR
+            | rtype::PTR
+            | rtype::MINFO
+            | rtype::MX
+    )
+}
+
+// Writes what stands between the owner of a record and data of so many octets.
+fn write_fields(out: &mut Octets, rr: &RecordRef<'_>, len: u16) -> Result<(), AllocError>
+    ensures { OnOk result (out.new ≡ out.old ++ field_octets rr.now len) }
+{
+    out.append(&fields(rr.rtype(), rr.class(), rr.ttl(), len))
+}
+
+// The type, the class, the TTL and the length of the data of a record.
+fn fields(rtype: u16, class: u16, ttl: u32, len: u16) -> [u8; 10]
+    ensures { result
+        ≡ number_octets 2 rtype ++ number_octets 2 class ++ number_octets 4 ttl
+        ++ number_octets 2 len }
+{
+    [
+        (rtype / 0x100) as u8,
+        (rtype % 0x100) as u8,
+        (class / 0x100) as u8,
+        (class % 0x100) as u8,
+        (ttl / 0x100_0000) as u8,
+        (ttl / 0x1_0000 % 0x100) as u8,
+        (ttl / 0x100 % 0x100) as u8,
+        (ttl % 0x100) as u8,
+        (len / 0x100) as u8,
+        (len % 0x100) as u8,
+    ]
+}
+
+// Writes what stands behind the owner, these data as they are.
+fn write_plain(out: &mut Octets, rr: &RecordRef<'_>, rdata: &[u8]) -> Result<(), AllocError>
+    requires { length rdata.now < 2 ^ 16 }
+    ensures { OnOk result
+        (out.new ≡ (out.old ++ field_octets rr.now (length rdata.now)) ++ rdata.now) }
+{
+    write_fields(out, rr, rdata.len() as u16)?;
+    out.append(rdata)
+}
+
+// Writes what stands behind the owner, the names in these data compressed. How long the data are then is known behind them alone, so
+// that their length is set last.
+fn write_compressed_data<'n>(
+    alloc: Global,
+    out: &mut Octets,
+    places: &mut Places<'n>,
+    parts: &[Part],
+    rr: &RecordRef<'n>,
+    rdata: &'n [u8],
+) -> Result<(), AllocError>
+    requires { HasParts parts.now rdata.now }
+    ensures octets { OnOk result (
+        let written = data_parts places.old (length out.old + 10) parts.now rdata.now in
+        out.new ≡ (out.old ++ field_octets rr.now (length written.octets)) ++ written.octets
+        ) }
+    ensures places { OnOk result
+        (places.new ≡ (data_parts places.old (length out.old + 10) parts.now rdata.now).places) }
+{
+    write_fields(out, rr, 0)?;
+    let start = out.len();
+    write_data_parts(out, places, parts, rdata)?;
+    set_length(alloc, out, start - 2);
+    Ok(())
+}
+
+// Writes data of these parts, their names compressed.
+fn write_data_parts<'n>(
+    out: &mut Octets,
+    places: &mut Places<'n>,
+    parts: &[Part],
+    rdata: &'n [u8],
+) -> Result<(), AllocError>
+    requires { HasParts parts.now rdata.now }
+    ensures octets { OnOk result (out.new
+        ≡ out.old ++ (data_parts places.old (length out.old) parts.now rdata.now).octets) }
+    ensures places { OnOk result
+        (places.new ≡ (data_parts places.old (length out.old) parts.now rdata.now).places) }
+{
+    let mut rest = rdata;
+    for part in parts {
+        rest = write_part(out, places, *part, rest)?;
+    }
+    Ok(())
+}
+
+// Writes the part that the data begin with, a name compressed, and gives what stands behind it.
+fn write_part<'n>(
+    out: &mut Octets,
+    places: &mut Places<'n>,
+    part: Part,
+    rdata: &'n [u8],
+) -> Result<&'n [u8], AllocError>
+    requires { (others : List APart) × HasParts (part ∷ others) rdata.now }
+    ensures octets { IfOk result (λ _. out.new
+        ≡ out.old ++ (data_part places.old (length out.old) part rdata.now).octets) }
+    ensures places { IfOk result
+        (λ _. places.new ≡ (data_part places.old (length out.old) part rdata.now).places) }
+    ensures rest { IfOk result (λ rest. rest.now ≡ drop (part_length part rdata.now) rdata.now) }
+{
+    match part {
+        Part::Name => {
+            let (name, rest) = split_name(rdata);
+            places.write_octets(out, name)?;
+            Ok(rest)
+        }
+        Part::Fixed(count) => {
+            let (octets, rest) = rdata.split_at(count);
+            out.append(octets)?;
+            Ok(rest)
+        }
+    }
+}
+
+// Sets the two octets at a place to how many octets stand behind them, of which the low 16 bits are written.
+fn set_length(alloc: Global, out: &mut Octets, at: usize)
+    requires { at + 2 ≤ length out.old }
+    ensures { out.new
+        ≡ take at out.old ++ (number_octets 2 (length out.old - (at + 2)) ++ drop (at + 2) out.old) }
+{
+    let mut octets = mem::replace(out, Octets::new(alloc)).into_vec();
+    let len = octets.len() - (at + 2);
+    octets[at] = (len / 0x100 % 0x100) as u8;
+    octets[at + 1] = (len % 0x100) as u8;
+    *out = Octets::from_vec(octets);
+}
