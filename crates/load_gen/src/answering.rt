@@ -12,6 +12,7 @@ ghost use Rattle.load_gen.specs.Turns.{SaysLast, TurnsOnce};
 use crate::load::LoadQuery;
 use crate::tally::Tally;
 use crate::upstream::fact_for;
+use dns_message::KNOWN_KEY;
 use ip_prefix::Transport;
 use policy_snapshot::Snapshot;
 use query_session::Session;
@@ -55,7 +56,8 @@ fn turn_for(
 {
     let policy = Arc::try_clone(policy)?;
     let message = query.message.as_slice();
-    let mut session = Session::start(alloc, policy, message, query.client, Transport::Udp)?;
+    let udp = Transport::Udp;
+    let mut session = Session::start(alloc, KNOWN_KEY, policy, message, query.client, udp)?;
     last_turn(alloc, &mut session)
 }
 

@@ -14,7 +14,7 @@ use Rattle.dns_message.specs.declared.limit.TheConstants.{LEAST_LIMIT}
 use Rattle.dns_message.specs.declared.message.Message.{Message}
 use Rattle.dns_message.specs.declared.question.Question.{Question}
 use Rattle.dns_message.specs.declared.triage.TheConstants.{NO_ERROR, FORMAT_ERROR, NOT_IMPLEMENTED, REFUSED}
-use Rattle.dns_message.specs.Limit.{spelling_within}
+use Rattle.dns_message.specs.Compressed.{compressed_within}
 use Rattle.dns_message.specs.Reading.{header_in, message_of}
 use Rattle.dns_message.specs.Request.{QueryParts, has_later_version, header_alone, query_parts_in, reply_edns, speaks_in, with_question}
 use Rattle.notify_poll.specs.declared.notifying.Notified.{Notified}
@@ -80,7 +80,7 @@ answer_to bytes client origins timers =
 
 abbrev pub as_notified : Option Message → Notified
 as_notified None = Silent
-as_notified (Some reply) = Reply (spelling_within LEAST_LIMIT reply)
+as_notified (Some reply) = Reply (compressed_within LEAST_LIMIT reply)
 
 -- the timer at this place, changed
 abbrev pub with_timer : (Timer → Timer) → List Timer → ℕ → Option Timer → List Timer

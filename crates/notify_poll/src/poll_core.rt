@@ -6,7 +6,7 @@ ghost use Rattle.notify_poll.specs.Timers.{after_poll, begun, due_zone, first_ti
 
 use crate::notifying::{Notified, answer};
 use crate::timer::{Polling, Timer};
-use dns_message::{LEAST_LIMIT, Message, write_message};
+use dns_message::{KNOWN_KEY, LEAST_LIMIT, Message, write_message};
 use dns_name::Name;
 use ip_prefix::Addr;
 use std::alloc::{AllocError, Global};
@@ -134,6 +134,9 @@ fn written(alloc: Global, reply: Option<Message>) -> Result<Notified, AllocError
 {
     match reply {
         None => Ok(Notified::Silent),
-        Some(reply) => Ok(Notified::Reply(write_message(alloc, &reply, LEAST_LIMIT)?)),
+        Some(reply) => {
+            let octets = write_message(alloc, KNOWN_KEY, &reply, LEAST_LIMIT)?;
+            Ok(Notified::Reply(octets))
+        }
     }
 }

@@ -17,7 +17,7 @@ use Rattle.upstream_link.specs.Fact.{same_question}
 use Rattle.upstream_link.specs.Facts.{AreKept, IsKept, PlainFacts, fact_about}
 use Rattle.upstream_link.specs.Kept.{IsAnswer, PlainAnswer}
 use Rattle.upstream_link.specs.Question.{question_of, main_question}
-use Rattle.reply_build.specs.Reply.{ReplyOutcome, Place, Sections, needs, gives, silent, alias_outcome, alias_record, by_action, by_alias, by_verdict, main_outcome, over_tcp, pass_outcome, place_of, sections, server_failure, target_outcome, truncation}
+use Rattle.reply_build.specs.Reply.{ReplyOutcome, HitPlace, Sections, needs, gives, silent, alias_outcome, alias_record, by_action, by_alias, by_verdict, main_outcome, over_tcp, pass_outcome, place_of, sections, server_failure, target_outcome, truncation}
 use Rattle.reply_build.specs.Target.{alias_in, target_of}
 use Rattle.reply_build.specs.Verdict.{PlainVerdict, passes, fails, applies}
 use Rattle.query_session.specs.Laws.{HasCause, IsBroken, LeadsTo, LetsPass, alias, no_answer, no_rule, no_target, pass_thru, tcp_only, too_long}
@@ -78,7 +78,7 @@ module _ (query : Query) (facts : PlainFacts) (kept : AreKept facts) (rows : Lis
   abbrev decided : PlainVerdict
   decided = applies (Local rows) soa before name
 
-  abbrev place : Place
+  abbrev place : HitPlace
   place = place_of query facts soa before name
 
   known_by : (ttl : ℕ) (target : Name) (fact : Option Fact) → fact_about facts (question_of target query.question.qtype) ≡ fact → Fails (alias_outcome query ttl target place fact) → IsBroken facts (question_of target query.question.qtype)
@@ -129,12 +129,12 @@ passed query _ facts no_rule = refl
 passed query _ facts (pass_thru soa before name) = refl
 passed query _ facts (tcp_only soa before name e) = ap (λ (t : Transport). cond (over_tcp t) (main_outcome query facts) (gives truncation)) e
 
-led : (query : Query) (verdict : PlainVerdict) (facts : PlainFacts) (target : Option Name) → LeadsTo verdict target → (ttl : ℕ) × (place : Place) × (by_verdict query verdict facts ≡ target_outcome query ttl place facts target)
+led : (query : Query) (verdict : PlainVerdict) (facts : PlainFacts) (target : Option Name) → LeadsTo verdict target → (ttl : ℕ) × (place : HitPlace) × (by_verdict query verdict facts ≡ target_outcome query ttl place facts target)
 led query _ facts _ (alias rows row soa before name target is to) =
     let place = place_of query facts soa before name in
     (row.ttl, place, ap (by_alias query rows place facts) is ∙ ap (target_outcome query row.ttl place facts) to)
 
-asked_as : (query : Query) (facts : PlainFacts) (ttl : ℕ) (place : Place) (target : Name) → asks_alias query.question.qtype ≡ false → IsBroken facts (question_of target query.question.qtype) → target_outcome query ttl place facts (Some target) ≡ gives server_failure
+asked_as : (query : Query) (facts : PlainFacts) (ttl : ℕ) (place : HitPlace) (target : Name) → asks_alias query.question.qtype ≡ false → IsBroken facts (question_of target query.question.qtype) → target_outcome query ttl place facts (Some target) ≡ gives server_failure
 asked_as query facts ttl place target asks b =
     ap (λ (t : Bool). cond t (gives (sections 0 (place.kept ++ alias_record place.name ttl target ∷ []) [] (place.soa ∷ []))) (alias_outcome query ttl target place (fact_about facts (question_of target query.question.qtype)))) asks
     ∙ ap (alias_outcome query ttl target place) b.1

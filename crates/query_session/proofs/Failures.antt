@@ -2,13 +2,16 @@
 use Rattle.std.proofs.Common.{◌≡◌, ◌↔◌, ℕ, ◌≤◌, Bool, true, false, cond, List, [], length, get_or, Some, refl, sym, ap, ◌∙◌, subst, arith}
 use Rattle.std.specs.Prelude.{nat_lt}
 use Rattle.std.proofs.lemmas.Bool.{cond_both, ltb-false, ltb-true}
+use Rattle.std.proofs.lemmas.List.{get_or-take}
 use Rattle.dns_record.specs.Number.{number_octets}
 use Rattle.dns_message.specs.declared.message.Message.{Message}
 use Rattle.dns_message.specs.declared.question.Question.{Question}
 use Rattle.dns_message.specs.declared.request.Incoming.TheVariants.{Query as Asks}
 use Rattle.dns_message.specs.declared.request.Query.{Query}
-use Rattle.dns_message.specs.Limit.{reply_limit, spelling_within, truncated_form}
+use Rattle.dns_message.specs.Compressed.{compressed_message, compressed_within}
+use Rattle.dns_message.specs.Limit.{reply_limit, truncated_form}
 use Rattle.dns_message.specs.Spelling.{header_octets, parts_octets, second_flags, spelling}
+use Rattle.dns_message.proofs.Fronts.{compressed_front}
 use Rattle.upstream_link.specs.declared.facts.TheConstants.{FACT_LIMIT}
 use Rattle.upstream_link.specs.Facts.{AreKept, PlainFacts}
 use Rattle.reply_build.specs.declared.said.Said.TheVariants as said
@@ -29,9 +32,14 @@ fourth : (m : Message) → get_or (spelling m) 3 0 ≡ second_flags 0 m.header
 unfolding parts_octets header_octets number_octets
 fourth m = refl
 
-fourth_within : (limit : ℕ) (m : Message) → get_or (spelling_within limit m) 3 0 ≡ second_flags 0 m.header
-fourth_within limit m = cond_both (nat_lt limit (length (spelling m))) (spelling (truncated_form m)) (spelling m) (λ (l : List ℕ). get_or l 3 0 ≡ second_flags 0 m.header)
-    (λ _. fourth (truncated_form m)) (λ _. fourth m)
+-- a message with its names compressed begins with the header
+fourth_compressed : (m : Message) → get_or (compressed_message 0 m) 3 0 ≡ second_flags 0 m.header
+unfolding header_octets number_octets
+fourth_compressed m = sym (get_or-take 12 (compressed_message 0 m) 3 0 (omega arith)) ∙ ap (λ (l : List ℕ). get_or l 3 0) (compressed_front m 0)
+
+fourth_within : (limit : ℕ) (m : Message) → get_or (compressed_within limit m) 3 0 ≡ second_flags 0 m.header
+fourth_within limit m = cond_both (nat_lt limit (length (compressed_message 0 m))) (spelling (truncated_form m)) (compressed_message 0 m) (λ (l : List ℕ). get_or l 3 0 ≡ second_flags 0 m.header)
+    (λ _. fourth (truncated_form m)) (λ _. fourth_compressed m)
 
 octets_of : Turn → List ℕ
 octets_of (Ask question) = []
@@ -42,7 +50,7 @@ octets_of (Said said.Silent) = []
 same_rcode : (limit : ℕ) (query : Query) (s : Sections) → outcome_turn limit query (gives s) ≡ outcome_turn limit query (gives server_failure) → Fails (gives s)
 unfolding octets_of
 same_rcode limit query s e =
-    let octets : spelling_within limit (reply_of query s) ≡ spelling_within limit (reply_of query server_failure) = ap octets_of e in
+    let octets : compressed_within limit (reply_of query s) ≡ compressed_within limit (reply_of query server_failure) = ap octets_of e in
     let byte : second_flags 0 (reply_of query s).header ≡ second_flags 0 (reply_of query server_failure).header =
     sym (fourth_within limit (reply_of query s)) ∙ ap (λ (l : List ℕ). get_or l 3 0) octets ∙ fourth_within limit (reply_of query server_failure) in
     omega arith

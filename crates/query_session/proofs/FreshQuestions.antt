@@ -25,7 +25,7 @@ use Rattle.policy_snapshot.specs.Policy.{PlainPolicy}
 use Rattle.policy_snapshot.specs.Rules.{PlainRule, rules}
 use Rattle.reply_build.specs.declared.turn.Turn.{Turn}
 use Rattle.reply_build.specs.declared.turn.Turn.TheVariants.{Ask, Said}
-use Rattle.reply_build.specs.Reply.{ReplyOutcome, Place, needs, gives, silent, alias_outcome, by_action, by_alias, by_verdict, main_outcome, outcome_turn, over_tcp, pass_outcome, place_of, target_outcome, truncation}
+use Rattle.reply_build.specs.Reply.{ReplyOutcome, HitPlace, needs, gives, silent, alias_outcome, by_action, by_alias, by_verdict, main_outcome, outcome_turn, over_tcp, pass_outcome, place_of, target_outcome, truncation}
 use Rattle.reply_build.specs.Target.{alias_in, target_of}
 use Rattle.reply_build.specs.Verdict.{PlainVerdict, passes, fails, applies as decides}
 use Rattle.query_session.specs.Session.{AsksAnew, question_in, turn_by, turn_by_next, verdict_turn, within_fact_limit}
@@ -166,7 +166,7 @@ tcp_is_new : (query : Query) (facts : PlainFacts) (b : Bool) → OutcomeIsNew fa
 tcp_is_new query facts true = main_is_new query facts
 tcp_is_new query facts false = tt
 
-alias_is_new : (query : Query) (facts : PlainFacts) (ttl : ℕ) (target : List (List ℕ)) (place : Place) (fact : Option Fact) → fact_about facts (question_of target query.question.qtype) ≡ fact → OutcomeIsNew facts (alias_outcome query ttl target place fact)
+alias_is_new : (query : Query) (facts : PlainFacts) (ttl : ℕ) (target : List (List ℕ)) (place : HitPlace) (fact : Option Fact) → fact_about facts (question_of target query.question.qtype) ≡ fact → OutcomeIsNew facts (alias_outcome query ttl target place fact)
 alias_is_new query facts ttl target place None e = e
 alias_is_new query facts ttl target place (Some (Broken why)) e = tt
 alias_is_new query facts ttl target place (Some (Answer answer)) e = tt
@@ -175,17 +175,17 @@ unless_asked_is_new : (facts : PlainFacts) (b : Bool) (s : ReplyOutcome) (other 
 unless_asked_is_new facts true s other h k = h
 unless_asked_is_new facts false s other h k = k
 
-target_is_new : (query : Query) (facts : PlainFacts) (ttl : ℕ) (place : Place) (target : Option (List (List ℕ))) → OutcomeIsNew facts (target_outcome query ttl place facts target)
+target_is_new : (query : Query) (facts : PlainFacts) (ttl : ℕ) (place : HitPlace) (target : Option (List (List ℕ))) → OutcomeIsNew facts (target_outcome query ttl place facts target)
 target_is_new query facts ttl place None = tt
 target_is_new query facts ttl place (Some target) =
     unless_asked_is_new facts (asks_alias query.question.qtype) (gives _) (alias_outcome query ttl target place (fact_about facts (question_of target query.question.qtype)))
     tt (alias_is_new query facts ttl target place (fact_about facts (question_of target query.question.qtype)) refl)
 
-local_is_new : (query : Query) (rows : List PlainLocal) (place : Place) (facts : PlainFacts) (alias : Option PlainLocal) → OutcomeIsNew facts (by_alias query rows place facts alias)
+local_is_new : (query : Query) (rows : List PlainLocal) (place : HitPlace) (facts : PlainFacts) (alias : Option PlainLocal) → OutcomeIsNew facts (by_alias query rows place facts alias)
 local_is_new query rows place facts None = tt
 local_is_new query rows place facts (Some row) = target_is_new query facts row.ttl place (target_of place.name row.rdata)
 
-action_is_new : (query : Query) (facts : PlainFacts) (place : Place) (action : Action) → OutcomeIsNew facts (by_action query facts place action)
+action_is_new : (query : Query) (facts : PlainFacts) (place : HitPlace) (action : Action) → OutcomeIsNew facts (by_action query facts place action)
 action_is_new query facts place NxDomain = tt
 action_is_new query facts place NoData = tt
 action_is_new query facts place PassThru = main_is_new query facts

@@ -24,7 +24,7 @@ use Rattle.policy_snapshot.specs.Rules.{PlainRule, rules}
 use Rattle.policy_snapshot.specs.Settled.{is_settled}
 use Rattle.reply_build.specs.declared.turn.Turn.{Turn}
 use Rattle.reply_build.specs.declared.turn.Turn.TheVariants.{Ask, Said}
-use Rattle.reply_build.specs.Reply.{ReplyOutcome, Place, needs, gives, silent, alias_outcome, alias_record, by_action, by_alias, by_verdict, main_outcome, outcome_turn, over_tcp, pass_outcome, place_of, sections, target_outcome, truncation}
+use Rattle.reply_build.specs.Reply.{ReplyOutcome, HitPlace, needs, gives, silent, alias_outcome, alias_record, by_action, by_alias, by_verdict, main_outcome, outcome_turn, over_tcp, pass_outcome, place_of, sections, target_outcome, truncation}
 use Rattle.reply_build.specs.Target.{alias_in, target_of}
 use Rattle.reply_build.specs.Verdict.{PlainVerdict, passes, fails, applies as decides}
 use Rattle.query_session.specs.Laws.{is_said}
@@ -62,7 +62,7 @@ module _ (query : Query) (facts more : PlainFacts) (known : StaysKnown facts mor
   tcp_stays true t = main_stays t
   tcp_stays false t = refl
 
-  alias_stays : (ttl : ℕ) (target : Name) (place : Place) (fact other : Option Fact) → ((f : Fact) → fact ≡ Some f → other ≡ Some f) → is_met (alias_outcome query ttl target place fact) ≡ true → alias_outcome query ttl target place other ≡ alias_outcome query ttl target place fact
+  alias_stays : (ttl : ℕ) (target : Name) (place : HitPlace) (fact other : Option Fact) → ((f : Fact) → fact ≡ Some f → other ≡ Some f) → is_met (alias_outcome query ttl target place fact) ≡ true → alias_outcome query ttl target place other ≡ alias_outcome query ttl target place fact
   alias_stays ttl target place None other same t = absurd (true≢false (sym t))
   alias_stays ttl target place (Some fact) other same t = ap (alias_outcome query ttl target place) (same fact refl)
 
@@ -70,7 +70,7 @@ module _ (query : Query) (facts more : PlainFacts) (known : StaysKnown facts mor
   unless_asked_stays true s outcome other same t = refl
   unless_asked_stays false s outcome other same t = same t
 
-  target_stays : (ttl : ℕ) (place : Place) (target : Option Name) → is_met (target_outcome query ttl place facts target) ≡ true → target_outcome query ttl place more target ≡ target_outcome query ttl place facts target
+  target_stays : (ttl : ℕ) (place : HitPlace) (target : Option Name) → is_met (target_outcome query ttl place facts target) ≡ true → target_outcome query ttl place more target ≡ target_outcome query ttl place facts target
   target_stays ttl place None t = refl
   target_stays ttl place (Some target) t =
       let question = question_of target query.question.qtype in
@@ -78,11 +78,11 @@ module _ (query : Query) (facts more : PlainFacts) (known : StaysKnown facts mor
       (alias_outcome query ttl target place (fact_about facts question)) (alias_outcome query ttl target place (fact_about more question))
       (alias_stays ttl target place (fact_about facts question) (fact_about more question) (known question)) t
 
-  local_stays : (rows : List PlainLocal) (place : Place) (alias : Option PlainLocal) → is_met (by_alias query rows place facts alias) ≡ true → by_alias query rows place more alias ≡ by_alias query rows place facts alias
+  local_stays : (rows : List PlainLocal) (place : HitPlace) (alias : Option PlainLocal) → is_met (by_alias query rows place facts alias) ≡ true → by_alias query rows place more alias ≡ by_alias query rows place facts alias
   local_stays rows place None t = refl
   local_stays rows place (Some row) t = target_stays row.ttl place (target_of place.name row.rdata) t
 
-  action_stays : (place : Place) (action : Action) → is_met (by_action query facts place action) ≡ true → by_action query more place action ≡ by_action query facts place action
+  action_stays : (place : HitPlace) (action : Action) → is_met (by_action query facts place action) ≡ true → by_action query more place action ≡ by_action query facts place action
   action_stays place NxDomain t = refl
   action_stays place NoData t = refl
   action_stays place PassThru t = main_stays t

@@ -5,7 +5,8 @@ use Rattle.dns_record.specs.Record.{PlainRecord}
 use Rattle.dns_message.specs.declared.question.Question.{Question}
 use Rattle.dns_message.specs.declared.request.Incoming.{Incoming}
 use Rattle.dns_message.specs.declared.request.Query.{Query}
-use Rattle.dns_message.specs.Limit.{reply_limit, spelling_within}
+use Rattle.dns_message.specs.Compressed.{compressed_within}
+use Rattle.dns_message.specs.Limit.{reply_limit}
 use Rattle.ip_prefix.specs.declared.Transport.TheVariants.{Tcp}
 use Rattle.action_codec.specs.Local.{PlainLocal}
 use Rattle.action_codec.specs.declared.action.Action.TheVariants.{PassThru, TcpOnly, Local}
@@ -101,7 +102,7 @@ pub data IsNeeded (policy : PlainPolicy) (query : Query) (facts : PlainFacts)
 -- the reply of rcode 2 to a query
 abbrev pub failure_turn : Query → Turn
 failure_turn query =
-    Said (said.Reply (spelling_within (reply_limit query) (reply_of query server_failure)))
+    Said (said.Reply (compressed_within (reply_limit query) (reply_of query server_failure)))
 
 -- Why a query gets rcode 2 under a policy, by what is known.
 pub data FailsBy (policy : PlainPolicy) (query : Query) (facts : PlainFacts) : Type 0 where

@@ -5,7 +5,8 @@ use Rattle.dns_message.specs.declared.request.Incoming.{Incoming}
 use Rattle.dns_message.specs.declared.request.Incoming.TheVariants.{Silent, Refuse, Query as Asks}
 use Rattle.dns_message.specs.declared.request.Query.{Query}
 use Rattle.dns_message.specs.declared.limit.TheConstants.{LEAST_LIMIT}
-use Rattle.dns_message.specs.Limit.{reply_limit, spelling_within}
+use Rattle.dns_message.specs.Compressed.{compressed_within}
+use Rattle.dns_message.specs.Limit.{reply_limit}
 use Rattle.upstream_link.specs.declared.fact.Fact.{Fact}
 use Rattle.upstream_link.specs.declared.facts.TheConstants.{FACT_LIMIT}
 use Rattle.upstream_link.specs.Facts.{PlainFacts, fact_about}
@@ -42,7 +43,7 @@ within_fact_limit query facts (Ask question) =
 -- keeps to the least limit.
 abbrev pub turn_by : PlainPolicy → Incoming → PlainFacts → Turn
 turn_by policy Silent facts = Said said.Silent
-turn_by policy (Refuse message) facts = Said (said.Reply (spelling_within LEAST_LIMIT message))
+turn_by policy (Refuse message) facts = Said (said.Reply (compressed_within LEAST_LIMIT message))
 turn_by policy (Asks query) facts =
     within_fact_limit query facts (turn_by_next query facts (next policy query facts))
 

@@ -25,6 +25,7 @@ use upstream_link::{Fact, Facts};
 #[derive(Drop)]
 pub struct Session {
     alloc: Global,
+    key: u64,
     policy: Arc<Snapshot, Global>,
     incoming: Incoming,
     facts: Facts,
@@ -54,9 +55,11 @@ impl Model for Session {
 
 impl Session {
     /// Begins with a message that came from this address over this transport. The session keeps the policy,
-    /// whatever comes after it.
+    /// whatever comes after it. The key seeds a hash of the names in the reply, and is to be unknown to those who send the names: see
+    /// [`reply_build::build`].
     pub fn start(
         alloc: Global,
+        key: u64,
         policy: Arc<Snapshot, Global>,
         message: &[u8],
         client: Addr,
@@ -68,6 +71,7 @@ impl Session {
         let incoming = classify(alloc, message, client, transport)?;
         Ok(Session {
             alloc,
+            key,
             policy,
             incoming,
             facts: Facts::new(alloc),
@@ -86,11 +90,19 @@ impl Session {
         match &self.incoming {
             Incoming::Silent => Ok((Turn::Said(Said::Silent), false)),
             Incoming::Refuse(message) => {
-                let reply = write_message(self.alloc, message, LEAST_LIMIT)?;
+                let reply = write_message(self.alloc, self.key, message, LEAST_LIMIT)?;
                 Ok((Turn::Said(Said::Reply(reply)), false))
             }
             Incoming::Query(query) => {
-                turn_about(self.alloc, &self.policy, query, &self.facts, self.passed)
+                let alloc = self.alloc;
+                turn_about(
+                    alloc,
+                    self.key,
+                    &self.policy,
+                    query,
+                    &self.facts,
+                    self.passed,
+                )
             }
         }
     }

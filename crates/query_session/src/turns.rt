@@ -24,6 +24,7 @@ use upstream_link::{FACT_LIMIT, Fact, Facts, chain, main_question};
 /// to, the rules aren't looked at for that name.
 pub(crate) fn turn_about(
     alloc: Global,
+    key: u64,
     policy: &Snapshot,
     query: &Query,
     facts: &Facts,
@@ -37,12 +38,18 @@ pub(crate) fn turn_about(
         (λ turn. turn.1 ≡ true → PassesName (policy_in policy.now) query.now facts.now) }
     ensures short { IfOk result (λ turn. SaysShort turn.0) }
 {
-    let (turn, passes) = unlimited_turn(alloc, policy, query, facts, passed)?;
-    Ok((limited(alloc, query, facts, turn)?, passes))
+    let (turn, passes) = unlimited_turn(alloc, key, policy, query, facts, passed)?;
+    Ok((limited(alloc, key, query, facts, turn)?, passes))
 }
 
 // A question is asked while there is room for one fact more.
-fn limited(alloc: Global, query: &Query, facts: &Facts, turn: Turn) -> Result<Turn, AllocError>
+fn limited(
+    alloc: Global,
+    key: u64,
+    query: &Query,
+    facts: &Facts,
+    turn: Turn,
+) -> Result<Turn, AllocError>
     requires { SaysShort turn }
     ensures turn { IfOk result (λ limited. limited ≡ within_fact_limit query.now facts.now turn) }
     ensures short { IfOk result SaysShort }
@@ -53,7 +60,7 @@ fn limited(alloc: Global, query: &Query, facts: &Facts, turn: Turn) -> Result<Tu
             if facts.len() < FACT_LIMIT {
                 Ok(Turn::Ask(question))
             } else {
-                build(alloc, query, Verdict::Fail, facts, reply_limit(query))
+                build(alloc, key, query, Verdict::Fail, facts, reply_limit(query))
             }
         }
     }
@@ -62,6 +69,7 @@ fn limited(alloc: Global, query: &Query, facts: &Facts, turn: Turn) -> Result<Tu
 // What is done about a query, however many facts are known, and whether it passes its own name.
 fn unlimited_turn(
     alloc: Global,
+    key: u64,
     policy: &Snapshot,
     query: &Query,
     facts: &Facts,
@@ -75,11 +83,11 @@ fn unlimited_turn(
     ensures short { IfOk result (λ turn. SaysShort turn.0) }
 {
     if passed {
-        return Ok((turn_behind(alloc, policy, query, facts)?, true));
+        return Ok((turn_behind(alloc, key, policy, query, facts)?, true));
     }
-    match turn_at(alloc, policy, query, facts, &[], &query.question.name)? {
+    match turn_at(alloc, key, policy, query, facts, &[], &query.question.name)? {
         Some(turn) => Ok((turn, false)),
-        None => Ok((turn_behind(alloc, policy, query, facts)?, true)),
+        None => Ok((turn_behind(alloc, key, policy, query, facts)?, true)),
     }
 }
 
@@ -87,6 +95,7 @@ fn unlimited_turn(
 // is hit.
 fn turn_at(
     alloc: Global,
+    key: u64,
     policy: &Snapshot,
     query: &Query,
     facts: &Facts,
@@ -111,7 +120,7 @@ fn turn_at(
                         before,
                         name,
                     };
-                    Ok(Some(build(alloc, query, verdict, facts, reply_limit(query))?))
+                    Ok(Some(build(alloc, key, query, verdict, facts, reply_limit(query))?))
                 }
             },
         },
@@ -121,6 +130,7 @@ fn turn_at(
 // What is done where no rule is hit at the name of the query.
 fn turn_behind(
     alloc: Global,
+    key: u64,
     policy: &Snapshot,
     query: &Query,
     facts: &Facts,
@@ -132,13 +142,14 @@ fn turn_behind(
 {
     match facts.get(&query.question.name, query.question.qtype) {
         None => Ok(Turn::Ask(main_question(query)?)),
-        Some(fact) => turn_by_fact(alloc, policy, query, facts, fact),
+        Some(fact) => turn_by_fact(alloc, key, policy, query, facts, fact),
     }
 }
 
 // What is done where no rule is hit at the name of the query, and this is known of the query's own question.
 fn turn_by_fact(
     alloc: Global,
+    key: u64,
     policy: &Snapshot,
     query: &Query,
     facts: &Facts,
@@ -150,11 +161,11 @@ fn turn_by_fact(
     ensures short { IfOk result SaysShort }
 {
     if has_no_alias(fact) {
-        return build(alloc, query, Verdict::Pass, facts, reply_limit(query));
+        return build(alloc, key, query, Verdict::Pass, facts, reply_limit(query));
     }
     match chain(alloc, &query.question, fact)? {
-        None => build(alloc, query, Verdict::Fail, facts, reply_limit(query)),
-        Some(names) => turn_along(alloc, policy, query, facts, names.as_slice()),
+        None => build(alloc, key, query, Verdict::Fail, facts, reply_limit(query)),
+        Some(names) => turn_along(alloc, key, policy, query, facts, names.as_slice()),
     }
 }
 
@@ -173,6 +184,7 @@ fn has_no_alias(fact: &Fact) -> bool
 // What is done along the names of a chain, behind the first of them.
 fn turn_along(
     alloc: Global,
+    key: u64,
     policy: &Snapshot,
     query: &Query,
     facts: &Facts,
@@ -185,9 +197,17 @@ fn turn_along(
     ensures short { IfOk result SaysShort }
 {
     for place in 1..names.len() {
-        if let Some(turn) = turn_at(alloc, policy, query, facts, &names[..place], &names[place])? {
+        if let Some(turn) = turn_at(
+            alloc,
+            key,
+            policy,
+            query,
+            facts,
+            &names[..place],
+            &names[place],
+        )? {
             return Ok(turn);
         }
     }
-    build(alloc, query, Verdict::Pass, facts, reply_limit(query))
+    build(alloc, key, query, Verdict::Pass, facts, reply_limit(query))
 }

@@ -1,226 +1,118 @@
--- Replies that are written piece by piece.
+-- Replies that are written record by record.
 use Rattle.std.proofs.Common.{◌≡◌, ℕ, ◌+◌, Bool, true, false, cond, List, [], ◌∷◌, ◌++◌, length, map, filter, drop, get_or, Some, refl, sym, ap, ◌∙◌, append_assoc, arith}
-use Rattle.std.specs.Prelude.{◌<◌, ◌≤◌}
+use Rattle.std.specs.Prelude.{◌<◌, ◌≤◌, OnOk, Result, Ok, Err}
 use mir.Val.{bool_byte}
-use Rattle.std.proofs.lemmas.List.{append-nil, length-append, length-map, at_drop_more, drop_all}
-use Rattle.std.proofs.lemmas.List.Concat.{flat_map-append}
-use Rattle.dns_record.specs.Record.{PlainRecord, record_octets}
+use Rattle.std.proofs.lemmas.List.{append-nil, at_drop_more, drop_all, length-append, length-map}
+use Rattle.dns_name.specs.Labels.{IsName, Name, name_octets}
+use Rattle.dns_name.specs.Wire.{labels_in}
+use Rattle.dns_name.proofs.WireLemmas.{labels_in-octets}
+use Rattle.dns_record.specs.declared.class.TheConstants.{IN}
+use Rattle.dns_record.specs.declared.rtype.TheConstants.{CNAME}
+use Rattle.dns_record.specs.Record.{PlainRecord}
 use Rattle.dns_message.specs.declared.header.Header.{Header}
 use Rattle.dns_message.specs.declared.request.Query.{Query}
-use Rattle.dns_message.specs.Aged.{aged}
-use Rattle.dns_message.specs.Limit.{octets_within, spelling_within}
+use Rattle.dns_message.specs.Progress.{Writing, writing_after, writing_of, writing_start}
 use Rattle.dns_message.specs.Request.{reply_edns}
-use Rattle.dns_message.specs.Spelling.{start_octets, records_octets, opt_count, opt_octets, parts_octets, spelling}
+use Rattle.dns_message.specs.Spelling.{opt_count}
+use Rattle.dns_message.proofs.ProgressSteps.{writing_append, writing_none}
 use Rattle.action_codec.specs.Local.{PlainLocal}
-use Rattle.reply_build.specs.declared.draft.Draft.{Draft}
-use Rattle.reply_build.specs.declared.draft_outcome.DraftOutcome.{DraftOutcome}
-use Rattle.reply_build.specs.declared.draft_outcome.DraftOutcome.TheVariants.{Needs, Gives, Silent}
-use Rattle.reply_build.specs.Draft.{draft_octets, draft_of, draft_outcome}
-use Rattle.reply_build.specs.declared.said.Said.TheVariants.{Reply}
-use Rattle.reply_build.specs.declared.turn.Turn.TheVariants.{Said}
-use Rattle.reply_build.specs.Reply.{ReplyOutcome, needs, gives, silent, outcome_turn, Place, Sections, reply_header, reply_of, local_record, alias_record, is_asked, denial, local_answer, sections}
-use Rattle.reply_build.specs.Start.{empty_sections, rule_start, rule_sections, alias_reply}
+use Rattle.upstream_link.specs.Kept.{PlainAnswer, aged_answers}
+use Rattle.reply_build.specs.Parts.{alias_reply, answers_of, asked_records, authority_of, bare_sections, rcode_of, rule_sections}
+use Rattle.reply_build.specs.Reply.{HitPlace, Sections, alias_record, answer_sections, denial, is_asked, local_record, reply_header, reply_of, sections, soa_list}
 
-no_records : (octets : List ℕ) → octets ++ records_octets [] ≡ octets
-unfolding records_octets
-no_records octets = append-nil octets
+-- ---- the sections of a reply
 
-first_record : (r : PlainRecord) (rs : List PlainRecord) → records_octets (r ∷ rs) ≡ record_octets r ++ records_octets rs
-unfolding records_octets
-first_record r rs = refl
+pub denied : (rcode : ℕ) (place : HitPlace) → rule_sections rcode place [] [] ≡ denial rcode place
+denied rcode place = ap (λ (l : List PlainRecord). sections rcode l [] (place.soa ∷ [])) (append-nil place.kept)
 
-both_records : (records more : List PlainRecord) → records_octets (records ++ more) ≡ records_octets records ++ records_octets more
-unfolding records_octets
-both_records records more = flat_map-append record_octets records more
+abbrev begun : ℕ → Query → Header → ℕ → ℕ → ℕ → Writing
+begun limit query h a u d = writing_start limit h (Some query.question) a u (d + opt_count (reply_edns 0 query.edns))
 
--- the start of a reply by a rule, and its answers
-with_answers : (h : Header) (query : Query) (place : Place) (answers : List PlainRecord) (authorities : ℕ)
-    → rule_start h query place (length answers) authorities ++ records_octets answers ≡ start_octets h (Some query.question) (length (place.kept ++ answers)) authorities (1 + opt_count (reply_edns 0 query.edns)) ++ records_octets (place.kept ++ answers)
-with_answers h query place answers authorities =
-    let start = λ (n : ℕ). start_octets h (Some query.question) n authorities (1 + opt_count (reply_edns 0 query.edns)) in
-    append_assoc (start (length place.kept + length answers)) (records_octets place.kept) (records_octets answers)
-    ∙ ap (λ (l : List ℕ). start (length place.kept + length answers) ++ l) (sym (both_records place.kept answers))
-    ∙ ap (λ (n : ℕ). start n ++ records_octets (place.kept ++ answers)) (sym (length-append place.kept answers))
+-- all records of the sections are written
+reply_written : (limit : ℕ) (query : Query) (s : Sections) (h : Header) (a u d : ℕ) (w0 w : Writing)
+    → h ≡ reply_header s.tc s.rcode query → a ≡ length s.answer → u ≡ length s.authority → d ≡ length s.additional
+    → w0 ≡ begun limit query h a u d → w ≡ writing_after w0 (s.answer ++ s.authority ++ s.additional) → w ≡ writing_of limit (reply_of query s)
+reply_written limit query s h a u d w0 w eh ea eu ed e0 ew =
+    ew ∙ ap (λ (v : Writing). writing_after v (s.answer ++ s.authority ++ s.additional)) (e0 ∙ rw (eh, ea, eu, ed) refl)
 
-abbrev draft : Header → List ℕ → Draft
-draft h octets = record { header = h; octets = octets }
+pub bare_written : (limit : ℕ) (query : Query) (tc : Bool) (rcode : ℕ) (h : Header) (w : Writing) → h ≡ reply_header tc rcode query → w ≡ begun limit query h 0 0 0 → w ≡ writing_of limit (reply_of query (bare_sections tc rcode))
+bare_written limit query tc rcode h w eh e = reply_written limit query (bare_sections tc rcode) h 0 0 0 w w eh refl refl refl e (sym (writing_none w))
 
--- a reply by a rule but for its OPT record
-abbrev rule_octets : Header → Query → Place → List PlainRecord → List PlainRecord → List ℕ
-rule_octets h query place answers authority =
-    ((start_octets h (Some query.question) (length (place.kept ++ answers)) (length authority) (1 + opt_count (reply_edns 0 query.edns))
-    ++ records_octets (place.kept ++ answers)) ++ records_octets authority) ++ records_octets (place.soa ∷ [])
+pub passed_written : (limit : ℕ) (query : Query) (answer : PlainAnswer) (h : Header) (a u : ℕ) (w0 w : Writing) → h ≡ reply_header false answer.rcode query → a ≡ length answer.answers → u ≡ length (soa_list answer)
+    → w0 ≡ begun limit query h a u 0 → w ≡ writing_after w0 (aged_answers answer ++ soa_list answer) → w ≡ writing_of limit (reply_of query (answer_sections answer))
+passed_written limit query answer h a u w0 w eh ea eu e0 ew =
+    reply_written limit query (answer_sections answer) h a u 0 w0 w eh (ea ∙ sym (length-map answer.answers _)) eu refl e0
+    (ew ∙ ap (writing_after w0) (sym (append-nil (aged_answers answer ++ soa_list answer))))
 
--- a reply by a rule that is written section by section
-rule_pieces : (rcode : ℕ) (query : Query) (place : Place) (answers authority : List PlainRecord) (h : Header) (a b c d : List ℕ)
-    → h ≡ reply_header false rcode query
-    → a ≡ rule_start h query place (length answers) (length authority)
-    → b ≡ a ++ records_octets answers
-    → c ≡ b ++ records_octets authority
-    → d ≡ c ++ records_octets (place.soa ∷ [])
-    → draft h d ≡ draft_of query (rule_sections rcode place answers authority)
-rule_pieces rcode query place answers authority h a b c d eh ea eb ec ed =
-    let octets : d ≡ rule_octets h query place answers authority =
-    ed
-    ∙ ap (λ (l : List ℕ). l ++ records_octets (place.soa ∷ []))
-    (ec ∙ ap (λ (l : List ℕ). l ++ records_octets authority)
-    (eb ∙ ap (λ (l : List ℕ). l ++ records_octets answers) ea
-    ∙ with_answers h query place answers (length authority))) in
-    ap (draft h) octets
-    ∙ ap (λ (g : Header). draft g (rule_octets g query place answers authority)) eh
+pub rule_written : (limit : ℕ) (query : Query) (rcode : ℕ) (place : HitPlace) (rows : List PlainRecord) (h : Header) (count kept asked : ℕ) (w0 w1 w2 w : Writing) → h ≡ reply_header false rcode query
+    → count ≡ kept + asked → kept ≡ length place.kept → asked ≡ length rows → w0 ≡ begun limit query h count 0 1
+    → w1 ≡ writing_after w0 place.kept → w2 ≡ writing_after w1 rows → w ≡ writing_after w2 (place.soa ∷ []) → w ≡ writing_of limit (reply_of query (rule_sections rcode place rows []))
+rule_written limit query rcode place rows h count kept asked w0 w1 w2 w eh ec ek ea e0 e1 e2 ew =
+    let answers = place.kept ++ rows in
+    let two : w2 ≡ writing_after w0 answers = e2 ∙ ap (λ (v : Writing). writing_after v rows) e1 ∙ writing_append w0 place.kept rows in
+    let all : w ≡ writing_after w0 (answers ++ place.soa ∷ []) = ew ∙ ap (λ (v : Writing). writing_after v (place.soa ∷ [])) two ∙ writing_append w0 answers (place.soa ∷ []) in
+    reply_written limit query (rule_sections rcode place rows []) h count 0 1 w0 w eh (omega (arith, ec, ek, ea, length-append place.kept rows)) refl refl e0
+    (all ∙ ap (λ (l : List PlainRecord). writing_after w0 (l ++ place.soa ∷ [])) (sym (append-nil answers)))
 
-pub denial_pieces : (rcode : ℕ) (query : Query) (place : Place) (h : Header) (a b : List ℕ)
-    → h ≡ reply_header false rcode query
-    → a ≡ rule_start h query place 0 0
-    → b ≡ a ++ records_octets (place.soa ∷ [])
-    → draft h b ≡ draft_of query (denial rcode place)
-denial_pieces rcode query place h a b eh ea eb =
-    rule_pieces rcode query place [] [] h a a a b eh ea (sym (no_records a)) (sym (no_records a)) eb
-    ∙ ap (λ (l : List PlainRecord). draft_of query (sections rcode l [] (place.soa ∷ []))) (append-nil place.kept)
+regrouped : (kept answers soas : List PlainRecord) (alias : PlainRecord) → (kept ++ alias ∷ []) ++ (answers ++ soas) ≡ (kept ++ alias ∷ answers) ++ soas
+regrouped kept answers soas alias = append_assoc kept (alias ∷ []) (answers ++ soas) ∙ sym (append_assoc kept (alias ∷ answers) soas)
 
-pub local_pieces : (query : Query) (rows : List PlainLocal) (place : Place) (h : Header) (a b c : List ℕ) (n : ℕ)
-    → h ≡ reply_header false 0 query
-    → n ≡ length (filter (is_asked query.question.qtype) rows)
-    → a ≡ rule_start h query place n 0
-    → b ≡ a ++ records_octets (map (local_record place.name) (filter (is_asked query.question.qtype) rows))
-    → c ≡ b ++ records_octets (place.soa ∷ [])
-    → draft h c ≡ draft_of query (local_answer query rows place)
-local_pieces query rows place h a b c n eh en ea eb ec =
-    let asked = filter (is_asked query.question.qtype) rows in
-    let answers = map (local_record place.name) asked in
-    let start : a ≡ rule_start h query place (length answers) 0 =
-    ea ∙ ap (λ (m : ℕ). rule_start h query place m 0) (en ∙ sym (length-map asked (local_record place.name))) in
-    rule_pieces 0 query place answers [] h a b b c eh start eb (sym (no_records b)) ec
+pub alias_written : (limit : ℕ) (query : Query) (place : HitPlace) (alias : PlainRecord) (rcode : ℕ) (answers soas : List PlainRecord) (h : Header) (count kept asked authorities : ℕ) (w0 w1 w2 w3 w : Writing)
+    → h ≡ reply_header false rcode query → count ≡ kept + 1 + asked → kept ≡ length place.kept → asked ≡ length answers → authorities ≡ length soas
+    → w0 ≡ begun limit query h count authorities 1 → w1 ≡ writing_after w0 place.kept → w2 ≡ writing_after w1 (alias ∷ []) → w3 ≡ writing_after w2 (answers ++ soas) → w ≡ writing_after w3 (place.soa ∷ [])
+    → w ≡ writing_of limit (reply_of query (rule_sections rcode place (alias ∷ answers) soas))
+alias_written limit query place alias rcode answers soas h count kept asked authorities w0 w1 w2 w3 w eh ec ek ea eu e0 e1 e2 e3 ew =
+    let two : w2 ≡ writing_after w0 (place.kept ++ alias ∷ []) = e2 ∙ ap (λ (v : Writing). writing_after v (alias ∷ [])) e1 ∙ writing_append w0 place.kept (alias ∷ []) in
+    let three : w3 ≡ writing_after w0 ((place.kept ++ alias ∷ answers) ++ soas) =
+    e3 ∙ ap (λ (v : Writing). writing_after v (answers ++ soas)) two ∙ writing_append w0 (place.kept ++ alias ∷ []) (answers ++ soas) ∙ ap (writing_after w0) (regrouped place.kept answers soas alias) in
+    let all : w ≡ writing_after w0 (((place.kept ++ alias ∷ answers) ++ soas) ++ place.soa ∷ []) =
+    ew ∙ ap (λ (v : Writing). writing_after v (place.soa ∷ [])) three ∙ writing_append w0 ((place.kept ++ alias ∷ answers) ++ soas) (place.soa ∷ []) in
+    reply_written limit query (rule_sections rcode place (alias ∷ answers) soas) h count authorities 1 w0 w eh (omega (arith, ec, ek, ea, length-append place.kept (alias ∷ answers))) eu refl e0 all
 
-pub alias_pieces : (rcode : ℕ) (query : Query) (place : Place) (ttl : ℕ) (target : List (List ℕ)) (answers authority : List PlainRecord) (h : Header) (a b c d e : List ℕ)
-    → h ≡ reply_header false rcode query
-    → a ≡ rule_start h query place (length answers + 1) (length authority)
-    → b ≡ a ++ record_octets (alias_record place.name ttl target)
-    → c ≡ b ++ records_octets answers
-    → d ≡ c ++ records_octets authority
-    → e ≡ d ++ records_octets (place.soa ∷ [])
-    → draft h e ≡ draft_of query (alias_reply rcode place ttl target answers authority)
-alias_pieces rcode query place ttl target answers authority h a b c d e eh ea eb ec ed ee =
-    let alias = alias_record place.name ttl target in
-    let one : length answers + 1 ≡ length (alias ∷ answers) = omega arith in
-    let start : a ≡ rule_start h query place (length (alias ∷ answers)) (length authority) =
-    ea ∙ ap (λ (m : ℕ). rule_start h query place m (length authority)) one in
-    let all : c ≡ a ++ records_octets (alias ∷ answers) =
-    ec ∙ ap (λ (l : List ℕ). l ++ records_octets answers) eb
-    ∙ append_assoc a (record_octets alias) (records_octets answers)
-    ∙ ap (λ (l : List ℕ). a ++ l) (sym (first_record alias answers)) in
-    rule_pieces rcode query place (alias ∷ answers) authority h a c d e eh start all ed ee
+-- records of both lists, one list behind the other
+pub both_written : {X Y : Type 0} (result : Result X Y) (w0 w1 w : Writing) (a b : List PlainRecord) → w1 ≡ writing_after w0 a → OnOk result (w ≡ writing_after w1 b) → OnOk result (w ≡ writing_after w0 (a ++ b))
+both_written (Ok x) w0 w1 w a b e1 e = e ∙ ap (λ (v : Writing). writing_after v b) e1 ∙ writing_append w0 a b
+both_written (Err y) w0 w1 w a b e1 e = e
 
--- the same with answers and authorities that came so many seconds ago
-pub aged_alias_pieces : (rcode : ℕ) (query : Query) (place : Place) (ttl : ℕ) (target : List (List ℕ)) (answers authority : List PlainRecord) (seconds : ℕ) (h : Header) (a b c d e : List ℕ)
-    → h ≡ reply_header false rcode query
-    → a ≡ rule_start h query place (length answers + 1) (length authority)
-    → b ≡ a ++ record_octets (alias_record place.name ttl target)
-    → c ≡ b ++ records_octets (map (aged seconds) answers)
-    → d ≡ c ++ records_octets (map (aged seconds) authority)
-    → e ≡ d ++ records_octets (place.soa ∷ [])
-    → draft h e ≡ draft_of query (alias_reply rcode place ttl target (map (aged seconds) answers) (map (aged seconds) authority))
-aged_alias_pieces rcode query place ttl target answers authority seconds h a b c d e eh ea eb ec ed ee =
-    alias_pieces rcode query place ttl target (map (aged seconds) answers) (map (aged seconds) authority) h a b c d e eh
-    (ea ∙ ap (λ (n : ℕ). rule_start h query place (n + 1) (length authority)) (sym (length-map answers (aged seconds)))
-    ∙ ap (λ (n : ℕ). rule_start h query place (length (map (aged seconds) answers) + 1) n) (sym (length-map authority (aged seconds))))
-    eb ec ed ee
+-- ---- records where they lie
 
--- answers and authorities that came so many seconds ago, with what is left of their TTLs
-abbrev aged_sections : Bool → ℕ → List PlainRecord → List PlainRecord → ℕ → Sections
-aged_sections tc rcode answer authority seconds = record { tc = tc; rcode = rcode; answer = map (aged seconds) answer; authority = map (aged seconds) authority; additional = [] }
+abbrev record_of : Name → ℕ → ℕ → ℕ → List ℕ → PlainRecord
+record_of owner rtype class ttl rdata = record { owner = owner; rtype = rtype; class = class; ttl = ttl; rdata = rdata }
 
--- a reply of answers and authorities that came so many seconds ago
-pub sections_pieces : (tc : Bool) (rcode : ℕ) (query : Query) (answers authority : List PlainRecord) (seconds : ℕ) (h : Header) (a b c : List ℕ)
-    → h ≡ reply_header tc rcode query
-    → a ≡ start_octets h (Some query.question) (length answers) (length authority) (opt_count (reply_edns 0 query.edns))
-    → b ≡ a ++ records_octets (map (aged seconds) answers)
-    → c ≡ b ++ records_octets (map (aged seconds) authority)
-    → draft h c ≡ draft_of query (aged_sections tc rcode answers authority seconds)
-sections_pieces tc rcode query answers authority seconds h a b c eh ea eb ec =
-    let opts = opt_count (reply_edns 0 query.edns) in
-    let start = λ (g : Header) (n m k : ℕ). start_octets g (Some query.question) n m k in
-    let behind = λ (l : List ℕ). (l ++ records_octets (map (aged seconds) answers)) ++ records_octets (map (aged seconds) authority) in
-    let many = length (map (aged seconds) answers) in
-    let others = length (map (aged seconds) authority) in
-    let none : opts ≡ 0 + opts = omega arith in
-    let octets : c ≡ behind (start h many others (0 + opts)) =
-    ec ∙ ap (λ (l : List ℕ). l ++ records_octets (map (aged seconds) authority)) eb
-    ∙ ap behind (ea
-    ∙ ap (λ (n : ℕ). start h n (length authority) opts) (sym (length-map answers (aged seconds)))
-    ∙ ap (λ (n : ℕ). start h many n opts) (sym (length-map authority (aged seconds)))
-    ∙ ap (λ (n : ℕ). start h many others n) none) in
-    ap (draft h) (octets ∙ sym (no_records (behind (start h many others (0 + opts)))))
-    ∙ ap (λ (g : Header). draft g (behind (start h many others (0 + opts)) ++ records_octets [])) eh
-    ∙ ap (λ (g : Header). draft (reply_header tc rcode query) (behind (start g many others (0 + opts)) ++ records_octets [])) eh
+pub ref_seen : (x : PlainRecord) (octets : List ℕ) (owner : Name) (rtype class ttl : ℕ) (rdata : List ℕ) → x ≡ record_of (labels_in octets) rtype class ttl rdata → octets ≡ name_octets owner → IsName owner → x ≡ record_of owner rtype class ttl rdata
+ref_seen x octets owner rtype class ttl rdata e wire name = e ∙ ap (λ (n : Name). record_of n rtype class ttl rdata) (labels_in-octets octets owner wire name)
 
--- a reply without records
-pub empty_pieces : (tc : Bool) (rcode : ℕ) (query : Query) (h : Header) (a : List ℕ)
-    → h ≡ reply_header tc rcode query
-    → a ≡ start_octets h (Some query.question) 0 0 (opt_count (reply_edns 0 query.edns))
-    → draft h a ≡ draft_of query (empty_sections tc rcode)
-empty_pieces tc rcode query h a eh ea = sections_pieces tc rcode query [] [] 0 h a a a eh ea (sym (no_records a)) (sym (no_records a))
+pub alias_seen : (x : PlainRecord) (octets rdata : List ℕ) (owner target : Name) (ttl : ℕ) → x ≡ record_of (labels_in octets) CNAME IN ttl rdata → octets ≡ name_octets owner → IsName owner → rdata ≡ name_octets target → x ≡ alias_record owner ttl target
+alias_seen x octets rdata owner target ttl e wire name target_is =
+    ref_seen x octets owner CNAME IN ttl rdata e wire name ∙ ap (λ (l : List ℕ). record_of owner CNAME IN ttl l) target_is
 
--- a reply with its OPT record
-whole_reply : (query : Query) (s : Sections) → draft_octets query s ++ opt_octets (reply_edns 0 query.edns) ≡ spelling (reply_of query s)
-unfolding start_octets parts_octets
-whole_reply query s = refl
+-- ---- the rows that are asked for
 
-pub finished : (limit : ℕ) (query : Query) (s : Sections) (draft : Draft) (out : List ℕ) → draft ≡ draft_of query s
-    → out ≡ octets_within limit (draft.octets ++ opt_octets (reply_edns 0 query.edns)) draft.header (Some query.question) (reply_edns 0 query.edns)
-    → out ≡ spelling_within limit (reply_of query s)
-finished limit query s draft out is e =
-    e
-    ∙ ap (λ (d : Draft). octets_within limit (d.octets ++ opt_octets (reply_edns 0 query.edns)) d.header (Some query.question) (reply_edns 0 query.edns)) is
-    ∙ ap (λ (l : List ℕ). octets_within limit l (reply_header s.tc s.rcode query) (Some query.question) (reply_edns 0 query.edns)) (whole_reply query s)
+asked_by : (owner : Name) (b : Bool) (row : PlainLocal) (rows : List PlainLocal) → map (local_record owner) (cond b (row ∷ rows) rows) ≡ map (local_record owner) (cond b (row ∷ []) []) ++ map (local_record owner) rows
+asked_by owner true row rows = refl
+asked_by owner false row rows = refl
 
-draft_in : Draft → DraftOutcome → Draft
-draft_in other (Needs question) = other
-draft_in other (Gives draft) = draft
-draft_in other Silent = other
+asked_first : (owner : Name) (qtype : ℕ) (row : PlainLocal) (rows : List PlainLocal) → asked_records owner qtype (row ∷ rows) ≡ asked_records owner qtype (row ∷ []) ++ asked_records owner qtype rows
+asked_first owner qtype row rows = asked_by owner (is_asked qtype row) row (filter (is_asked qtype) rows)
 
--- the turn where the outcome is a draft
-pub turn_gives : (limit : ℕ) (query : Query) (outcome : ReplyOutcome) (draft : Draft) (bytes : List ℕ) → Gives draft ≡ draft_outcome query outcome
-    → ((s : Sections) → draft ≡ draft_of query s → bytes ≡ spelling_within limit (reply_of query s))
-    → Said (Reply bytes) ≡ outcome_turn limit query outcome
-unfolding draft_in
-turn_gives limit query (needs asked) draft bytes is each = absurd cc
-turn_gives limit query (gives s) draft bytes is each = ap (λ (l : List ℕ). Said (Reply l)) (each s (ap (draft_in draft) is))
-turn_gives limit query silent draft bytes is each = absurd cc
-
--- the rows that are asked for, as records of this owner
-abbrev pub asked_octets : List (List ℕ) → ℕ → List PlainLocal → List ℕ
-asked_octets owner qtype rows = records_octets (map (local_record owner) (filter (is_asked qtype) rows))
-
-asked_by : (owner : List (List ℕ)) (qtype : ℕ) (row : PlainLocal) (rows : List PlainLocal) (b : Bool)
-    → records_octets (map (local_record owner) (cond b (row ∷ filter (is_asked qtype) rows) (filter (is_asked qtype) rows))) ≡ records_octets (map (local_record owner) (cond b (row ∷ []) [])) ++ asked_octets owner qtype rows
-unfolding records_octets
-asked_by owner qtype row rows true = ap (λ (l : List ℕ). l ++ asked_octets owner qtype rows) (sym (append-nil (record_octets (local_record owner row))))
-asked_by owner qtype row rows false = refl
-
--- one row and the others
-pub asked_first : (owner : List (List ℕ)) (qtype : ℕ) (row : PlainLocal) (rows : List PlainLocal) → asked_octets owner qtype (row ∷ rows) ≡ asked_octets owner qtype (row ∷ []) ++ asked_octets owner qtype rows
-asked_first owner qtype row rows = asked_by owner qtype row rows (is_asked qtype row)
-
-pub asked_more : (owner : List (List ℕ)) (qtype : ℕ) (rows : List PlainLocal) (i : ℕ) (row : PlainLocal) (out next whole : List ℕ) → i < length rows → next ≡ out ++ asked_octets owner qtype (get_or rows i row ∷ [])
-    → out ++ asked_octets owner qtype (drop i rows) ≡ whole → next ++ asked_octets owner qtype (drop (i + 1) rows) ≡ whole
-asked_more owner qtype rows i row out next whole lt e h =
-    let one = asked_octets owner qtype (get_or rows i row ∷ []) in
-    let others = asked_octets owner qtype (drop (i + 1) rows) in
-    ap (λ (l : List ℕ). l ++ others) e
-    ∙ append_assoc out one others
-    ∙ ap (λ (l : List ℕ). out ++ l) (sym (at_drop_more (asked_octets owner qtype) rows i row lt ∙ asked_first owner qtype (get_or rows i row) (drop (i + 1) rows)))
+pub asked_more : (owner : Name) (qtype : ℕ) (rows : List PlainLocal) (i : ℕ) (row : PlainLocal) (w next whole : Writing) → i < length rows → next ≡ writing_after w (asked_records owner qtype (get_or rows i row ∷ []))
+    → writing_after w (asked_records owner qtype (drop i rows)) ≡ whole → writing_after next (asked_records owner qtype (drop (i + 1) rows)) ≡ whole
+asked_more owner qtype rows i row w next whole lt e h =
+    let one = asked_records owner qtype (get_or rows i row ∷ []) in
+    let others = asked_records owner qtype (drop (i + 1) rows) in
+    ap (λ (v : Writing). writing_after v others) e
+    ∙ writing_append w one others
+    ∙ ap (writing_after w) (sym (at_drop_more (asked_records owner qtype) rows i row lt ∙ asked_first owner qtype (get_or rows i row) (drop (i + 1) rows)))
     ∙ h
 
-pub asked_all : (owner : List (List ℕ)) (qtype : ℕ) (rows : List PlainLocal) (i : ℕ) (out whole : List ℕ) → length rows ≤ i → out ++ asked_octets owner qtype (drop i rows) ≡ whole → out ≡ whole
-asked_all owner qtype rows i out whole le h = sym (ap (λ (l : List PlainLocal). out ++ asked_octets owner qtype l) (drop_all i rows le) ∙ no_records out) ∙ h
+pub asked_all : (owner : Name) (qtype : ℕ) (rows : List PlainLocal) (i : ℕ) (w whole : Writing) → length rows ≤ i → writing_after w (asked_records owner qtype (drop i rows)) ≡ whole → w ≡ whole
+asked_all owner qtype rows i w whole le h = sym (ap (λ (l : List PlainLocal). writing_after w (asked_records owner qtype l)) (drop_all i rows le) ∙ writing_none w) ∙ h
 
-pub one_asked : (owner : List (List ℕ)) (qtype : ℕ) (row : PlainLocal) (old new : List ℕ) → is_asked qtype row ≡ true → new ≡ old ++ record_octets (local_record owner row) → new ≡ old ++ asked_octets owner qtype (row ∷ [])
-unfolding records_octets
-one_asked owner qtype row old new t e = rw (t, append-nil (record_octets (local_record owner row))) e
+pub one_asked : (owner : Name) (qtype : ℕ) (row : PlainLocal) (w next : Writing) → is_asked qtype row ≡ true → next ≡ writing_after w (local_record owner row ∷ []) → next ≡ writing_after w (asked_records owner qtype (row ∷ []))
+one_asked owner qtype row w next t e = rw t e
 
-pub none_asked : (owner : List (List ℕ)) (qtype : ℕ) (row : PlainLocal) (old : List ℕ) → is_asked qtype row ≡ false → old ≡ old ++ asked_octets owner qtype (row ∷ [])
-none_asked owner qtype row old f = rw f (sym (no_records old))
+pub none_asked : (owner : Name) (qtype : ℕ) (row : PlainLocal) (w : Writing) → is_asked qtype row ≡ false → w ≡ writing_after w (asked_records owner qtype (row ∷ []))
+none_asked owner qtype row w f = rw f (sym (writing_none w))
 
 one_of : (b : Bool) (row : PlainLocal) (rows : List PlainLocal) → length (cond b (row ∷ rows) rows) ≡ cond b 1 0 + length rows
 one_of true row rows = omega arith

@@ -1,8 +1,7 @@
 pub mod Verdict
 pub mod Target
 pub mod Reply
-pub mod Draft
 pub mod Seen
-pub mod Start
+pub mod Parts
 pub mod Servfail
 pub mod Short

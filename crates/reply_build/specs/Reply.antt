@@ -9,7 +9,7 @@ use Rattle.dns_message.specs.declared.message.Message.{Message}
 use Rattle.dns_message.specs.declared.question.Question.{Question}
 use Rattle.dns_message.specs.declared.request.Query.{Query}
 use Rattle.dns_message.specs.Aged.{aged}
-use Rattle.dns_message.specs.Limit.{spelling_within}
+use Rattle.dns_message.specs.Compressed.{compressed_within}
 use Rattle.dns_message.specs.Request.{reply_edns}
 use Rattle.ip_prefix.specs.declared.Transport.{Transport}
 use Rattle.ip_prefix.specs.declared.Transport.TheVariants.{Udp, Tcp}
@@ -79,14 +79,14 @@ server_failure = sections 2 [] [] []
 
 -- Where a rule decides: the aliases that led to its name, which the answer section begins with; the name; and the SOA record of
 -- the rule's zone.
-pub record Place : Type 0 where
+pub record HitPlace : Type 0 where
   pub kept : List PlainRecord
   pub name : Name
   pub soa : PlainRecord
 
 -- no answer by the policy, with the SOA record of its zone: rcode 3 where the name doesn't exist (section 3.1), and 0
 -- where it has no records of the type (section 3.2)
-abbrev pub denial : ℕ → Place → Sections
+abbrev pub denial : ℕ → HitPlace → Sections
 denial rcode place = sections rcode place.kept [] (place.soa ∷ [])
 
 -- a truncated reply with the question alone, so that the client asks again over TCP (section 3.5; RFC 1035, section 4.2.1)
@@ -130,7 +130,7 @@ is_asked qtype row = qtype == ANY || row.rtype == qtype
 
 -- the rows that are asked for, whose owner is the name as it was asked or as the alias before it spells it, and the SOA record of
 -- the zone (section 3.6)
-abbrev pub local_answer : Query → List PlainLocal → Place → Sections
+abbrev pub local_answer : Query → List PlainLocal → HitPlace → Sections
 local_answer query rows place =
     sections 0
     (place.kept ++ map (local_record place.name) (filter (is_asked query.question.qtype) rows)) []
@@ -142,13 +142,13 @@ alias_record owner ttl target =
     record { owner = owner; rtype = CNAME; class = IN; ttl = ttl; rdata = name_octets target }
 
 -- an alias and the answer of the upstream about its target: its rcode, its answers, and its SOA in the authority section
-abbrev pub alias_sections : Place → PlainRecord → PlainAnswer → Sections
+abbrev pub alias_sections : HitPlace → PlainRecord → PlainAnswer → Sections
 alias_sections place alias answer =
     sections answer.rcode (place.kept ++ alias ∷ aged_answers answer) (soa_list answer)
     (place.soa ∷ [])
 
 -- the alias to a target of which this is known
-abbrev pub alias_outcome : Query → ℕ → Name → Place → Option Fact → ReplyOutcome
+abbrev pub alias_outcome : Query → ℕ → Name → HitPlace → Option Fact → ReplyOutcome
 alias_outcome query ttl target place None = needs (question_of target query.question.qtype)
 alias_outcome query ttl target place (Some (Broken why)) = gives server_failure
 alias_outcome query ttl target place (Some (Answer answer)) =
@@ -156,7 +156,7 @@ alias_outcome query ttl target place (Some (Answer answer)) =
 
 -- the alias to this target, which is None where it is longer than a name may be; the alias alone where the alias itself is
 -- asked for
-abbrev pub target_outcome : Query → ℕ → Place → PlainFacts → Option Name → ReplyOutcome
+abbrev pub target_outcome : Query → ℕ → HitPlace → PlainFacts → Option Name → ReplyOutcome
 target_outcome query ttl place facts None = gives server_failure
 target_outcome query ttl place facts (Some target) =
     if asks_alias query.question.qtype
@@ -165,14 +165,14 @@ target_outcome query ttl place facts (Some target) =
     else alias_outcome query ttl target place
     (fact_about facts (question_of target query.question.qtype))
 
-abbrev pub by_alias : Query → List PlainLocal → Place → PlainFacts → Option PlainLocal →
+abbrev pub by_alias : Query → List PlainLocal → HitPlace → PlainFacts → Option PlainLocal →
     ReplyOutcome
 by_alias query rows place facts None = gives (local_answer query rows place)
 by_alias query rows place facts (Some row) =
     target_outcome query row.ttl place facts (target_of place.name row.rdata)
 
 -- local data, or the alias that it is
-abbrev pub local_outcome : Query → List PlainLocal → Place → PlainFacts → ReplyOutcome
+abbrev pub local_outcome : Query → List PlainLocal → HitPlace → PlainFacts → ReplyOutcome
 local_outcome query rows place facts = by_alias query rows place facts (alias_in rows)
 
 abbrev pub over_tcp : Transport → Bool
@@ -185,7 +185,7 @@ tcp_only_outcome query facts =
     if over_tcp query.transport then main_outcome query facts else gives truncation
 
 -- what a rule's action comes to; nothing is said for DROP (section 3.4)
-abbrev pub by_action : Query → PlainFacts → Place → Action → ReplyOutcome
+abbrev pub by_action : Query → PlainFacts → HitPlace → Action → ReplyOutcome
 by_action query facts place NxDomain = gives (denial 3 place)
 by_action query facts place NoData = gives (denial 0 place)
 by_action query facts place PassThru = main_outcome query facts
@@ -196,7 +196,7 @@ by_action query facts place (Local rows) = local_outcome query rows place facts
 -- where a rule decides that is hit behind these names: the aliases are those of the answer to the query, with what is left of
 -- their TTLs
 abbrev pub place_of : Query → PlainFacts → PlainRecord → List Name → Name →
-    Place
+    HitPlace
 place_of query facts soa before name =
     record {
       kept = map (aged (main_age query facts)) (chain_aliases (main_records query facts) before);
@@ -213,7 +213,7 @@ by_verdict query (applies action soa before name) facts =
 -- the question is asked, or the reply is sent, in its truncated form where it is longer than the limit
 abbrev pub outcome_turn : ℕ → Query → ReplyOutcome → Turn
 outcome_turn limit query (needs question) = Ask question
-outcome_turn limit query (gives s) = Said (Reply (spelling_within limit (reply_of query s)))
+outcome_turn limit query (gives s) = Said (Reply (compressed_within limit (reply_of query s)))
 outcome_turn limit query silent = Said Silent
 
 -- The question whose answer the reply needs and that isn't known, or the reply, in at most so many bytes, or silence.

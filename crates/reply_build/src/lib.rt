@@ -2,17 +2,19 @@
 //! (draft-vixie-dnsop-dns-rpz, section 3).
 #![tactic(auto)]
 
+mod answers;
 mod building;
-mod draft;
-mod draft_outcome;
 mod local;
+mod parts;
 mod place;
 mod reply;
+mod rows;
 mod said;
 mod servfail;
 mod target;
 mod turn;
 mod verdict;
+mod writing;
 
 pub use building::build;
 pub use said::Said;

@@ -11,6 +11,7 @@ use crate::event::{CoreError, CoreFault, Output};
 use crate::pending::{NextMessage, Pending, Resumed, next_message};
 use crate::resolving::Cache;
 use answer_cache::AnswerCache;
+use dns_message::KNOWN_KEY;
 use dns_name::Octets;
 use edge_io::{ListLink, WORKER_LIMIT};
 use ip_prefix::{Addr, Transport};
@@ -105,7 +106,7 @@ impl Sessions {
             Some(Some(_)) => Err(CoreError::Fault(CoreFault::Pending)),
             Some(None) => {
                 let policy = Arc::try_clone(policy)?;
-                let session = Session::start(alloc, policy, message, client, transport)?;
+                let session = Session::start(alloc, KNOWN_KEY, policy, message, client, transport)?;
                 Ok(self.begin(alloc, now, worker, session)?)
             }
         }

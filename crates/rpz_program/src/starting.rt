@@ -156,6 +156,7 @@ fn start_asking<
 >(
     rt: &R,
     alloc: Global,
+    key: u64,
     shared: Shared<R, W::Up>,
     reader: PolicyReader<N>,
     items: RequestItems<N, R>,
@@ -174,7 +175,7 @@ fn start_asking<
     ensures not_socket { result ≢ Err ServeError.SocketFault }
     ensures not_write { result ≢ Err ServeError.WriteFault }
 {
-    let worker = Worker::new(alloc, reader, shared, link, ids, NoGate);
+    let worker = Worker::new(alloc, key, reader, shared, link, ids, NoGate);
     start_task(
         rt,
         spawner,
@@ -221,7 +222,17 @@ fn start_asker<
     let (link, replies) = wire_asker(wires, upstream, deadline)?;
     let (own_clock, own_ids) = (clock.another(), ids.another());
     start_asking::<N, W, P, C, I, R>(
-        rt, alloc, shared, reader, items, link, replies, spawner, own_clock, own_ids,
+        rt,
+        alloc,
+        feeds.key(),
+        shared,
+        reader,
+        items,
+        link,
+        replies,
+        spawner,
+        own_clock,
+        own_ids,
     )
 }
 
@@ -303,7 +314,10 @@ fn start_answering<
     let (shared, latest, onward) = answering_parts(rt, alloc, cache, feeds)?;
     let items = InletItems::new(*rt, inlet, latest);
     let worker: Worker<N, W::Up, Shared<R, W::Up>, AsksNobody> = Worker::passing_on(
-        alloc, reader, shared,
+        alloc,
+        feeds.key(),
+        reader,
+        shared,
     );
     start_task(
         rt,

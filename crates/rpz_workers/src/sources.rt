@@ -28,6 +28,8 @@ use upstream_link::{AnswerFault, FACT_LIMIT, Fact, Learned};
 /// A cache, and what is asked where no live entry of the cache answers.
 #[derive(Drop)]
 pub(crate) struct Sources<L: Link + Drop, A: Keeps<L> + Drop, B: Asks<L> + Drop> {
+    // The key of the hash of the names in replies.
+    pub(crate) key: u64,
     pub(crate) cache: A,
     pub(crate) asks: B,
     pub(crate) of: PhantomData<L>,
@@ -229,6 +231,7 @@ impl<L: Link + Drop, A: Keeps<L> + Drop, B: Asks<L> + Drop> Sources<L, A, B> {
     {
         let mut session = Session::start(
             alloc,
+            self.key,
             policy,
             job.message.as_slice(),
             job.peer.addr,

@@ -54,8 +54,17 @@ impl<N: StoreName, L: Link + Drop, A: Keeps<L> + Drop, I: Ids + Drop, G: Gate + 
     A,
     Asker<L, I, G>,
 > {
-    /// A worker that has answered nothing, and asks over a link, over these parts.
-    pub fn new(alloc: Global, reader: PolicyReader<N>, cache: A, link: L, ids: I, gate: G) -> Self
+    /// A worker that has answered nothing, and asks over a link, over these parts. The key seeds a hash of the names in replies, and
+    /// is to be unknown to clients and to the upstream: see [`query_session::Session::start`].
+    pub fn new(
+        alloc: Global,
+        key: u64,
+        reader: PolicyReader<N>,
+        cache: A,
+        link: L,
+        ids: I,
+        gate: G,
+    ) -> Self
         ensures { result
             ≡ record {
               known = reader;
@@ -69,6 +78,7 @@ impl<N: StoreName, L: Link + Drop, A: Keeps<L> + Drop, I: Ids + Drop, G: Gate + 
             alloc,
             reader,
             sources: Sources {
+                key,
                 cache,
                 asks: Asker { link, ids, gate },
                 of: PhantomData,
@@ -79,8 +89,9 @@ impl<N: StoreName, L: Link + Drop, A: Keeps<L> + Drop, I: Ids + Drop, G: Gate + 
 }
 
 impl<N: StoreName, L: Link + Drop, A: Keeps<L> + Drop> Worker<N, L, A, AsksNobody> {
-    /// A worker that has answered nothing, and passes on what needs the upstream, over these parts.
-    pub fn passing_on(alloc: Global, reader: PolicyReader<N>, cache: A) -> Self
+    /// A worker that has answered nothing, and passes on what needs the upstream, over these parts. The key is as for
+    /// [`Worker::new`].
+    pub fn passing_on(alloc: Global, key: u64, reader: PolicyReader<N>, cache: A) -> Self
         ensures { result
             ≡ record {
               known = reader;
@@ -94,6 +105,7 @@ impl<N: StoreName, L: Link + Drop, A: Keeps<L> + Drop> Worker<N, L, A, AsksNobod
             alloc,
             reader,
             sources: Sources {
+                key,
                 cache,
                 asks: AsksNobody,
                 of: PhantomData,

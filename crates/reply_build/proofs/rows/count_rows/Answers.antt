@@ -3,7 +3,7 @@ use Rattle.std.proofs.lemmas.Option.{get_or_from_slice_get}
 use Rattle.action_codec.specs.Seen.{part_seen}
 use Rattle.reply_build.specs.Reply.{is_asked}
 use Rattle.reply_build.proofs.Pieces.{byte_of, counted, least}
-use Rattle.reply_build.proofs.local.count_asked.Goals as goal
+use Rattle.reply_build.proofs.rows.count_rows.Goals as goal
 
 pub loop-place-preserved : goal.loop-place-preserved
 loop-place-preserved c =

@@ -1,0 +1,6 @@
+use Rattle.std.proofs.Common.{sym}
+use Rattle.dns_message.proofs.ProgressSteps.{writing_none}
+use Rattle.reply_build.proofs.rows.write_asked.Goals as goal
+
+pub returns-in-None : goal.returns-in-None
+returns-in-None c = rw c.in-None.is (sym (writing_none c.args.writer.now))
