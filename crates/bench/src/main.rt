@@ -1,5 +1,5 @@
-//! `bench`: what the benches run. Its first word names one of them, `transfers`, `edits`, `queries`, `workers` or `calls`, and the modules
-//! of these names say what its other words are, and what it reads and writes. It promises nothing.
+//! `bench`: what the benches run. Its first word names one of them, `transfers`, `edits`, `queries`, `workers`, `messages` or `calls`, and the
+//! modules of these names say what its other words are, and what it reads and writes. It promises nothing.
 #![tactic(auto)]
 
 mod alike;
@@ -17,6 +17,7 @@ mod facts_sample;
 mod feed_calls;
 mod load_calls;
 mod message_calls;
+mod messages;
 mod name_calls;
 mod packed_calls;
 mod pattern_calls;
@@ -74,6 +75,7 @@ fn main(rt: HostRuntime) -> io::Result<ExitCode> {
         Ok(Bench::Edits) => edits::run(&rt, alloc, &mut source),
         Ok(Bench::Queries(zones)) => queries::run(&rt, alloc, &zones, &mut source),
         Ok(Bench::Workers(plan)) => workers::run(rt, alloc, plan, &mut source),
+        Ok(Bench::Messages(writes)) => messages::run(&rt, alloc, writes, &mut source),
         Err(refusal) => Err(refusal),
     };
     match done {

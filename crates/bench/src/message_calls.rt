@@ -3,38 +3,34 @@
 use crate::bench_error::BenchError;
 use crate::samples::{CLIENT_ADDR, QUERY, RESPONSE};
 use crate::sheet::Sheet;
-use crate::tried::{Tried, after, made_twice};
+use crate::tried::{Tried, made_twice};
 use dns_message::{
-    Message, WrittenRecords, classify, read_message, read_query_parts, write_message, write_records,
+    KNOWN_KEY, Message, WrittenRecords, classify, read_message, read_query_parts, write_full,
+    write_message,
 };
-use dns_name::Octets;
 use ip_prefix::Transport;
-use std::alloc::{AllocError, Global};
+use std::alloc::Global;
 
 /// The names of these calls.
 pub const NAMES: &str = "dns_message::read_message\n\
     dns_message::write_message\n\
     dns_message::classify\n\
     dns_message::read_query_parts\n\
-    dns_message::write_records\n\
+    dns_message::write_full\n\
     dns_message::WrittenRecords::of\n";
-
-fn records(alloc: Global, message: &Message) -> Result<Octets, AllocError> {
-    let mut out = Octets::new(alloc);
-    let done = write_records(&mut out, message.answer.as_slice());
-    after(out, done)
-}
 
 impl Tried for Message {
     fn once(&mut self, alloc: Global, sheet: &mut Sheet, call: &str) -> Result<(), BenchError> {
         match call {
             "dns_message::read_message" => sheet.show_result(read_message(alloc, RESPONSE)),
-            "dns_message::write_message" => sheet.show_result(write_message(alloc, self, 512)),
+            "dns_message::write_message" => {
+                sheet.show_result(write_message(alloc, KNOWN_KEY, self, 512))
+            }
             "dns_message::classify" => {
                 sheet.show_result(classify(alloc, QUERY, CLIENT_ADDR, Transport::Udp))
             }
             "dns_message::read_query_parts" => sheet.show_result(read_query_parts(alloc, QUERY)),
-            "dns_message::write_records" => sheet.show_result(records(alloc, self)),
+            "dns_message::write_full" => sheet.show_result(write_full(alloc, self)),
             _ => sheet.show_result(WrittenRecords::of(alloc, self.answer.as_slice())),
         }
     }

@@ -6,7 +6,7 @@ use crate::policy_sample::policy;
 use crate::samples::{LOCAL_QUERY, QUERY, query};
 use crate::sheet::Sheet;
 use crate::tried::{Tried, beside, tried_twice};
-use dns_message::Query;
+use dns_message::{KNOWN_KEY, Query};
 use policy_snapshot::Snapshot;
 use reply_build::{Verdict, build};
 use std::alloc::Global;
@@ -36,7 +36,7 @@ fn hit(
         before: &[],
         name,
     };
-    sheet.show_result(build(alloc, query, verdict, facts, 512))
+    sheet.show_result(build(alloc, KNOWN_KEY, query, verdict, facts, 512))
 }
 
 // A policy, a query, and what is known of it.
@@ -52,14 +52,14 @@ impl Tried for Known {
         let query = &self.query;
         match call {
             "reply_build::build::pass" => {
-                sheet.show_result(build(alloc, query, Verdict::Pass, &self.facts, 512))
+                sheet.show_result(build(alloc, KNOWN_KEY, query, Verdict::Pass, &self.facts, 512))
             }
             "reply_build::build::fail" => {
-                sheet.show_result(build(alloc, query, Verdict::Fail, &self.facts, 512))
+                sheet.show_result(build(alloc, KNOWN_KEY, query, Verdict::Fail, &self.facts, 512))
             }
             "reply_build::build::ask" => {
                 let nothing = Facts::new(alloc);
-                sheet.show_result(build(alloc, query, Verdict::Pass, &nothing, 512))
+                sheet.show_result(build(alloc, KNOWN_KEY, query, Verdict::Pass, &nothing, 512))
             }
             _ => hit(alloc, sheet, &self.policy, query, &self.facts),
         }

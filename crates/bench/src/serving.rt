@@ -9,6 +9,7 @@ use crate::tried::{after, beside};
 use crate::words::Plan;
 use answer_cache::Shared;
 use axfr_apply::{Taken, Wanted};
+use dns_message::KNOWN_KEY;
 use dns_name::Octets;
 use edge_io::{Bytes, Endpoint, ListIds, ListLink};
 use ip_prefix::{Addr, Transport};
@@ -52,7 +53,7 @@ fn worker<N: StoreName, R: Wait + Drop>(
     let shared = Shared::new(rt, cache);
     let link = ListLink::new(Vec::new(alloc), Vec::new(alloc));
     let ids = ListIds::new(alloc, VecDeque::new(alloc));
-    Ok(Worker::new(alloc, reader, shared, link, ids, NoGate))
+    Ok(Worker::new(alloc, KNOWN_KEY, reader, shared, link, ids, NoGate))
 }
 
 fn push_jobs(alloc: Global, jobs: &mut Vec<Job>, messages: &[Octets]) -> Result<(), AllocError> {

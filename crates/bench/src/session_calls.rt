@@ -5,7 +5,7 @@ use crate::policy_sample::policy;
 use crate::samples::{CLIENT_ADDR, DENIED_QUERY, QUERY, RESPONSE, question};
 use crate::sheet::Sheet;
 use crate::tried::{Tried, after, beside, made_twice, tried_twice};
-use dns_message::Question;
+use dns_message::{KNOWN_KEY, Question};
 use ip_prefix::Transport;
 use policy_snapshot::Snapshot;
 use query_session::Session;
@@ -25,7 +25,7 @@ type Version = Arc<Snapshot, Global>;
 
 fn begin(alloc: Global, policy: &Version, message: &[u8]) -> Result<Session, BenchError> {
     let own = Arc::try_clone(policy)?;
-    Ok(Session::start(alloc, own, message, CLIENT_ADDR, Transport::Udp)?)
+    Ok(Session::start(alloc, KNOWN_KEY, own, message, CLIENT_ADDR, Transport::Udp)?)
 }
 
 fn show_state(sheet: &mut Sheet, session: &Session) {

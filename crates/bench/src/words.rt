@@ -14,7 +14,14 @@ pub struct Plan {
     pub pause: u64,
 }
 
-/// What is measured: transfers, queries over these zones, or workers by a plan; or what is compared: edits.
+/// With which key of the hash of names a message is written how many times.
+#[derive(Clone, Copy)]
+pub struct Writes {
+    pub key: u64,
+    pub times: u64,
+}
+
+/// What is measured: transfers, queries over these zones, workers by a plan, or the writing of a message; or what is compared: edits.
 #[derive(Drop)]
 pub enum Bench {
     Transfers,
@@ -22,6 +29,7 @@ pub enum Bench {
     Calls,
     Queries(ZoneSets),
     Workers(Plan),
+    Messages(Writes),
 }
 
 fn push_origins(
@@ -65,8 +73,16 @@ fn read_plan(words: &[String]) -> Result<Plan, BenchError> {
     })
 }
 
+// How a message is written.
+fn read_writes(words: &[String]) -> Result<Writes, BenchError> {
+    Ok(Writes {
+        key: number(words, 0)?,
+        times: number(words, 1)?,
+    })
+}
+
 /// The bench that the first word names, with what the others say. `Words` comes where there is none of this name, where those of
-/// `workers` are no three numbers, and for more than 16 workers.
+/// `workers` are no three numbers or those of `messages` no two, and for more than 16 workers.
 pub fn read_words(alloc: Global, words: &[String]) -> Result<Bench, BenchError> {
     let Some((name, others)) = words.split_first() else {
         return Err(BenchError::Words);
@@ -77,6 +93,7 @@ pub fn read_words(alloc: Global, words: &[String]) -> Result<Bench, BenchError> 
         "edits" => Ok(Bench::Edits),
         "queries" => Ok(Bench::Queries(read_zones(alloc, others)?)),
         "workers" => Ok(Bench::Workers(read_plan(others)?)),
+        "messages" => Ok(Bench::Messages(read_writes(others)?)),
         _ => Err(BenchError::Words),
     }
 }

@@ -8,6 +8,7 @@ use crate::sheet::Sheet;
 use crate::stream_calls::serve;
 use crate::tried::{after, beside};
 use answer_cache::AnswerCache;
+use dns_message::KNOWN_KEY;
 use dns_name::Octets;
 use edge_io::{Endpoint, ListClock, ListIds, ListLink, ListReplies, ListSink, ListSource};
 use ip_prefix::Transport;
@@ -47,7 +48,7 @@ fn make_worker<N: StoreName>(
     let all = beside(reader, cache)?;
     let ((reader, cache), link) = beside(all, make_link(alloc, 3))?;
     let ids = ListIds::new(alloc, VecDeque::new(alloc));
-    Ok(Worker::new(alloc, reader, cache, link, ids, NoGate))
+    Ok(Worker::new(alloc, KNOWN_KEY, reader, cache, link, ids, NoGate))
 }
 
 // The query of the client.

@@ -22,6 +22,8 @@ mod load_runs;
 #[cfg(test)]
 mod names;
 #[cfg(test)]
+mod packed;
+#[cfg(test)]
 mod polls;
 #[cfg(test)]
 mod records;

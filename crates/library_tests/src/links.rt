@@ -90,7 +90,10 @@ fn records<R: Abort>(rt: &R, alloc: Global, learned: &Learned<ListLink>, now: u3
     let mut out = Octets::new(alloc);
     if learned.is_live(now) {
         if let Fact::Answer(answer) = learned.fact(alloc, now).expect(rt, "no error") {
-            answer.write_answers(&mut out).expect(rt, "no error");
+            for rr in answer.answers() {
+                let ttl = rr.ttl().saturating_sub(answer.age());
+                rr.write_with_ttl(&mut out, ttl).expect(rt, "no error");
+            }
         }
     }
     out

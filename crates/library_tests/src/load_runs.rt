@@ -13,7 +13,7 @@ use std::thread::Threads;
 static OWNER: &str = "24.0.17.8.10.rpz-client-ip.rpz.example";
 
 // What `tools/load_model.py` writes for the seed 7, 2,000 rules and 500 queries.
-static SEVEN: &str = "rows 1998 nxdomain 2 nodata 5 other 493 mark 6651375583270105612\n";
+static SEVEN: &str = "rows 1998 nxdomain 2 nodata 5 other 493 mark 5765522638595411119\n";
 
 // The line of a load, answered by so many workers.
 fn line<R: Threads + Sync>(

@@ -63,16 +63,17 @@ const SHORT: &[u8] = b"\x12\x34\x01\0\0\x01\0\0\0\0\0";
 /// The query of the ID 4660 for the address of `BAD.example`.
 pub const DENIED: &[u8] = b"\x12\x34\x01\0\0\x01\0\0\0\0\0\0\x03BAD\x07example\0\0\x01\0\x01";
 
-/// Its reply: rcode 3, and the SOA of the policy zone in the additional section.
+/// Its reply: rcode 3, and the SOA of the policy zone in the additional section, whose owner is `rpz` and a pointer to the byte 16.
 pub const DENIAL: &[u8] = b"\x12\x34\x81\x83\0\x01\0\0\0\0\0\x01\x03BAD\x07example\0\0\x01\0\x01\
-    \x03rpz\x07example\0\0\x06\0\x01\0\0\0<\0\x16\0\0\0\0\0\x01\0\0\x0e\x10\0\0\x02X\0\x01Q\x80\0\0\0<";
+    \x03rpz\xc0\x10\0\x06\0\x01\0\0\0<\0\x16\0\0\0\0\0\x01\0\0\x0e\x10\0\0\x02X\0\x01Q\x80\0\0\0<";
 
-// What the upstream gives for it, in a message of the ID 0, and the reply that is: 192.0.2.9.
+// What the upstream gives for it, in a message of the ID 0, and the reply that is: 192.0.2.9. There the owner is `bad`, since case counts,
+// and a pointer to the byte 16.
 const GIVEN: &[u8] = b"\0\0\x81\x80\0\x01\0\x01\0\0\0\0\x03bad\x07example\0\0\x01\0\x01\
     \x03bad\x07example\0\0\x01\0\x01\0\0\0<\0\x04\xc0\0\x02\x09";
 
 const PASSED: &[u8] = b"\x12\x34\x81\x80\0\x01\0\x01\0\0\0\0\x03BAD\x07example\0\0\x01\0\x01\
-    \x03bad\x07example\0\0\x01\0\x01\0\0\0<\0\x04\xc0\0\x02\x09";
+    \x03bad\xc0\x10\0\x01\0\x01\0\0\0<\0\x04\xc0\0\x02\x09";
 
 // A transfer of the serial 2, in place of the newer steps: the row `ok.example` CNAME `.`.
 const SECOND: &[u8] = b"\0\x9a\0\0\x84\0\0\x01\0\x03\0\0\0\0\x03rpz\x07example\0\0\xfb\0\x01\

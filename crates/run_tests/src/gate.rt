@@ -49,15 +49,15 @@ const BOTH_FRAMED: &[u8] = b"\0\x1b\0\x01\x01\0\0\x01\0\0\0\0\0\0\x01x\x07exampl
 
 // The reply to the second of them, behind its length.
 const DENIAL_FRAMED: &[u8] =
-    b"\0\x4a\x12\x34\x81\x83\0\x01\0\0\0\0\0\x01\x03BAD\x07example\0\0\x01\0\x01\
-    \x03rpz\x07example\0\0\x06\0\x01\0\0\0<\0\x16\0\0\0\0\0\x01\0\0\x0e\x10\0\0\x02X\0\x01Q\x80\0\0\0<";
+    b"\0\x43\x12\x34\x81\x83\0\x01\0\0\0\0\0\x01\x03BAD\x07example\0\0\x01\0\x01\
+    \x03rpz\xc0\x10\0\x06\0\x01\0\0\0<\0\x16\0\0\0\0\0\x01\0\0\x0e\x10\0\0\x02X\0\x01Q\x80\0\0\0<";
 
-// The replies to both.
+// The replies to both, with a pointer as the owner of the address.
 const FIRST_REPLY: &[u8] = b"\0\x01\x81\x80\0\x01\0\x01\0\0\0\0\x01x\x07example\0\0\x01\0\x01\
-    \x01x\x07example\0\0\x01\0\x01\0\0\0<\0\x04\xc0\0\x02\x09";
+    \xc0\x0c\0\x01\0\x01\0\0\0<\0\x04\xc0\0\x02\x09";
 
 const SECOND_REPLY: &[u8] = b"\0\x02\x81\x80\0\x01\0\x01\0\0\0\0\x01x\x07example\0\0\x01\0\x01\
-    \x01x\x07example\0\0\x01\0\x01\0\0\0<\0\x04\xc0\0\x02\x09";
+    \xc0\x0c\0\x01\0\x01\0\0\0<\0\x04\xc0\0\x02\x09";
 
 fn upstream<R: Abort + Clock + Drop>(rt: R, asked: &Flag, replied: &Flag) -> Upstream<R> {
     let meeting = Meeting {

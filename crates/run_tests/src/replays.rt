@@ -23,9 +23,9 @@ const OUTPUT: &[u8] = b"silent 0\nreply 1 abcd91840000000000000000\n";
 const RULE_SCRIPT: &[u8] =
     b"zone rpz.example\nxfer 1 009b0000840000010003000000000372707a076578616d706c650000fc00010372707a076578616d706c6500000600010000003c001600000000000100000e1000000258000151800000003c03626164076578616d706c650372707a076578616d706c6500000500010000003c0001000372707a076578616d706c6500000600010000003c001600000000000100000e1000000258000151800000003c\nquery 0 udp 192.0.2.7 12340100000100000000000003424144076578616d706c650000010001\n";
 
-// Their outputs, in 169 bytes.
+// Their outputs, in 155 bytes: the owner of the SOA is `rpz` and a pointer to the byte 16.
 const RULE_OUTPUT: &[u8] =
-    b"taken 1 1 1\nreply 0 12348183000100000000000103424144076578616d706c6500000100010372707a076578616d706c6500000600010000003c001600000000000100000e1000000258000151800000003c\n";
+    b"taken 1 1 1\nreply 0 12348183000100000000000103424144076578616d706c6500000100010372707ac010000600010000003c001600000000000100000e1000000258000151800000003c\n";
 
 // The status and the output of a script, read 10 bytes and written 5 bytes at a time, where these reads and writes fail.
 fn run_script<
@@ -94,11 +94,11 @@ fn each_read_over_a_zone_fails(rt: HostRuntime) {
     }
 }
 
-// Each of its 35 writes.
+// Each of its 32 writes.
 #[test]
 fn each_write_over_a_zone_fails(rt: HostRuntime) {
     let alloc = rt.alloc();
-    for call in 0..35u64 {
+    for call in 0..32u64 {
         let failing = vec![in alloc; call].expect(&rt, "no error");
         let (status, out) = run_script(rt, alloc, RULE_SCRIPT, Vec::new(alloc), failing);
         assert!(rt;

@@ -24,16 +24,16 @@ pub const FIRST: &[u8] =
 const SECOND: &[u8] =
     b"\0\x02\x81\x80\0\x01\0\x01\0\0\0\0\x01x\x07example\0\0\x01\0\x01\x01x\x07example\0\0\x01\0\x01\0\0\0\x3c\0\x04\xc0\0\x02\x09";
 
-/// The replies, with the TTLs 60 and 1.
+/// The replies, with the TTLs 60 and 1, and a pointer as the owner of the address.
 pub const FRESH: &[u8] =
-    b"\x12\x35\x81\x80\0\x01\0\x01\0\0\0\0\x01x\x07example\0\0\x01\0\x01\x01x\x07example\0\0\x01\0\x01\0\0\0\x3c\0\x04\xc0\0\x02\x09";
+    b"\x12\x35\x81\x80\0\x01\0\x01\0\0\0\0\x01x\x07example\0\0\x01\0\x01\xc0\x0c\0\x01\0\x01\0\0\0\x3c\0\x04\xc0\0\x02\x09";
 
 const AGED: &[u8] =
-    b"\x12\x35\x81\x80\0\x01\0\x01\0\0\0\0\x01x\x07example\0\0\x01\0\x01\x01x\x07example\0\0\x01\0\x01\0\0\0\x01\0\x04\xc0\0\x02\x09";
+    b"\x12\x35\x81\x80\0\x01\0\x01\0\0\0\0\x01x\x07example\0\0\x01\0\x01\xc0\x0c\0\x01\0\x01\0\0\0\x01\0\x04\xc0\0\x02\x09";
 
 // The denial by the rule of the last publication: rcode 3, and in the additional section the SOA of the policy zone, of the serial 1000.
 const BY_RULE: &[u8] = b"\x12\x35\x81\x83\0\x01\0\0\0\0\0\x01\x01x\x07example\0\0\x01\0\x01\
-    \x03rpz\x07example\0\0\x06\0\x01\0\0\0<\0\x16\0\0\0\0\x03\xe8\0\0\x0e\x10\0\0\x02X\0\x01Q\x80\0\0\0<";
+    \x03rpz\xc0\x0e\0\x06\0\x01\0\0\0<\0\x16\0\0\0\0\x03\xe8\0\0\x0e\x10\0\0\x02X\0\x01Q\x80\0\0\0<";
 
 // Whether the worker's reply to the query at a given second is this.
 fn says<N: StoreName, A: Keeps<ListLink> + Drop, R: Abort>(

@@ -34,7 +34,7 @@ fn fail_reads<N: StoreName, R: Wait + Abort + Copy + Drop>(
         let written = match call {
             0..31 => 0,
             31..62 => 31,
-            _ => 107,
+            _ => 100,
         };
         let case = Case {
             name: "a read that fails",

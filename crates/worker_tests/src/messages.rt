@@ -10,9 +10,10 @@ pub const POLICY: [&[u8]; 2] = [
 /// A query of the ID 1111 for the address of `bad.example`.
 pub const DENIED: &[u8] = b"\x11\x11\x01\0\0\x01\0\0\0\0\0\0\x03bad\x07example\0\0\x01\0\x01";
 
-/// Its reply: QR, RD and RA 1, rcode 3, the question, and in the additional section the SOA of the policy zone.
+/// Its reply: QR, RD and RA 1, rcode 3, the question, and in the additional section the SOA of the policy zone, whose owner is `rpz` and
+/// a pointer to the byte 16.
 pub const DENIAL: &[u8] = b"\x11\x11\x81\x83\0\x01\0\0\0\0\0\x01\x03bad\x07example\0\0\x01\0\x01\
-    \x03rpz\x07example\0\0\x06\0\x01\0\0\0<\0\x16\0\0\0\0\0\x01\0\0\x0e\x10\0\0\x02X\0\x01Q\x80\0\0\0<";
+    \x03rpz\xc0\x10\0\x06\0\x01\0\0\0<\0\x16\0\0\0\0\0\x01\0\0\x0e\x10\0\0\x02X\0\x01Q\x80\0\0\0<";
 
 /// A query of the ID 2222 for the address of `gone.example`, which has no reply.
 pub const DROPPED: &[u8] = b"\x22\x22\x01\0\0\x01\0\0\0\0\0\0\x04gone\x07example\0\0\x01\0\x01";
@@ -50,11 +51,11 @@ pub const ONE_REPLY: &[u8] =
 pub const TWO: &[u8] = b"\0\x1d\x33\x33\0\0\0\x01\0\0\0\0\0\0\x03bad\x07example\0\0\x01\0\x01\
     \0\x1d\x11\x11\x01\0\0\x01\0\0\0\0\0\0\x03bad\x07example\0\0\x01\0\x01";
 
-/// Their replies, of 31 and 76 bytes with their lengths.
+/// Their replies, of 31 and 69 bytes with their lengths.
 pub const TWO_REPLIES: &[u8] =
     b"\0\x1d\x33\x33\x80\x85\0\x01\0\0\0\0\0\0\x03bad\x07example\0\0\x01\0\x01\
-    \0\x4a\x11\x11\x81\x83\0\x01\0\0\0\0\0\x01\x03bad\x07example\0\0\x01\0\x01\
-    \x03rpz\x07example\0\0\x06\0\x01\0\0\0<\0\x16\0\0\0\0\0\x01\0\0\x0e\x10\0\0\x02X\0\x01Q\x80\0\0\0<";
+    \0\x43\x11\x11\x81\x83\0\x01\0\0\0\0\0\x01\x03bad\x07example\0\0\x01\0\x01\
+    \x03rpz\xc0\x10\0\x06\0\x01\0\0\0<\0\x16\0\0\0\0\0\x01\0\0\x0e\x10\0\0\x02X\0\x01Q\x80\0\0\0<";
 
 /// The query with RD 0 behind its length, and the first byte of a length.
 pub const CUT_IN_LENGTH: &[u8] =

@@ -8,7 +8,7 @@ use crate::runs::{Kept, load, sides};
 use crate::stores::{Trial, attempt};
 use crate::workers::{Hold, WorkerOver, client, common_cache, job_over, lone_hold, worker_over};
 use answer_cache::Shared;
-use dns_message::Question;
+use dns_message::{KNOWN_KEY, Question};
 use dns_name::Octets;
 use dns_record::{class, rtype};
 use edge_io::{ListClock, ListLink, ListReplies, ListSink, ListSource, SentReply, StreamEnd};
@@ -41,7 +41,7 @@ fn passing<N: StoreName, R: Abort + Wait + Drop>(
     hold: Hold<R>,
 ) -> Passing<N, R> {
     match readers.pop() {
-        Some(reader) => Worker::passing_on(alloc, reader, hold),
+        Some(reader) => Worker::passing_on(alloc, KNOWN_KEY, reader, hold),
         None => {
             drop(hold);
             panic!(rt; "a reader")

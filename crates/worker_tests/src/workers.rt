@@ -1,6 +1,7 @@
 //! Workers over links in memory, and their caches.
 
 use answer_cache::{AnswerCache, Keeps, Shared, SharedCache};
+use dns_message::KNOWN_KEY;
 use dns_name::Octets;
 use edge_io::{Endpoint, ListIds, ListLink};
 use ip_prefix::{Addr, Transport};
@@ -69,7 +70,7 @@ pub fn worker_over<N: StoreName, A: Keeps<ListLink> + Drop, G: Gate + Drop, R: A
     let ids = ids(rt, alloc);
     let link = ListLink::new(messages, Vec::new(alloc));
     let reader = readers.pop().expect(rt, "a reader");
-    Worker::new(alloc, reader, cache, link, ids, gate)
+    Worker::new(alloc, KNOWN_KEY, reader, cache, link, ids, gate)
 }
 
 /// The same with an empty cache of its own.
