@@ -1,5 +1,5 @@
 #!/usr/bin/env python3
-"""Asks a server one question and shows the reply, where dig isn't at hand.
+"""Asks a server one question and shows the reply, where dig isn't at hand: its length, its records, and where pointers stand in them.
 
     python3 tools/ask.py ADDRESS PORT NAME [TYPE] [tcp] [edns SIZE]
 """
@@ -8,7 +8,7 @@ import socket
 import sys
 
 from dns_text import Message, Question, Refused, decode, encode, framed, name_of, number_of, opt_of, text_of_rcode, type_of
-from message_text import block_of, text_of_question
+from message_text import block_of, text_of_question, with_notes
 
 SECONDS = 5
 
@@ -23,15 +23,15 @@ def read_all(stream, count):
     return octets
 
 
-def over_tcp(address, port, message):
-    with socket.create_connection((address, port), SECONDS) as stream:
+def over_tcp(address, port, message, seconds=SECONDS):
+    with socket.create_connection((address, port), seconds) as stream:
         stream.sendall(framed(message))
         return read_all(stream, int.from_bytes(read_all(stream, 2), "big"))
 
 
-def over_udp(address, port, message):
+def over_udp(address, port, message, seconds=SECONDS):
     with socket.socket(socket.AF_INET, socket.SOCK_DGRAM) as sock:
-        sock.settimeout(SECONDS)
+        sock.settimeout(seconds)
         sock.connect((address, port))
         sock.send(message)
         return sock.recv(65535)
@@ -55,12 +55,13 @@ def query_of(words):
 def main():
     address, port, *words = sys.argv[1:]
     query, tcp = query_of(words)
-    reply = decode((over_tcp if tcp else over_udp)(address, int(port), encode(query)))
+    octets = (over_tcp if tcp else over_udp)(address, int(port), encode(query))
+    reply = decode(octets)
     if reply.id != query.id:
         raise Refused("a reply to another query")
     block, opt = block_of(reply)
-    print(text_of_rcode(reply.rcode), *(text_of_question(one) for one in reply.questions), "flags", *reply.flags, *([opt] if opt else []))
-    print("\n".join(block))
+    words = [text_of_rcode(reply.rcode), *map(text_of_question, reply.questions), "flags", *reply.flags, *([opt] if opt else [])]
+    print(*with_notes(octets, [" ".join(words), *block]), sep="\n")
 
 
 if __name__ == "__main__":

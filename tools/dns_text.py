@@ -18,6 +18,8 @@ RCODES = {"NOERROR": 0, "FORMERR": 1, "SERVFAIL": 2, "NXDOMAIN": 3, "NOTIMP": 4,
 # What stands in the data of a type: names, numbers of so many bytes, and `rest`.
 LAYOUTS = {2: "n", 3: "n", 4: "n", 5: "n", 6: "nn44444", 7: "n", 8: "n", 9: "n", 12: "n", 14: "nn", 15: "2n",
            33: "222n", 39: "n"}
+# The types whose names are compressed in replies: those of RFC 1035, and not SRV and DNAME (RFC 3597, section 4).
+REPLY_TYPES = LAYOUTS.keys() - {33, 39}
 # The bits of the second line of a header, from the highest on; the opcode and the rcode have places of their own.
 FLAGS = {"qr": 0x8000, "aa": 0x0400, "tc": 0x0200, "rd": 0x0100, "ra": 0x0080, "z": 0x0040, "ad": 0x0020, "cd": 0x0010}
 
@@ -33,6 +35,8 @@ class Record:
     rclass: int
     rtype: int
     parts: list  # of the data: bytes, and tuples for names
+    # of one that was read from bytes: the ends of its names for which a pointer stands, each with the place to which that leads
+    pointers: list = field(default_factory=list, compare=False)
 
 
 @dataclass
@@ -246,20 +250,23 @@ def record_of(text, origin=None, ttl=None):
 # ---- messages as bytes
 
 class Writer:
-    """Bytes of a message. Compressed, a name ends in a pointer to the first place where its longest rest stands."""
+    """Bytes of a message. A compressed name ends in a pointer to the first place where its longest rest stands (RFC 1035, section
+    4.1.4); such places are in compressed names alone. `types`: those whose data have compressed names; None: no name is compressed."""
 
-    def __init__(self, compressed):
-        self.out, self.places, self.compressed = bytearray(), {}, compressed
+    def __init__(self, types):
+        self.out, self.places, self.types = bytearray(), {}, types
 
-    def name(self, name):
-        for place in range(len(name)):
+    def name(self, name, rtype=None):
+        """The name of a question or of an owner, or in data of a type."""
+        compressed = self.types is not None and (rtype is None or rtype in self.types)
+        for place, label in enumerate(name):
             rest = name[place:]
-            if self.compressed and rest in self.places:
-                self.out += (0xC000 | self.places[rest]).to_bytes(2, "big")
+            if compressed and rest in self.places:
+                self.number(0xC000 | self.places[rest], 2)
                 return
-            if len(self.out) < 0x4000:
-                self.places.setdefault(rest, len(self.out))
-            self.out += bytes([len(rest[0])]) + rest[0]
+            if compressed and len(self.out) < 0x4000:
+                self.places[rest] = len(self.out)
+            self.out += bytes([len(label)]) + label
         self.out.append(0)
 
     def number(self, value, width):
@@ -274,42 +281,55 @@ class Writer:
         self.number(0, 2)
         for part in record.parts:
             if isinstance(part, tuple):
-                self.name(part)
+                self.name(part, record.rtype)
             else:
                 self.out += part
         self.out[place:place + 2] = (len(self.out) - place - 2).to_bytes(2, "big")
 
+    def message(self, message):
+        bits = message.opcode << 11 | message.rcode | sum(FLAGS[flag] for flag in message.flags)
+        self.number(message.id, 2)
+        self.number(bits, 2)
+        for part in (message.questions, message.answer, message.authority, message.additional):
+            self.number(len(part), 2)
+        for question in message.questions:
+            self.name(question.name)
+            self.number(question.qtype, 2)
+            self.number(question.qclass, 2)
+        for _, records in message.sections():
+            for record in records:
+                self.record(record)
+        return bytes(self.out)
+
 
 def encode(message, compressed=False):
-    writer = Writer(compressed)
-    bits = message.opcode << 11 | message.rcode | sum(FLAGS[flag] for flag in message.flags)
-    writer.number(message.id, 2)
-    writer.number(bits, 2)
-    for part in (message.questions, message.answer, message.authority, message.additional):
-        writer.number(len(part), 2)
-    for question in message.questions:
-        writer.name(question.name)
-        writer.number(question.qtype, 2)
-        writer.number(question.qclass, 2)
-    for _, records in message.sections():
-        for record in records:
-            writer.record(record)
-    return bytes(writer.out)
+    """The message with its names in full, or with all of them compressed."""
+    return Writer(LAYOUTS.keys() if compressed else None).message(message)
 
 
-def read_name(octets, place):
-    labels, after = [], None
+def encode_reply(message):
+    """The message as a reply is written."""
+    return Writer(REPLY_TYPES).message(message)
+
+
+def read_name(octets, place, pointers=None):
+    """The labels of a name, and the place behind it. Puts behind `pointers` what its first pointer stands for, and where that leads."""
+    labels, after, pointer = [], None, None
     for _ in range(len(octets) + 1):
         if place >= len(octets):
             raise Refused("the name reaches past the end")
         length = octets[place]
         if length == 0:
+            if pointer is not None and pointers is not None:
+                pointers.append((tuple(labels[pointer[0]:]), pointer[1]))
             return tuple(labels), place + 1 if after is None else after
         if length >= 0xC0:
             if place + 1 >= len(octets):
                 raise Refused("the pointer reaches past the end")
-            after = place + 2 if after is None else after
-            place = (length & 0x3F) << 8 | octets[place + 1]
+            target = (length & 0x3F) << 8 | octets[place + 1]
+            if after is None:
+                after, pointer = place + 2, (len(labels), target)
+            place = target
         elif length > 63 or place + 1 + length > len(octets):
             raise Refused("no label")
         else:
@@ -325,7 +345,8 @@ def read_number(octets, place, width):
 
 
 def read_record(octets, place):
-    owner, place = read_name(octets, place)
+    pointers = []
+    owner, place = read_name(octets, place, pointers)
     rtype, place = read_number(octets, place, 2)
     rclass, place = read_number(octets, place, 2)
     ttl, place = read_number(octets, place, 4)
@@ -336,7 +357,7 @@ def read_record(octets, place):
     parts = []
     for kind in LAYOUTS.get(rtype, ""):
         if kind == "n":
-            part, place = read_name(octets, place)
+            part, place = read_name(octets, place, pointers)
         else:
             part, place = octets[place:place + int(kind)], place + int(kind)
         parts.append(part)
@@ -344,7 +365,7 @@ def read_record(octets, place):
         parts, place = [octets[place:end]], end
     if place != end:
         raise Refused("the data isn't as long as it says")
-    return Record(owner, ttl, rclass, rtype, parts), end
+    return Record(owner, ttl, rclass, rtype, parts, pointers), end
 
 
 def decode(octets):

@@ -2,9 +2,10 @@
 import struct
 import sys
 
-ORIGIN = b"\x03rpz\x07example\x00"
-SOA = ORIGIN + bytes.fromhex("000600010000003c00160000") + struct.pack(">I", 1)
-SOA += bytes.fromhex("00000e1000000258000151800000003c")
+HEADER = 12
+# What is behind the owner of a record: of the SOA with the serial 1, and of an address without that itself.
+SOA = bytes.fromhex("000600010000003c0016" "0000" "00000001" "00000e10" "00000258" "00015180" "0000003c")
+A = bytes.fromhex("000100010000003c0004")
 
 
 def draws(seed):
@@ -16,6 +17,11 @@ def draws(seed):
 
 def wire(text):
     return b"".join(bytes([len(it)]) + it.encode() for it in text.split(".")) + b"\0"
+
+
+def pointer(place):
+    """Stands for the name at a place of the message (RFC 1035, section 4.1.4)."""
+    return struct.pack(">H", 0xC000 | place)
 
 
 def fold(octets, modulus):
@@ -65,11 +71,13 @@ def load(seed, rules, queries):
         question = octets + b"\0\1\0\1"
         if action in (0, 1):
             rcode = 3 if action == 0 else 0
-            reply = struct.pack(">6H", k % 65536, 0x8180 + rcode, 1, 0, 0, 1) + question + SOA
+            reply = struct.pack(">6H", k % 65536, 0x8180 + rcode, 1, 0, 0, 1) + question
+            # rpz.example, whose `example` ends the question's name
+            reply += wire("rpz")[:-1] + pointer(HEADER + octets.index(wire("example"))) + SOA
             sums[action] += 1
         else:
             reply = struct.pack(">6H", k % 65536, 0x8180, 1, 1, 0, 0) + question
-            reply += octets + bytes.fromhex("000100010000003c0004") + bytes([10, 0, y, z])
+            reply += pointer(HEADER) + A + bytes([10, 0, y, z])
             sums[2] += 1
         for byte in reply:
             mark = (31 * mark + byte) % 2**64

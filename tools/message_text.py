@@ -5,7 +5,7 @@ Words are taken from the front of a list, as the functions here that begin with 
 from dataclasses import replace
 
 from dns_text import (
-    FLAGS, Question, Refused, class_of, is_class, is_opt, name_of, number_of, opt_of_words, record_of, text_of_class,
+    FLAGS, Question, Refused, class_of, decode, is_class, is_opt, name_of, number_of, opt_of_words, record_of, text_of_class,
     text_of_name, text_of_opt, text_of_record, text_of_type, type_of,
 )
 
@@ -114,3 +114,15 @@ def shown(message, usual):
     """Words and lines of a message."""
     block, opt = block_of(message)
     return words_of(message, usual) + ([opt] if opt else []), block
+
+
+def with_notes(octets, lines):
+    """The lines of a message, of which the first is about it and each other about a record, with comments: how many bytes it has, and for
+    each name that ends in a pointer the end for which that stands, and the place to which it leads."""
+    records = [record for _, records in decode(octets).sections() for record in records]
+    notes = [f"{len(octets)} bytes", *(text_of_pointers(record) for record in records)]
+    return [f"{line} ; {note}" if note else line for line, note in zip(lines, notes)]
+
+
+def text_of_pointers(record):
+    return ", ".join(f"{text_of_name(name)} at {place}" for name, place in record.pointers)

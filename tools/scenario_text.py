@@ -7,9 +7,11 @@ import ipaddress
 import re
 from dataclasses import replace
 
-from dns_text import FLAGS, Message, Question, Refused, decode, encode, name_of, rcode_of, text_of_name, text_of_rcode
+from dns_text import (
+    FLAGS, Message, Question, Refused, decode, encode, encode_reply, name_of, rcode_of, text_of_name, text_of_rcode,
+)
 from message_text import (
-    digits_of, octets_of, read_sections, read_words, shown, take, take_number, take_question, text_of_question,
+    digits_of, octets_of, read_sections, read_words, shown, take, take_number, take_question, text_of_question, with_notes,
 )
 from transfer_text import streams_of, text_of_stream
 
@@ -164,7 +166,9 @@ class Reader:
     def reply(self, worker, words, block):
         rcode = rcode_of(words.pop(0))
         message, compressed, opt = read_words(words, replace(worker.usual_reply(), rcode=rcode))
-        return digits_of(encode(read_sections(message, block, opt), compressed))
+        if compressed:
+            raise Refused("the names of all replies are compressed")
+        return digits_of(encode_reply(read_sections(message, block, opt)))
 
     def asks(self, worker, words):
         if take(words, "bytes"):
@@ -253,7 +257,8 @@ class Shower:
             try:
                 text, block = way(words, compressed)
                 if self.read_back(text, block, words) == line + b"\n":
-                    return [mark + text, *block]
+                    lines = [mark + text, *block]
+                    return with_notes(octets_of(words[2]), lines) if words[0] == "reply" else lines
             except (Refused, ValueError, IndexError):
                 pass
         return [mark + self.raw(line)]
@@ -379,14 +384,14 @@ class Shower:
             return f"notified {text}", block
         return self.reply(self.worker(int(words[1])), words[2], compressed, "reply bytes")
 
-    def reply(self, worker, digits, compressed, raw):
+    def reply(self, worker, digits, in_bytes, raw):
+        """The rcode, words and records of a reply, or its bytes, where it isn't written as replies are or that is wanted."""
         message = decode(octets_of(digits))
         found, block = shown(message, worker.usual_reply())
+        if in_bytes or encode_reply(message) != octets_of(digits):
+            return f"{raw} {digits}", [f"    ; {line.strip()}" for line in block]
         if not message.questions and not block:
             found = ["header alone"] + [word for word in found if word != "no question"]
-        if compressed and encode(message, True) != octets_of(digits):
-            return f"{raw} {digits}", []
-        found += ["compressed"] if compressed else []
         return ", ".join([text_of_rcode(message.rcode), *found]), block
 
 

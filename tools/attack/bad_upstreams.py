@@ -217,7 +217,7 @@ def large(message):
 
 
 def expands(message):
-    """700 addresses of a long name, which are 11 KB with pointers and over 65,535 octets with the name in full."""
+    """700 addresses of a long name, which are 11 KB with pointers, as they come and go on, and over 65,535 octets with the name in full."""
     name = wire.question_name(message)
     alias = wire.record(name, CNAME, wire.name_octets("a" * 60 + "." + "b" * 30))
     at = 0xC000 | wire.question_end(message) + len(wire.name_octets(name)) + 10
@@ -292,7 +292,7 @@ KINDS = {
     "chain16": kind(sends(chain(16)), AT_ONCE),
     "chain30": kind(sends(chain(30)), AT_ONCE),
     "large": kind(sends(large), "TC at once", f"{LARGE} records at once", is_kept=False),
-    "expands": kind(sends(expands), "TC at once", is_kept=False),
+    "expands": kind(sends(expands), "TC at once", "701 records at once", is_kept=False),
     "ttl0": kind(sends(lives(0)), "1 record at once", is_kept=False),
     "ttl2e31": kind(sends(lives(1 << 31)), "1 record at once", is_kept=True),
     "ttlmost": kind(sends(lives((1 << 32) - 1)), "1 record at once", is_kept=True),

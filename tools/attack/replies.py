@@ -1,4 +1,4 @@
-"""Replies of a server, read strictly: every octet of one belongs to its header, its question or a record."""
+"""Replies of a server, read strictly: every octet of one belongs to its header, its question or a record, and pointers lead back."""
 
 import socket
 import struct
@@ -9,7 +9,16 @@ import wire
 from peers import LOOPBACK
 
 
+HEADER = 12
+# Of the data whose names are compressed (docs/PROFILE.md), by type: how many octets stand before its names, how many names there are, and
+# how many octets stand behind them.
+NAMES = {2: (0, 1, 0), 3: (0, 1, 0), 4: (0, 1, 0), 5: (0, 1, 0), 6: (0, 2, 20), 7: (0, 1, 0), 8: (0, 1, 0), 9: (0, 1, 0), 12: (0, 1, 0),
+         14: (0, 2, 0), 15: (2, 1, 0)}
+
+
 class Record(NamedTuple):
+    """The data is as it stands in the message."""
+
     owner: str
     rtype: int
     ttl: int
@@ -29,14 +38,33 @@ class Malformed(Exception):
 
 
 def name_at(message, at):
-    """The name that begins there, whose labels stand in full: a server here compresses nothing."""
-    labels = []
+    """The name that begins there, and the place behind it. A pointer leads to a place before the labels in front of it, and not into the
+    header (RFC 1035, section 4.1.4)."""
+    labels, begun, behind = [], at, None
     while message[at]:
-        if message[at] > 63:
-            raise Malformed("a pointer or a label of over 63 octets")
-        labels.append(message[at + 1: at + 1 + message[at]].decode("ascii", "replace").lower())
-        at += message[at] + 1
-    return ".".join(labels), at + 1
+        if message[at] >= 0xC0:
+            target = (message[at] & 0x3F) << 8 | message[at + 1]
+            if not HEADER <= target < begun:
+                raise Malformed(f"a pointer at {at} to {target}")
+            behind = at + 2 if behind is None else behind
+            at = begun = target
+        elif message[at] > 63:
+            raise Malformed("a label of over 63 octets")
+        else:
+            labels.append(message[at + 1: at + 1 + message[at]].decode("ascii", "replace").lower())
+            at += message[at] + 1
+    return ".".join(labels), at + 1 if behind is None else behind
+
+
+def data_end(message, rtype, at, end):
+    """Where the data ends by its names, if its type has such."""
+    if rtype not in NAMES:
+        return end
+    before, count, after = NAMES[rtype]
+    at += before
+    for _ in range(count):
+        _, at = name_at(message, at)
+    return at + after
 
 
 def record_at(message, at):
@@ -45,6 +73,8 @@ def record_at(message, at):
     end = at + 10 + size
     if end > len(message):
         raise Malformed("a record that isn't whole")
+    if data_end(message, rtype, at + 10, end) != end:
+        raise Malformed("data that are longer or shorter than their names")
     return Record(owner, rtype, ttl, message[at + 10: end]), end
 
 

@@ -20,8 +20,8 @@ and why; the status. Of a server: each reply, octet for octet but for TTLs, whic
 once, and within 6.5 seconds; silence where it must be and nowhere else; the line of each poll, the requests of its transfers, and the
 version in force behind each; the form of questions upstream; after each batch a query that a rule answers within a second; at most 200 MiB
 resident, and 400 MiB of addresses for a script's run; as many descriptors at the end as at the start, but for two and for connections to
-the upstream. Of each reply besides:
-its ID, opcode, flags, question, OPT record and names in full; and that dnspython, a reader of messages by others, reads the same in it.
+the upstream. Of each reply besides: its ID, opcode, flags, question and OPT record, and that pointers stand where they must; and that
+dnspython, a reader of messages by others, reads the same in it.
 
 What dnspython refuses though it may stand in a reply is listed in judging.py, changed in a copy before it reads that, and counted as
 `exempt`. In the last 3 seconds of a server its upstream loses questions on purpose; then, and for 15 seconds behind a batch that took over

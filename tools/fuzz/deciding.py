@@ -2,7 +2,7 @@
 Facts are answers by question, a name in lower case and a type; an answer is None where none came that counts."""
 
 import collections
-import struct
+from dataclasses import replace
 from typing import NamedTuple
 
 import reading
@@ -30,8 +30,8 @@ class Answer(NamedTuple):
         return min(DAY, self.soa.ttl, int.from_bytes(self.soa.octets[-4:], "big"), *ttls)
 
     def aged(self, record):
-        """A record of it as octets, with what is left of its TTL."""
-        return reading.octets_of(record, max(0, record.ttl - self.age))
+        """A record of it, with what is left of its TTL."""
+        return replace(record, ttl=max(0, record.ttl - self.age))
 
 
 def answer_of(message):
@@ -239,5 +239,5 @@ def sections_of(answer):
 
 
 def local_record(owner, rtype, ttl, data):
-    return reading.written(owner) + struct.pack("!HHIH", rtype, reading.IN, ttl, len(data)) + data
+    return reading.Record(owner, rtype, reading.IN, ttl, data)
 

@@ -194,11 +194,16 @@ def outcome_of(found):
 
 
 def is_aged(fresh, reply):
-    """Whether a reply is this one but for TTLs, which may be less."""
-    first, second = reading.read_message(fresh), reading.read_message(reply)
-    if len(fresh) != len(reply) or fresh[:reading.HEADER] != reply[:reading.HEADER] or first.question() != second.question():
+    """Whether a reply is this one octet for octet, but for TTLs, which may be less."""
+    records = reading.read_message(fresh).records()
+    if without_ttls(fresh, records) != without_ttls(reply, records):
         return False
-    for one, other in zip(first.records(), second.records(), strict=True):
-        if (one.owner, one.rtype, one.rclass, one.octets) != (other.owner, other.rtype, other.rclass, other.octets) or other.ttl > one.ttl:
-            return False
-    return True
+    return all(other.ttl <= one.ttl for one, other in zip(records, reading.read_message(reply).records(), strict=True))
+
+
+def without_ttls(octets, records):
+    """The octets, with zeros where these records have their TTLs."""
+    copy = bytearray(octets)
+    for record in records:
+        copy[record.place + 4: record.place + 8] = bytes(4)
+    return copy

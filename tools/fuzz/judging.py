@@ -58,7 +58,7 @@ def judge(octets, reply, transport, way, figures):
     message = reading.readable(reply)
     wrong_if(message is None, "it can't be read")
     if kind in ("query", "notify"):
-        judge_sections(kind, request, message)
+        judge_sections(kind, request, reply, message)
     judge_elsewhere(reply, message, figures)
 
 
@@ -71,11 +71,12 @@ def judge_header(octets, reply):
     wrong_if(reply[3] & (0x80 | Z_BITS) != 0x80, "RA isn't set, or a bit Z, AD or CD is")
 
 
-def judge_sections(kind, request, message):
-    """It has the question octet for octet, names in full, an OPT record exactly where the request has one, and nothing if truncated."""
+def judge_sections(kind, request, reply, message):
+    """It has the question octet for octet, an OPT record exactly where the request has one, and nothing if truncated; pointers stand
+    where they must, and nowhere else."""
     wrong_if(message.name is None, "no question: out of memory" if message.rcode() == reading.SERVFAIL else "no question")
     wrong_if(message.question() != request.question(), "another question")
-    wrong_if(message.has_pointers, "a compressed name")
+    wrong_if(reading.with_records(reply[:reading.HEADER], request.question(), message.records()) != reply, "names written in another way")
     wrong_if(len(message.opts) != len(request.opts), "an OPT record that the request has not, or none though it has one")
     for opt in message.opts:
         wrong_if((opt.rclass, opt.ttl, opt.octets) != (reading.OUR_SIZE, 0, b""), "another OPT record")

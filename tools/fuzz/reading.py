@@ -2,6 +2,7 @@
 and the octets of the replies that no rule makes. It knows no rule of policy and shares no code with `rpz`."""
 
 import functools
+import itertools
 import struct
 from dataclasses import dataclass
 
@@ -15,6 +16,7 @@ NOTIFY = 4
 OUR_SIZE = 1232  # that of the OPT record of a reply
 CHAIN = 16  # names that a chain of CNAMEs may have
 FIXED = {(TYPES["A"], IN): 4, (TYPES["AAAA"], IN): 16}
+COMPRESSED = {TYPES[name] for name in ("NS", "MD", "MF", "CNAME", "SOA", "MB", "MG", "MR", "PTR", "MINFO", "MX")}  # in replies
 
 
 class Unreadable(Exception):
@@ -49,7 +51,6 @@ class Message:
     authority: list = None
     additional: list = None
     opts: list = None
-    has_pointers: bool = False
 
     def bit(self, value):
         return bool(self.flags & value)
@@ -79,11 +80,11 @@ def written(name):
 
 
 class Reader:
-    """Reads along a message; `has_pointers` says whether some name has one. `known`: the labels of names to which pointers lead, so that
-    many names behind long chains of pointers are read in linear time."""
+    """Reads along a message. `known`: the labels of names to which pointers lead, so that many names behind long chains of pointers are
+    read in linear time."""
 
     def __init__(self, octets):
-        self.octets, self.at, self.has_pointers, self.known = octets, HEADER, False, {}
+        self.octets, self.at, self.known = octets, HEADER, {}
 
     def take(self, count):
         if count > len(self.octets) - self.at:
@@ -102,7 +103,6 @@ class Reader:
             if head >= 0xC0:
                 target = (head & 0x3F) << 8 | self.take(1)[0]
                 behind = self.at if behind is None else behind
-                self.has_pointers = True
                 if target >= begun:
                     raise Unreadable("Pointer")
                 if target in self.known:
@@ -175,7 +175,6 @@ def read_message(octets):
     message.additional = [record for record in additional if not is_opt(record)]
     if len(message.opts) > 1:
         raise Unreadable("TwoOpts")
-    message.has_pointers = reader.has_pointers
     return message
 
 
@@ -239,19 +238,58 @@ def refusal(octets, request, rcode, extended=0):
     return header(octets, rcode, (1, 0, 0, 1 if opt else 0)) + request.question() + opt
 
 
-def octets_of(record, ttl=None):
-    """The record, with another TTL where one is given."""
-    numbers = record.rtype, record.rclass, record.ttl if ttl is None else ttl, len(record.octets)
-    return written(record.owner) + struct.pack("!HHIH", *numbers) + record.octets
+def compressed(name, at, known):
+    """A name, which is given as it is in full, as it stands at a place of a reply: what stands at another place already is a pointer there.
+    `known`: the place of each name that a pointer can lead to; those of this one's labels are added."""
+    new = {}
+    for count in starts_of(name):
+        if name[count:] in known:
+            known.update(new)
+            return name[:count] + struct.pack("!H", 0xC000 | known[name[count:]])
+        if at + count < 0x4000:
+            new[name[count:]] = at + count
+    known.update(new)
+    return name
+
+
+def starts_of(name):
+    """Where the labels of a name in full begin."""
+    count = 0
+    while name[count]:
+        yield count
+        count += 1 + name[count]
+
+
+def compressed_data(record, at, known):
+    """The data of a record as they stand at a place of a reply."""
+    if record.rtype not in COMPRESSED:
+        return record.octets
+    out, rest = b"", record.octets
+    for kind in LAYOUTS[record.rtype]:
+        size = int(kind) if kind != "n" else 1 + sum(1 + rest[count] for count in starts_of(rest))
+        out += compressed(rest[:size], at + len(out), known) if kind == "n" else rest[:size]
+        rest = rest[size:]
+    return out
+
+
+def with_records(head, question, records):
+    """A header and a question with records behind them, whose names are compressed."""
+    out, known = bytearray(head + question), {}
+    compressed(question[:-4], HEADER, known)
+    for record in records:
+        out += compressed(written(record.owner), len(out), known) + struct.pack("!HHI", record.rtype, record.rclass, record.ttl)
+        data = compressed_data(record, len(out) + 2, known)
+        out += struct.pack("!H", len(data)) + data
+    return bytes(out)
 
 
 def reply(octets, request, transport, rcode, sections):
-    """A reply with these sections of records as octets; the header, the question and the OPT record alone where it would be too long."""
+    """A reply with these sections of records; the header, the question and the OPT record alone where it would be too long."""
     opt = our_opt(request)
     counts = [1, *map(len, sections)]
     counts[3] += 1 if opt else 0
-    whole = header(octets, rcode, counts) + request.question() + b"".join(b"".join(part) for part in sections) + opt
-    if len(whole) <= limit_of(request, transport) and all(count <= 0xFFFF for count in counts):
+    whole = with_records(header(octets, rcode, counts), request.question(), itertools.chain(*sections)) + opt
+    if len(whole) <= limit_of(request, transport):
         return whole
     return truncated(octets, request, rcode)
 

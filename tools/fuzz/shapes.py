@@ -7,9 +7,11 @@ from dns_text import LAYOUTS, TYPES, Message, Question, Record, encode, opt_of
 
 IN, CH = 1, 3
 MOST_NAME = 255
+POINTED = 0x4000
 TTLS = (0, 1, 2, 3, 60, 60, 300, 86_400, 86_401, 0x7FFFFFFF, 0x80000000, 0xFFFFFFFF)
 SIZES = (0, 1, 511, 512, 513, 1231, 1232, 1233, 1400, 4096, 65_535)
-ASKED = (1, 1, 1, 1, 2, 5, 6, 12, 15, 16, 28, 28, 33, 39, 43, 46, 48, 65, 99, 255, 255, 251, 252, 250, 41, 0, 65_280, 65_535)
+NAMED = tuple(LAYOUTS)  # types whose data have names
+ASKED = (1, 1, 1, 1, 2, 5, 6, 12, 15, 16, 28, 28, 33, 39, 43, 46, 48, 65, 99, 255, 255, 251, 252, 250, 41, 0, 65_280, 65_535, *NAMED)
 ODD_LABELS = (b"\0", b".", b" ", b"\xff\x80", b"\\", b"*", b"_", b"-", b"@", b"\xc0\x0c")
 
 
@@ -178,11 +180,22 @@ def long_data(chance, name, qtype):
     return [Record(name, 60, IN, 16, [b"\xff" + b"x" * 255]) for _ in range(max(1, size // 300))]
 
 
+def many_names(chance, name, _):
+    """Records whose owners and data have names, many of which end in one another."""
+    return [record(chance, below(chance, name[-2:]), chance.choice(NAMED)) for _ in range(chance.choice((9, 20, 100, 400)))]
+
+
+def far_names(chance, name, _):
+    """Names on both sides of the place 16,384, to which no pointer leads any more."""
+    size = POINTED - chance.randrange(40, 160)
+    return [Record(name, 60, IN, 65_280, [bytes(size)]), *(record(chance, name, chance.choice(NAMED)) for _ in range(9))]
+
+
 def nothing(*_):
     return []
 
 
-KINDS = (addresses, addresses, aliases, aliases, servers, of_type, of_type, mixed, long_data, nothing)
+KINDS = (addresses, addresses, aliases, aliases, servers, of_type, of_type, mixed, many_names, far_names, long_data, nothing)
 
 
 def response(chance, number, name, qtype):
