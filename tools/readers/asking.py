@@ -101,6 +101,8 @@ def by_kdig(port, questions, transport):
 
 
 def printed_by(program, port, words, questions):
+    if not questions:
+        return []
     words = [*program, f"@{peers.LOOPBACK}", "-p", str(port), *SHOWN, *words]
     run = subprocess.run(words, stdin=subprocess.DEVNULL, stdout=subprocess.PIPE, encoding="latin-1", check=False)
     return printed.replies_of(run.stdout, questions)
