@@ -163,8 +163,10 @@ class Run:
             self.differs(UNBOUND, question, fault)
 
     def all(self):
+        """Has all questions asked, as long as the server runs."""
         for start in range(0, len(self.world.passed), BATCH):
-            self.ask(self.world.questions[start:start + BATCH])
+            if questions := self.world.questions[start:start + BATCH]:
+                self.ask(questions)
             for question in self.world.passed[start:start + BATCH]:
                 if self.server.process.poll() is not None:
                     return
