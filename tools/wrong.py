@@ -12,6 +12,7 @@ Run it for a crate whose contracts or bodies change, and write the day into docs
 """
 
 import argparse
+import os
 import pathlib
 import re
 import shutil
@@ -48,7 +49,8 @@ def put_edits(folder, names):
 def try_all(folder, names):
     """Tries the edits of the crates, and prints what became of each."""
     edits = put_edits(folder, names)
-    process = subprocess.Popen(["rt", "must-fail", *names], cwd=folder, stdout=subprocess.PIPE, stderr=subprocess.STDOUT, text=True)
+    unbuffered = {**os.environ, "PYTHONUNBUFFERED": "1"}  # so that what became of an edit is said at once, and not lost where a run ends early
+    process = subprocess.Popen(["rt", "must-fail", *names], cwd=folder, env=unbuffered, stdout=subprocess.PIPE, stderr=subprocess.STDOUT, text=True)
     refused = set()
     for line in process.stdout:
         tried = re.search(r"must-fail (\S+\.edit): (.*)", line)
