@@ -22,8 +22,9 @@ the second writing of the documents that stands in tools/fuzz, which shares no c
   counted as refused for a reason of its own, and nothing else is. `Truncated` are replies of the server to the first of these questions.
 
 Printed: each difference with the query, and the reply as it comes when it is asked for once more, as hexadecimal digits (five for each
-reader); and a table. The status is 0 where nothing differs, and else 1. The same seed draws the same. Wanted of Debian: python3-dnspython
-(for /usr/bin/python3), bind9-dnsutils, knot-dnsutils and unbound.
+reader); and a table. The status is 0 where nothing differs, and else 1. Where this script is held up, so that its upstream takes 5 seconds,
+the server answers SERVFAIL, which differs, too. The same seed draws the same. Wanted of Debian: python3-dnspython (for /usr/bin/python3),
+bind9-dnsutils, knot-dnsutils and unbound.
 """
 
 import argparse

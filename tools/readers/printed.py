@@ -53,7 +53,7 @@ def row_of(line):
 
 @dataclass
 class Block:
-    """The lines of one reply so far, or lines that stand before or between replies. `unread`: the first that isn't known."""
+    """The lines of one reply so far, or others, without an rcode. `unread`: the first that isn't known."""
     rcode: int = None
     flags: list = field(default_factory=list)
     name: tuple = None
@@ -85,6 +85,7 @@ class Block:
 
 
 def blocks_of(text):
+    """Lines that aren't known stand in the block of the reply that they are in, or in one of their own in front of the next."""
     blocks = []
     for line in text.splitlines():
         if found := HEADER.fullmatch(line):

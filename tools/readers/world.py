@@ -94,11 +94,11 @@ def record(chance, owner, rtype, names):
 
 
 class Upstream(stations.Upstream):
-    """Answers what the seed and the question draw; NXDOMAIN where a name is of no kind, as that of the probe before its rule is there."""
+    """Answers what the seed and the question draw; a name of no kind, as that of the probe, which a rule denies, has no records."""
 
     def draw(self, name, qtype):
         if len(name) < BASE:
-            return encode(Message(0, ("qr", "rd", "ra"), 0, reading.NXDOMAIN, [Question(name, qtype)]))
+            return encode(Message(0, ("qr", "rd", "ra"), 0, reading.NOERROR, [Question(name, qtype)]))
         chance = random.Random(f"{self.seed} {name} {qtype}")
         rcode, answer, authority = self.wild(chance, name) if name[-1] == WILD else self.plain(chance, name, qtype)
         message = Message(0, ("qr", "rd", "ra"), 0, rcode, [Question(name, qtype)], answer, authority)
