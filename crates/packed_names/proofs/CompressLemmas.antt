@@ -1,6 +1,7 @@
 -- A name that is compressed label by label.
-use Rattle.std.proofs.Common.{◌≡◌, ℕ, get_or, add-one, ◌+◌, ◌-◌, ◌≤◌, ◌<◌, Bool, true, false, cond, ltb, Option, Some, None, List, [], ◌∷◌, ◌++◌, length, take, drop, refl, sym, ap, subst, ◌∙◌, append_assoc, arith, length-append}
+use Rattle.std.proofs.Common.{◌≡◌, ◌≢◌, ℕ, get_or, add-one, ◌+◌, ◌-◌, ◌≤◌, ◌<◌, Bool, true, false, cond, ltb, Option, Some, None, List, [], ◌∷◌, ◌++◌, length, take, drop, refl, sym, ap, subst, ◌∙◌, append_assoc, arith, length-append}
 use Rattle.std.specs.List.{flat_map, AllByRecursion}
+use Rattle.std.specs.Option.{IfSome}
 use Rattle.std.proofs.lemmas.Bool.{cond_both}
 use Rattle.std.proofs.Math.Seq.{take-length}
 use Rattle.std.proofs.lemmas.List.{append-nil, length-drop, length-take, take_at, take-append-le, take-append-drop}
@@ -215,3 +216,30 @@ pub split_label_whole : (octets : List ℕ) (len : ℕ) → IsWire octets → le
 split_label_whole octets len w is some =
     let all : take (length octets - (len + 1)) (drop (len + 1) octets) ≡ drop (len + 1) octets = ap (λ (n : ℕ). take n (drop (len + 1) octets)) (sym (length-drop (len + 1) octets)) ∙ take-length (drop (len + 1) octets) in
     rw (all, is) (split_label_of octets w (omega arith))
+
+-- a name of one octet is the root
+root_short : (name : List (List ℕ)) → length (name_octets name) < 2 → name ≡ []
+root_short [] lt = refl
+root_short (l ∷ ls) lt = absurd (omega (arith, lt, length-append (flat_map label_octets (l ∷ ls)) (0 ∷ []), length-append (label_octets l) (flat_map label_octets ls)))
+
+pub wire_root : (octets : List ℕ) → IsWire octets → length octets < 2 → labels_in octets ≡ []
+wire_root octets w lt = root_short (labels_in octets) (subst (λ (n : ℕ). n < 2) (ap length w.whole) lt)
+
+pub root_octets : (places : List Place) (out octets out' : List ℕ) → labels_in octets ≡ [] → out' ≡ out ++ 0 ∷ [] → out' ≡ out ++ compressed_octets places (labels_in octets)
+unfolding compressed_octets
+root_octets places out octets out' root is = rw root is
+
+pub root_places : (places places' : List Place) (at : ℕ) (octets : List ℕ) → labels_in octets ≡ [] → places' ≡ places → places' ≡ places ++ new_places places at (labels_in octets)
+unfolding new_places
+root_places places places' at octets root is = rw root (is ∙ sym (append-nil places))
+
+-- a name whose whole has a place
+pub known_octets : (result : Option ℕ) (places known : List Place) (name : List (List ℕ)) → known ≡ places → IfSome result (λ t. first_offset known name ≡ Some t) → IfSome result (λ t. name ≢ [])
+    → IfSome result (λ t. compressed_octets places name ≡ pointer_octets t)
+known_octets None places known name same found some = tt
+known_octets (Some t) places known name same found some = compressed_octets-found places name t (ap (λ (ps : List Place). first_offset ps name) (sym same) ∙ found) some
+
+pub known_places_none : (result : Option ℕ) (places known : List Place) (at : ℕ) (name : List (List ℕ)) → known ≡ places → IfSome result (λ t. first_offset known name ≡ Some t) → IfSome result (λ t. name ≢ [])
+    → IfSome result (λ t. new_places places at name ≡ [])
+known_places_none None places known at name same found some = tt
+known_places_none (Some t) places known at name same found some = new_places-found places at name t (ap (λ (ps : List Place). first_offset ps name) (sym same) ∙ found) some

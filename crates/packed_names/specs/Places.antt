@@ -2,7 +2,7 @@
 use Rattle.std.specs.Prelude.{ℕ, ◌+◌, ◌/◌, ◌%◌, nat_lt, Bool, if◌then◌else◌, List, [], ◌∷◌, ◌++◌, length, Option, Some, None}
 use Rattle.std.specs.Str.{bytes_eq}
 use Rattle.dns_name.specs.Labels.{label_octets, name_octets, Name}
-use Rattle.packed_names.specs.declared.pointer.TheConstants.{POINTED_PLACES}
+use Rattle.packed_names.specs.declared.pointing.TheConstants.{POINTED_PLACES}
 
 -- an offset from the start of the message where a label begins, and the labels of the name that stands there
 pub record Place : Type 0 where

@@ -5,7 +5,7 @@ use Rattle.dns_name.specs.Labels.{label_octets, Name}
 use Rattle.dns_name.specs.Wire.{labels_in, IsWire}
 use Rattle.packed_names.specs.declared.table.SuffixEntry.{SuffixEntry}
 use Rattle.packed_names.specs.declared.recent.RecentName.{RecentName}
-use Rattle.packed_names.specs.declared.pointer.TheConstants.{POINTED_PLACES}
+use Rattle.packed_names.specs.declared.pointing.TheConstants.{POINTED_PLACES}
 use Rattle.packed_names.specs.Places.{Place, first_offset, unless_found}
 use Rattle.packed_names.specs.Table.{suffix_places}
 

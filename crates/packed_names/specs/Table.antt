@@ -5,7 +5,7 @@ use Rattle.std.specs.List.{AllByRecursion}
 use Rattle.dns_name.specs.Labels.{label_octets}
 use Rattle.dns_name.specs.Wire.{labels_in, IsWire}
 use Rattle.packed_names.specs.declared.table.SuffixEntry.{SuffixEntry}
-use Rattle.packed_names.specs.declared.pointer.TheConstants.{POINTED_PLACES}
+use Rattle.packed_names.specs.declared.pointing.TheConstants.{POINTED_PLACES}
 use Rattle.packed_names.specs.Hash.{hash_of, bucket}
 use Rattle.packed_names.specs.Places.{Place, first_offset}
 

@@ -7,7 +7,7 @@ ghost use Rattle.packed_names.specs.Places.{compressed_octets, new_places};
 ghost use Rattle.packed_names.specs.Recent.{added_places, known_places, IsRecentName};
 ghost use Rattle.packed_names.specs.Table.{suffix_places, IsTable};
 
-use crate::pointer::{POINTED_PLACES, write_pointer};
+use crate::pointing::{POINTED_PLACES, write_pointer};
 use crate::recent::RecentName;
 use crate::split::split_label;
 use crate::table::{SuffixEntry, find_or_insert};

@@ -9,13 +9,13 @@ mod compress;
 mod hash;
 pub mod laws;
 mod places;
-mod pointer;
+mod pointing;
 mod recent;
 mod split;
 mod table;
 
 pub use places::Places;
-pub use pointer::POINTED_PLACES;
+pub use pointing::{POINTED_PLACES, pointer};
 pub use split::split_name;
 // Contracts of other crates can name `Places` only if the types of its fields are exported, too.
 #[doc(hidden)]

@@ -1,15 +1,15 @@
 //! The places of a message that pointers can lead to, and names written by them.
 
-ghost use Rattle.std.specs.Prelude.{◌≡◌, ◌+◌, ◌<◌, ◌≤◌, min, [], ◌∷◌, ◌++◌, length, take, Some, OnOk, OnErr, IfSome, ◌≢◌};
+ghost use Rattle.std.specs.Prelude.{◌≡◌, ℕ, ◌+◌, ◌<◌, ◌≤◌, min, [], ◌∷◌, ◌++◌, length, take, Some, OnOk, OnErr, IfSome, ◌≢◌};
 ghost use Rattle.std.specs.List.{AllByRecursion};
 ghost use Rattle.dns_name.specs.Labels.{name_octets};
 ghost use Rattle.dns_name.specs.Wire.{labels_in, IsWire};
-ghost use Rattle.packed_names.specs.Places.{first_offset, pointer_or, compressed_octets, new_places, new_places_in_full};
+ghost use Rattle.packed_names.specs.Places.{first_offset, pointer_octets, pointer_or, compressed_octets, new_places, new_places_in_full};
 ghost use Rattle.packed_names.specs.Recent.{known_places, added_places, IsRecentName};
 ghost use Rattle.packed_names.specs.Table.{suffix_places, IsTable};
 
 use crate::compress::{compress, insert_names, insert_written};
-use crate::pointer::{POINTED_PLACES, write_pointer};
+use crate::pointing::{POINTED_PLACES, write_pointer};
 use crate::recent::{self, RecentName, RecentNames, longest_match};
 use crate::table::{self, SuffixEntry};
 use dns_name::{Name, Octets};
@@ -50,6 +50,7 @@ impl<'n> Places<'n> {
     ///
     /// The key is that of the hash of the suffixes, a random number. Those who send the names must not know it, or they can
     /// choose names that collide and are slow to find.
+    #[inline(always)]
     pub fn new(alloc: Global, key: u64) -> Self
         ensures { result ≡ [] }
     {
@@ -72,13 +73,18 @@ impl<'n> Places<'n> {
     }
 
     /// The offset of a whole name, where one comparison finds it, as that of the question's name: the first name that was
-    /// written. `None` says nothing. The root has no place.
+    /// written. The name is then compressed to a [`pointer`] there, and adds no places. `None` says nothing. The root has no place.
+    #[inline(always)]
     pub fn known(&self, octets: &[u8]) -> Option<u16>
         requires { IsWire octets.now }
         ensures place { IfSome result
             (λ offset. first_offset self.now (labels_in octets.now) ≡ Some offset) }
         ensures label { IfSome result (λ offset. labels_in octets.now ≢ []) }
         ensures near { IfSome result (λ offset. offset < POINTED_PLACES) }
+        ensures octets { IfSome result
+            (λ offset. compressed_octets self.now (labels_in octets.now) ≡ pointer_octets offset) }
+        ensures places { (at : ℕ) → IfSome result
+            (λ offset. new_places self.now at (labels_in octets.now) ≡ []) }
     {
         known_offset(
             self.key,
@@ -112,6 +118,9 @@ impl<'n> Places<'n> {
         ensures same { OnErr result (out.new ≡ out.old) }
         ensures none { OnErr result (self.new ≡ []) }
     {
+        if octets.len() < 2 {
+            return self.write_root(out);
+        }
         let start = out.len();
         match write_compressed(
             self.alloc,
@@ -125,6 +134,23 @@ impl<'n> Places<'n> {
             Ok(()) => Ok(()),
             Err(e) => {
                 out.truncate(start);
+                self.clear();
+                Err(e)
+            }
+        }
+    }
+
+    // Writes the root. It has no label, and so no place.
+    #[inline(always)]
+    fn write_root(&mut self, out: &mut Octets) -> Result<(), AllocError>
+        ensures octets { OnOk result (out.new ≡ out.old ++ 0 ∷ []) }
+        ensures places { OnOk result (self.new ≡ self.old) }
+        ensures same { OnErr result (out.new ≡ out.old) }
+        ensures none { OnErr result (self.new ≡ []) }
+    {
+        match out.push(0) {
+            Ok(()) => Ok(()),
+            Err(e) => {
                 self.clear();
                 Err(e)
             }
@@ -388,16 +414,6 @@ fn write_compressed<'n>(
         (labels_in octets.now)) }
     ensures begins { take (length out.old) out.new ≡ out.old }
 {
-    let known = known_offset(
-        key,
-        heads.as_slice(),
-        suffixes.as_slice(),
-        recent.as_slice(),
-        octets,
-    );
-    if let Some(offset) = known {
-        return write_pointer(out, offset);
-    }
     if suffixes.is_empty() && out.len() < FEW_OCTETS {
         return compress_by_recent(alloc, key, heads, suffixes, recent, out, octets);
     }

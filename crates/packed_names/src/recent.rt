@@ -6,7 +6,7 @@ ghost use Rattle.dns_name.specs.Wire.{labels_in, IsWire};
 ghost use Rattle.packed_names.specs.Places.{Place, first_offset};
 ghost use Rattle.packed_names.specs.Recent.{added_places, known_after, count_before_match, match_offset, IsRecentName, BeginsLabel};
 
-use crate::pointer::POINTED_PLACES;
+use crate::pointing::POINTED_PLACES;
 use crate::split::split_label;
 use std::marker::Model;
 
@@ -42,6 +42,7 @@ impl<'n> Model for RecentNames<'n> {
 
 impl<'n> RecentNames<'n> {
     /// No names.
+    #[inline(always)]
     pub(crate) fn new() -> Self
         ensures { result ≡ [] }
     {
@@ -56,6 +57,7 @@ impl<'n> RecentNames<'n> {
     }
 
     /// The names.
+    #[inline(always)]
     pub(crate) fn as_slice(&self) -> &[RecentName<'n>]
         ensures { result.now ≡ self.now }
     {
@@ -63,6 +65,7 @@ impl<'n> RecentNames<'n> {
     }
 
     /// Forgets the names.
+    #[inline(always)]
     pub(crate) fn clear(&mut self)
         ensures { self.new ≡ [] }
     {
@@ -70,6 +73,7 @@ impl<'n> RecentNames<'n> {
     }
 
     /// Whether there is no room for one more name.
+    #[inline(always)]
     pub(crate) fn is_full(&self) -> bool
         ensures { IsTrue result ↔ (RECENT_LIMIT ≤ length self.now) }
     {
@@ -77,6 +81,7 @@ impl<'n> RecentNames<'n> {
     }
 
     /// Puts a name behind the others.
+    #[inline(always)]
     pub(crate) fn push(&mut self, name: RecentName<'n>)
         requires { length self.old < RECENT_LIMIT }
         ensures { self.new ≡ self.old ++ name.entry ∷ [] }
@@ -100,11 +105,12 @@ fn begins_label(octets: &[u8], index: usize) -> bool
     at == index
 }
 
-// Whether these are the same octets.
+// Whether these are the same octets. Most names differ in their first one, and no call is made for them.
+#[inline(always)]
 fn is_same(some: &[u8], others: &[u8]) -> bool
     ensures { IsTrue result ↔ (some.now ≡ others.now) }
 {
-    some == others
+    some.first() == others.first() && some == others
 }
 
 // The offset of a suffix among the labels of one name.

@@ -8,7 +8,7 @@ ghost use Rattle.packed_names.specs.declared.table.SuffixEntry.{SuffixEntry};
 ghost use Rattle.packed_names.specs.Table.{suffix_places, hashes_of, Skips, IsTable};
 
 use crate::hash::{bucket, hash_of};
-use crate::pointer::POINTED_PLACES;
+use crate::pointing::POINTED_PLACES;
 use std::alloc::{AllocError, Global};
 
 const BUCKETS: usize = 2_048;
