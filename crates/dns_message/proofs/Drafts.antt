@@ -1,17 +1,17 @@
 -- A message that is being written: its parts, one after another.
-use Rattle.std.proofs.Common.{◌≡◌, ℕ, ◌+◌, ◌-◌, ◌/◌, ◌%◌, ◌^◌, ◌<◌, ◌≤◌, List, [], ◌∷◌, ◌++◌, length, take, drop, set, Result, Ok, Err, refl, sym, ap, ◌∙◌, append_assoc, arith, length-append}
+use Rattle.std.proofs.Common.{◌≡◌, ℕ, get_or, ◌+◌, ◌-◌, ◌/◌, ◌%◌, ◌^◌, ◌<◌, ◌≤◌, List, [], ◌∷◌, ◌++◌, length, take, drop, set, Result, Ok, Err, refl, sym, ap, ◌∙◌, append_assoc, arith, length-append}
 use Rattle.std.specs.Result.{OnOk}
-use Rattle.std.proofs.lemmas.List.{drop-drop, drop-set, drop-set-add, drop_at, length-drop, take-append-drop, take-set, take-set-le, take_at}
+use Rattle.std.proofs.lemmas.List.{append-nil, drop-drop, drop-set, drop-set-add, drop_at, length-drop, take-append-drop, take-set, take-set-le, take_at}
 use Rattle.dns_name.specs.Labels.{IsName, Name, name_octets}
 use Rattle.dns_name.specs.Wire.{labels_in}
 use Rattle.dns_name.proofs.WireLemmas.{labels_in-octets}
-use Rattle.packed_names.specs.Places.{Place, compressed_octets, new_places}
+use Rattle.packed_names.specs.Places.{Place, compressed_octets, new_places, pointer_octets}
 use Rattle.dns_record.specs.declared.part.Part.{Part}
 use Rattle.dns_record.specs.Number.{number_octets}
 use Rattle.dns_record.specs.Record.{PlainRecord}
 use Rattle.dns_record.proofs.Numbers.{length-number_octets}
 use Rattle.dns_message.specs.declared.header.Header.{Header}
-use Rattle.dns_message.specs.Compressed.{WrittenPart, compressed_layout, data_by, data_parts, field_octets, with_record}
+use Rattle.dns_message.specs.Compressed.{WrittenPart, compressed_layout, data_by, data_parts, field_octets, owner_written, places_behind_owner, with_record}
 use Rattle.dns_message.specs.Progress.{draft}
 use Rattle.dns_message.specs.Spelling.{header_octets}
 use Rattle.dns_message.proofs.Limits.{length-header}
@@ -125,12 +125,34 @@ record_is before between new places known last r name owner e f g h =
     let places_are : last ≡ written.places = h ∙ ap (λ (w : WrittenPart). w.places) same in
     ap (λ (l : List ℕ). draft l last) octets_are ∙ ap (draft (before ++ octets ++ number_octets 2 r.rtype ++ number_octets 2 r.class ++ number_octets 4 r.ttl ++ size ++ written.octets)) places_are
 
-pub record_put : {E : Type 0} (result : Result (Unit {0}) E) (before between new wire : List ℕ) (places known last : List Place) (r : PlainRecord) (owner : Name) → wire ≡ name_octets owner → IsName owner → owner ≡ r.owner
-    → between ≡ before ++ compressed_octets places (labels_in wire) → known ≡ places ++ new_places places (length before) (labels_in wire)
-    → (let written = data_by (compressed_layout r.rtype r.class) known (length between + 10) r.rdata in
-    OnOk result (new ≡ (between ++ field_octets r (length written.octets)) ++ written.octets) → OnOk result (last ≡ written.places) → OnOk result (draft new last ≡ with_record (draft before places) r))
-record_put (Ok x) before between new wire places known last r owner is name e f g h i = record_is before between new places known last r (labels_in wire) (labels_in-octets wire owner is name ∙ e) f g h i
-record_put (Err x) before between new wire places known last r owner is name e f g h i = tt
+pub record_done : {E : Type 0} (result : Result (Unit {0}) E) (before new : List ℕ) (places last : List Place) (r : PlainRecord)
+    → (let written = data_by (compressed_layout r.rtype r.class) (places_behind_owner places before r) (length (owner_written places before r) + 10) r.rdata in
+    OnOk result (new ≡ (owner_written places before r ++ field_octets r (length written.octets)) ++ written.octets) → OnOk result (last ≡ written.places) → OnOk result (draft new last ≡ with_record (draft before places) r))
+record_done (Ok x) before new places last r g h = record_is before (owner_written places before r) new places (places_behind_owner places before r) last r r.owner refl refl refl g h
+record_done (Err x) before new places last r g h = tt
+
+-- ---- the owner of a record and the fields behind it
+
+-- the owner is a pointer
+pub lead_pointed : (before new fields wire point : List ℕ) (places : List Place) (r : PlainRecord) (owner : Name) (len : ℕ) → wire ≡ name_octets owner → IsName owner → owner ≡ r.owner → compressed_octets places (labels_in wire) ≡ point → fields ≡ field_octets r len
+    → new ≡ before ++ (point ++ fields) → new ≡ owner_written places before r ++ field_octets r len
+lead_pointed before new fields wire point places r owner len is name e f g h =
+    let octets : point ≡ compressed_octets places r.owner = sym f ∙ ap (compressed_octets places) (labels_in-octets wire owner is name ∙ e) in
+    h ∙ sym (append_assoc before point fields) ∙ ap (λ (l : List ℕ). (before ++ l) ++ fields) octets ∙ ap (λ (l : List ℕ). owner_written places before r ++ l) g
+
+pub lead_places : (before wire : List ℕ) (places : List Place) (r : PlainRecord) (owner : Name) → wire ≡ name_octets owner → IsName owner → owner ≡ r.owner → new_places places (length before) (labels_in wire) ≡ [] → places ≡ places_behind_owner places before r
+lead_places before wire places r owner is name e f =
+    sym (append-nil places) ∙ ap (λ (ps : List Place). places ++ ps) (sym f ∙ ap (new_places places (length before)) (labels_in-octets wire owner is name ∙ e))
+
+-- the owner is written as it is compressed
+pub lead_written : (before between new fields wire : List ℕ) (places : List Place) (r : PlainRecord) (owner : Name) (len : ℕ) → wire ≡ name_octets owner → IsName owner → owner ≡ r.owner → between ≡ before ++ compressed_octets places (labels_in wire) → fields ≡ field_octets r len
+    → new ≡ between ++ fields → new ≡ owner_written places before r ++ field_octets r len
+lead_written before between new fields wire places r owner len is name e f g h =
+    let octets : between ≡ owner_written places before r = f ∙ ap (λ (n : Name). before ++ compressed_octets places n) (labels_in-octets wire owner is name ∙ e) in
+    h ∙ ap (λ (l : List ℕ). l ++ fields) octets ∙ ap (λ (l : List ℕ). owner_written places before r ++ l) g
+
+pub lead_places_added : (before wire : List ℕ) (places known : List Place) (r : PlainRecord) (owner : Name) → wire ≡ name_octets owner → IsName owner → owner ≡ r.owner → known ≡ places ++ new_places places (length before) (labels_in wire) → known ≡ places_behind_owner places before r
+lead_places_added before wire places known r owner is name e f = f ∙ ap (λ (n : Name). places ++ new_places places (length before) n) (labels_in-octets wire owner is name ∙ e)
 
 -- ---- the fields of a record
 
@@ -143,3 +165,9 @@ fields_are rtype class ttl len a b c d =
     let third : ttl / 16777216 % 256 ≡ ttl / 16777216 = omega arith in
     let fourth : len / 256 % 256 ≡ len / 256 = omega arith in
     rw (first, second, third, fourth) refl
+
+-- a pointer and the fields behind it
+pub pointed_are : (p f : List ℕ) (offset rtype class ttl len : ℕ) → p ≡ pointer_octets offset → f ≡ number_octets 2 rtype ++ number_octets 2 class ++ number_octets 4 ttl ++ number_octets 2 len
+    → get_or p 0 0 ∷ get_or p 1 0 ∷ get_or f 0 0 ∷ get_or f 1 0 ∷ get_or f 2 0 ∷ get_or f 3 0 ∷ get_or f 4 0 ∷ get_or f 5 0 ∷ get_or f 6 0 ∷ get_or f 7 0 ∷ get_or f 8 0 ∷ get_or f 9 0 ∷ [] ≡ pointer_octets offset ++ (number_octets 2 rtype ++ number_octets 2 class ++ number_octets 4 ttl ++ number_octets 2 len)
+unfolding number_octets
+pointed_are p f offset rtype class ttl len e g = rw (e, g) refl

@@ -1,19 +1,36 @@
 -- What is written in several steps, one after another.
-use Rattle.std.proofs.Common.{◌≡◌, ℕ, ◌+◌, ◌/◌, ◌%◌, ◌<◌, List, [], ◌∷◌, ◌++◌, length, take, get_or, sym, ap, ◌∙◌, append_assoc, arith}
+use Rattle.std.proofs.Common.{◌≡◌, ℕ, ◌+◌, ◌/◌, ◌%◌, ◌^◌, ◌<◌, List, [], ◌∷◌, ◌++◌, length, take, get_or, refl, sym, ap, ◌∙◌, append_assoc, arith}
 use Rattle.std.specs.List.{flat_map}
 use Rattle.std.proofs.lemmas.List.{append-nil, take_more}
 use Rattle.std.proofs.lemmas.List.Concat.{flat_map-append}
 use Rattle.dns_record.specs.Number.{number_octets}
 use Rattle.dns_record.specs.Record.{PlainRecord, record_octets}
-use Rattle.dns_message.specs.Spelling.{records_octets}
+use Rattle.dns_record.specs.declared.rtype.TheConstants.{OPT}
+use Rattle.dns_message.specs.declared.header.Header.{Header}
+use Rattle.dns_message.specs.Spelling.{count_octets, first_flags, header_octets, records_octets, second_flags}
 
--- only the lowest 16 bits are written
-pub low_bits : (n : ℕ) → number_octets 2 (n % 65536) ≡ number_octets 2 n
+-- the bytes of a header
+pub header_is : (h : Header) (questions answers authorities additionals : ℕ) → h.id < 2 ^ 16
+    → h.id / 256 ∷ h.id % 256 ∷ first_flags h ∷ second_flags 0 h ∷ questions / 256 % 256 ∷ questions % 256 ∷ answers / 256 % 256 ∷ answers % 256 ∷ authorities / 256 % 256 ∷ authorities % 256 ∷ additionals / 256 % 256 ∷ additionals % 256 ∷ [] ≡ header_octets 0 h questions answers authorities additionals
+unfolding header_octets count_octets number_octets
+header_is h questions answers authorities additionals lt =
+    let high : h.id / 256 % 256 ≡ h.id / 256 = omega arith in
+    rw high refl
+
+-- the type and the class of a question
+pub asked_is : (a b : ℕ) → a < 2 ^ 16 → b < 2 ^ 16 → a / 256 ∷ a % 256 ∷ b / 256 ∷ b % 256 ∷ [] ≡ number_octets 2 a ++ number_octets 2 b
 unfolding number_octets
-low_bits n =
-    let high : n % 65536 / 256 % 256 ≡ n / 256 % 256 = omega arith in
-    let low : n % 65536 % 256 ≡ n % 256 = omega arith in
-    ap (λ (a : ℕ). a ∷ n % 65536 % 256 ∷ []) high ∙ ap (λ (a : ℕ). n / 256 % 256 ∷ a ∷ []) low
+asked_is a b la lb =
+    let first : a / 256 % 256 ≡ a / 256 = omega arith in
+    let second : b / 256 % 256 ≡ b / 256 = omega arith in
+    rw (first, second) refl
+
+-- the bytes of an OPT record
+pub opt_is : (payload extended version : ℕ) → payload < 2 ^ 16 → 0 ∷ 0 ∷ 41 ∷ payload / 256 ∷ payload % 256 ∷ extended ∷ version ∷ 0 ∷ 0 ∷ 0 ∷ 0 ∷ [] ≡ 0 ∷ [] ++ number_octets 2 OPT ++ number_octets 2 payload ++ (extended ∷ version ∷ 0 ∷ 0 ∷ []) ++ number_octets 2 0
+unfolding number_octets
+opt_is payload extended version lt =
+    let high : payload / 256 % 256 ≡ payload / 256 = omega arith in
+    rw high refl
 
 -- one record more
 pub records_more : (records : List PlainRecord) (i : ℕ) (d : PlainRecord) (before out out' : List ℕ) → i < length records → out ≡ before ++ records_octets (take i records) → out' ≡ out ++ record_octets (get_or records i d) → out' ≡ before ++ records_octets (take (i + 1) records)

@@ -83,6 +83,13 @@ field_octets r size =
     number_octets 2 r.rtype ++ number_octets 2 r.class ++ number_octets 4 r.ttl
     ++ number_octets 2 size
 
+-- what is written once the owner of a record is, and the places that pointers can lead to then
+abbrev pub owner_written : List Place → List ℕ → PlainRecord → List ℕ
+owner_written places octets r = octets ++ compressed_octets places r.owner
+
+abbrev pub places_behind_owner : List Place → List ℕ → PlainRecord → List Place
+places_behind_owner places octets r = places ++ new_places places (length octets) r.owner
+
 -- a message that is being written: its octets so far, and the places that pointers can lead to
 pub record Draft : Type 0 where
   pub octets : List ℕ

@@ -1,38 +1,43 @@
 //! Writes the data of a record with its names compressed.
 
 ghost use Rattle.std.specs.Prelude.{◌≡◌, ◌+◌, ◌-◌, ◌^◌, ◌<◌, ◌≤◌, List, ◌∷◌, ◌++◌, length, take, drop, option_copied, IfOk, OnOk};
+ghost use Rattle.packed_names.specs.Places.{pointer_octets};
 ghost use Rattle.dns_record.specs.Number.{number_octets};
 ghost use Rattle.dns_record.specs.Part.{HasParts};
 ghost use Rattle.dns_record.specs.declared.part.Part.{Part as APart};
 ghost use Rattle.dns_message.specs.Compressed as form;
-ghost use Rattle.dns_message.specs.Compressed.{compressed_layout as layout_to_compress, data_by, data_part, data_parts, field_octets, part_length};
+ghost use Rattle.dns_message.specs.Compressed.{compressed_layout as layout_to_compress, data_by, data_part, data_parts, field_octets, owner_written, part_length, places_behind_owner};
 
 use dns_name::Octets;
 use dns_record::{Part, RecordRef, layout, rtype};
-use packed_names::{Places, split_name};
+use packed_names::{POINTED_PLACES, Places, pointer, split_name};
 use std::alloc::{AllocError, Global};
 use std::mem;
 
-// Writes what stands behind the owner of a record: the type, the class, the TTL, the length of the data as they are written, and the
-// data. An `Err` leaves some of it behind what was written before.
-pub(crate) fn write_behind_owner<'n>(
+/// Writes a record at the end of a message, its owner and the names in its data compressed. An `Err` leaves some of it behind what was
+/// written before.
+pub(crate) fn write_record<'n>(
     alloc: Global,
     out: &mut Octets,
     places: &mut Places<'n>,
     rr: &RecordRef<'n>,
 ) -> Result<(), AllocError>
     ensures octets { OnOk result (
-        let written = data_by (layout_to_compress rr.now.rtype rr.now.class) places.old
-        (length out.old + 10) rr.now.rdata in
-        out.new ≡ (out.old ++ field_octets rr.now (length written.octets)) ++ written.octets
+        let written = data_by (layout_to_compress rr.now.rtype rr.now.class)
+        (places_behind_owner places.old out.old rr.now)
+        (length (owner_written places.old out.old rr.now) + 10) rr.now.rdata in
+        out.new
+        ≡ (owner_written places.old out.old rr.now ++ field_octets rr.now (length written.octets))
+        ++ written.octets
         ) }
     ensures places { OnOk result (places.new
-        ≡ (data_by (layout_to_compress rr.now.rtype rr.now.class) places.old
-        (length out.old + 10) rr.now.rdata).places) }
+        ≡ (data_by (layout_to_compress rr.now.rtype rr.now.class)
+        (places_behind_owner places.old out.old rr.now)
+        (length (owner_written places.old out.old rr.now) + 10) rr.now.rdata).places) }
 {
     let rdata = rr.rdata();
     match compressed_layout(rr.rtype(), rr.class()) {
-        None => write_plain(out, rr, rdata),
+        None => write_plain(out, places, rr, rdata),
         Some(parts) => write_compressed_data(alloc, out, places, parts, rr, rdata),
     }
 }
@@ -67,11 +72,46 @@ fn has_compressed_names(rtype: u16) -> bool
     )
 }
 
-// Writes what stands between the owner of a record and data of so many octets.
-fn write_fields(out: &mut Octets, rr: &RecordRef<'_>, len: u16) -> Result<(), AllocError>
-    ensures { OnOk result (out.new ≡ out.old ++ field_octets rr.now len) }
+// Writes the owner of a record, compressed, and what stands between it and data of so many octets. Where the owner is the question's
+// name, all is written at once.
+fn write_lead<'n>(
+    out: &mut Octets,
+    places: &mut Places<'n>,
+    rr: &RecordRef<'n>,
+    len: u16,
+) -> Result<(), AllocError>
+    ensures octets { OnOk result
+        (out.new ≡ owner_written places.old out.old rr.now ++ field_octets rr.now len) }
+    ensures places { OnOk result
+        (places.new ≡ places_behind_owner places.old out.old rr.now) }
 {
-    out.append(&fields(rr.rtype(), rr.class(), rr.ttl(), len))
+    let owner = rr.owner();
+    let octets = owner.octets();
+    match places.known(octets) {
+        Some(offset) => {
+            out.append(&pointed_fields(offset, rr.rtype(), rr.class(), rr.ttl(), len))
+        }
+        None => {
+            places.write_octets(out, octets)?;
+            out.append(&fields(rr.rtype(), rr.class(), rr.ttl(), len))
+        }
+    }
+}
+
+// A pointer to the owner, and the fields behind it.
+fn pointed_fields(offset: u16, rtype: u16, class: u16, ttl: u32, len: u16) -> [u8; 12]
+    requires { offset < POINTED_PLACES }
+    ensures { result
+        ≡ pointer_octets offset
+        ++ (number_octets 2 rtype ++ number_octets 2 class ++ number_octets 4 ttl
+        ++ number_octets 2 len) }
+{
+    let place = pointer(offset);
+    let fields = fields(rtype, class, ttl, len);
+    [
+        place[0], place[1], fields[0], fields[1], fields[2], fields[3], fields[4], fields[5],
+        fields[6], fields[7], fields[8], fields[9],
+    ]
 }
 
 // The type, the class, the TTL and the length of the data of a record.
@@ -94,18 +134,26 @@ fn fields(rtype: u16, class: u16, ttl: u32, len: u16) -> [u8; 10]
     ]
 }
 
-// Writes what stands behind the owner, these data as they are.
-fn write_plain(out: &mut Octets, rr: &RecordRef<'_>, rdata: &[u8]) -> Result<(), AllocError>
+// Writes a record, these data as they are.
+fn write_plain<'n>(
+    out: &mut Octets,
+    places: &mut Places<'n>,
+    rr: &RecordRef<'n>,
+    rdata: &[u8],
+) -> Result<(), AllocError>
     requires { length rdata.now < 2 ^ 16 }
-    ensures { OnOk result
-        (out.new ≡ (out.old ++ field_octets rr.now (length rdata.now)) ++ rdata.now) }
+    ensures octets { OnOk result (out.new
+        ≡ (owner_written places.old out.old rr.now ++ field_octets rr.now (length rdata.now))
+        ++ rdata.now) }
+    ensures places { OnOk result
+        (places.new ≡ places_behind_owner places.old out.old rr.now) }
 {
-    write_fields(out, rr, rdata.len() as u16)?;
+    write_lead(out, places, rr, rdata.len() as u16)?;
     out.append(rdata)
 }
 
-// Writes what stands behind the owner, the names in these data compressed. How long the data are then is known behind them alone, so
-// that their length is set last.
+// Writes a record, the names in these data compressed. How long the data are then is known behind them alone, so that their length is
+// set last.
 fn write_compressed_data<'n>(
     alloc: Global,
     out: &mut Octets,
@@ -116,13 +164,17 @@ fn write_compressed_data<'n>(
 ) -> Result<(), AllocError>
     requires { HasParts parts.now rdata.now }
     ensures octets { OnOk result (
-        let written = data_parts places.old (length out.old + 10) parts.now rdata.now in
-        out.new ≡ (out.old ++ field_octets rr.now (length written.octets)) ++ written.octets
+        let written = data_parts (places_behind_owner places.old out.old rr.now)
+        (length (owner_written places.old out.old rr.now) + 10) parts.now rdata.now in
+        out.new
+        ≡ (owner_written places.old out.old rr.now ++ field_octets rr.now (length written.octets))
+        ++ written.octets
         ) }
-    ensures places { OnOk result
-        (places.new ≡ (data_parts places.old (length out.old + 10) parts.now rdata.now).places) }
+    ensures places { OnOk result (places.new
+        ≡ (data_parts (places_behind_owner places.old out.old rr.now)
+        (length (owner_written places.old out.old rr.now) + 10) parts.now rdata.now).places) }
 {
-    write_fields(out, rr, 0)?;
+    write_lead(out, places, rr, 0)?;
     let start = out.len();
     write_data_parts(out, places, parts, rdata)?;
     set_length(alloc, out, start - 2);

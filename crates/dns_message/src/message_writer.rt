@@ -6,16 +6,15 @@ ghost use Rattle.dns_message.specs.Compressed.{compressed_within, question_place
 ghost use Rattle.dns_message.specs.Progress.{draft, finished, writing_after, writing_of, writing_start};
 ghost use Rattle.dns_message.specs.Spelling.{opt_count, question_octets};
 
-use crate::compressed_data::write_behind_owner;
+use crate::compressed_data::write_record;
 use crate::edns::Edns;
 use crate::header::Header;
 use crate::limit::{GREATEST_LIMIT, LEAST_LIMIT};
 use crate::message::Message;
 use crate::question::Question;
 use crate::record_refs::RecordRefs;
-use crate::writing::{finish_message, write_header};
+use crate::writing::{asked, finish_message, write_header};
 use dns_name::Octets;
-use dns_record::number::push_u16;
 use dns_record::{Record, RecordRef};
 use packed_names::Places;
 use std::alloc::{AllocError, Global};
@@ -55,6 +54,7 @@ impl<'n> MessageWriter<'n> {
     /// section, the OPT record counted with the additional ones. There is room for `room` bytes, or for as many as the limit.
     ///
     /// The key seeds a hash of the names' suffixes, and is to be unknown to those who send the names: see [`Places::new`].
+    #[inline(always)]
     pub fn start(
         alloc: Global,
         key: u64,
@@ -107,6 +107,7 @@ impl<'n> MessageWriter<'n> {
 
     /// Writes a record that came so many seconds ago as [`MessageWriter::write`] does: the seconds are taken from its TTL, which is
     /// 0 at the least.
+    #[inline(always)]
     pub fn write_aged(&mut self, rr: &RecordRef<'n>, seconds: u32) -> Result<(), AllocError>
         ensures { OnOk result (self.new ≡ writing_after self.old (aged seconds rr.now ∷ [])) }
     {
@@ -129,6 +130,7 @@ impl<'n> MessageWriter<'n> {
 
     /// Ends the message with the OPT record, or puts its truncated form in its place, exactly where it is longer than the limit: the
     /// header with TC 1, the question, and the OPT record. The header and the question are those that it was started with.
+    #[inline(always)]
     pub fn finish(
         self,
         header: &Header,
@@ -149,6 +151,7 @@ impl<'n> MessageWriter<'n> {
 }
 
 // Ends the message.
+#[inline(always)]
 fn ended(
     writer: MessageWriter<'_>,
     header: &Header,
@@ -188,13 +191,13 @@ fn write_first_question<'n>(
         None => Ok(()),
         Some(question) => {
             places.write_full(out, &question.name)?;
-            push_u16(out, question.qtype)?;
-            push_u16(out, question.qclass)
+            out.append(&asked(question.qtype, question.qclass))
         }
     }
 }
 
 // Writes a record at the end, its names compressed.
+#[inline(always)]
 fn write_record_behind<'n>(
     alloc: Global,
     out: &mut Octets,
@@ -204,9 +207,7 @@ fn write_record_behind<'n>(
     ensures { OnOk result
         (draft out.new places.new ≡ with_record (draft out.old places.old) rr.now) }
 {
-    let owner = rr.owner();
-    places.write_octets(out, owner.octets())?;
-    write_behind_owner(alloc, out, places, rr)
+    write_record(alloc, out, places, rr)
 }
 
 /// The bytes of the message, its names compressed and the bits Z 0, or, exactly where these are more than the limit, those of its

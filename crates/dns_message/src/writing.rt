@@ -1,7 +1,8 @@
 //! Writes a message, its names in full.
 
-ghost use Rattle.std.specs.Prelude.{◌≡◌, ◌≤◌, ◌++◌, length, take, option_copied, IfOk, IfSome, OnOk, OnErr};
+ghost use Rattle.std.specs.Prelude.{◌≡◌, ◌≤◌, [], ◌∷◌, ◌++◌, length, take, option_copied, IfOk, IfSome, OnOk, OnErr};
 ghost use Rattle.dns_record.specs.Number.{number_octets};
+ghost use Rattle.dns_record.specs.declared.rtype.TheConstants.{OPT};
 ghost use Rattle.dns_message.specs.Limit.{octets_within};
 ghost use Rattle.dns_message.specs.Spelling.{first_flags as flags_first, second_flags as flags_second, spelling, question_octets, records_octets, opt_octets, header_octets, start_octets, parts_octets, IsQuestion};
 
@@ -11,7 +12,6 @@ use crate::limit::{GREATEST_LIMIT, LEAST_LIMIT};
 use crate::message::Message;
 use crate::question::Question;
 use dns_name::Octets;
-use dns_record::number::push_u16;
 use dns_record::{Record, rtype};
 use std::alloc::{AllocError, Global};
 
@@ -159,13 +159,33 @@ pub(crate) fn write_header(
         ≡ out.old ++ header_octets 0 header.now questions answers authorities additionals) }
     ensures begins { take (length out.old) out.new ≡ out.old }
 {
-    push_u16(out, header.id)?;
-    out.push(first_flags(header))?;
-    out.push(second_flags(header))?;
-    push_count(out, questions)?;
-    push_count(out, answers)?;
-    push_count(out, authorities)?;
-    push_count(out, additionals)
+    out.append(&header_bytes(header, questions, answers, authorities, additionals))
+}
+
+// The bytes of the header, its bits Z 0. Of a count the low 16 bits are written.
+fn header_bytes(
+    header: &Header,
+    questions: usize,
+    answers: usize,
+    authorities: usize,
+    additionals: usize,
+) -> [u8; 12]
+    ensures { result ≡ header_octets 0 header.now questions answers authorities additionals }
+{
+    [
+        (header.id / 0x100) as u8,
+        (header.id % 0x100) as u8,
+        first_flags(header),
+        second_flags(header),
+        (questions / 0x100 % 0x100) as u8,
+        (questions % 0x100) as u8,
+        (answers / 0x100 % 0x100) as u8,
+        (answers % 0x100) as u8,
+        (authorities / 0x100 % 0x100) as u8,
+        (authorities % 0x100) as u8,
+        (additionals / 0x100 % 0x100) as u8,
+        (additionals % 0x100) as u8,
+    ]
 }
 
 // The third byte of the header.
@@ -186,14 +206,6 @@ fn second_flags(header: &Header) -> u8
     u8::from(header.ra) * 128 + header.rcode % 16
 }
 
-// Writes the lowest 16 bits of a count.
-fn push_count(out: &mut Octets, count: usize) -> Result<(), AllocError>
-    ensures ok { OnOk result (out.new ≡ out.old ++ number_octets 2 count) }
-    ensures err { OnErr result (out.new ≡ out.old) }
-{
-    push_u16(out, (count % 65536) as u16)
-}
-
 // Writes the question, where there is one.
 #[tactic(auto, unfolding(crate::specs::Spelling::question_octets))]
 fn write_question(out: &mut Octets, question: Option<&Question>) -> Result<(), AllocError>
@@ -205,10 +217,21 @@ fn write_question(out: &mut Octets, question: Option<&Question>) -> Result<(), A
         None => Ok(()),
         Some(question) => {
             question.name.write(out)?;
-            push_u16(out, question.qtype)?;
-            push_u16(out, question.qclass)
+            out.append(&asked(question.qtype, question.qclass))
         }
     }
+}
+
+/// The type and the class of a question, as they stand behind its name.
+pub(crate) fn asked(qtype: u16, qclass: u16) -> [u8; 4]
+    ensures { result ≡ number_octets 2 qtype ++ number_octets 2 qclass }
+{
+    [
+        (qtype / 0x100) as u8,
+        (qtype % 0x100) as u8,
+        (qclass / 0x100) as u8,
+        (qclass % 0x100) as u8,
+    ]
 }
 
 // Writes records one after another at the end, their names in full. An `Err` leaves what was written before, and
@@ -231,12 +254,27 @@ fn write_opt(out: &mut Octets, edns: Option<&Edns>) -> Result<(), AllocError>
 {
     match edns {
         None => Ok(()),
-        Some(edns) => {
-            out.push(0)?;
-            push_u16(out, rtype::OPT)?;
-            push_u16(out, edns.payload)?;
-            out.append(&[edns.extended, edns.version, 0, 0])?;
-            push_u16(out, 0)
-        }
+        Some(edns) => { out.append(&opt_bytes(edns.payload, edns.extended, edns.version)) }
     }
+}
+
+// The bytes of an OPT record of this size.
+fn opt_bytes(payload: u16, extended: u8, version: u8) -> [u8; 11]
+    ensures { result
+        ≡ 0 ∷ [] ++ number_octets 2 OPT ++ number_octets 2 payload
+        ++ (extended ∷ version ∷ 0 ∷ 0 ∷ []) ++ number_octets 2 0 }
+{
+    [
+        0,
+        (rtype::OPT / 0x100) as u8,
+        (rtype::OPT % 0x100) as u8,
+        (payload / 0x100) as u8,
+        (payload % 0x100) as u8,
+        extended,
+        version,
+        0,
+        0,
+        0,
+        0,
+    ]
 }
