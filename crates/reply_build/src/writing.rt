@@ -89,6 +89,7 @@ fn opt_count(query: &Query) -> usize
 
 // A reply with this header and room for so many octets, its header and question written. So many records follow in each section,
 // and then the OPT record.
+#[inline(always)]
 fn start<'n>(
     frame: ReplyFrame<'n>,
     header: &Header,
@@ -118,6 +119,7 @@ fn start<'n>(
 }
 
 // Ends a reply with the OPT record, or puts its truncated form in its place.
+#[inline(always)]
 fn finish(
     frame: ReplyFrame<'_>,
     header: &Header,
