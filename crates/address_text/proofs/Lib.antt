@@ -1,0 +1,5 @@
+pub mod FieldLemmas
+pub mod GroupLemmas
+pub mod HexLemmas
+pub mod NumberLemmas
+pub mod SplitLemmas

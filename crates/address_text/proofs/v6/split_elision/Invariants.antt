@@ -1,0 +1,14 @@
+use Rattle.std.proofs.Common.{◌≡◌, ◌-◌, ◌≤◌, ℕ, List, take, drop, length}
+use Rattle.std.specs.Option.{option_map}
+use Rattle.address_text.specs.V6.{at_elision}
+use Rattle.address_text.proofs.SplitLemmas.{with_front}
+use Rattle.address_text.proofs.v6.split_elision.Given as goal
+
+abbrev pub invariant-loop-at : goal.invariant-loop-at
+invariant-loop-at l = record {
+  so_far : at_elision l.text ≡ option_map (with_front (take l.at l.text)) (at_elision (drop l.at l.text));
+  within : l.at ≤ length l.text;
+}
+
+abbrev pub decreases-loop-at : goal.decreases-loop-at
+decreases-loop-at l = length l.text - l.at

@@ -1,0 +1,6 @@
+pub mod Decimal
+pub mod Dotted
+pub mod Grammar
+pub mod Groups
+pub mod Optional
+pub mod V6
