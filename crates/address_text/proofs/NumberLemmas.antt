@@ -1,14 +1,14 @@
 -- The number of groups, and what code counts.
-use Rattle.std.proofs.Common.{◌≡◌, ℕ, zero, suc, ◌+◌, ◌-◌, ◌*◌, ◌^◌, ◌<◌, ◌≤◌, Bool, true, false, not, ◌==◌, List, [], ◌∷◌, ◌++◌, length, replicate, Option, Some, None, nat_lt, if◌then◌else◌, refl, sym, ap, zero-add, ◌∙◌, arith, lt-ltb, le-ltb, eq-eqb, ne_eqb, inl, inr, length-append}
+use Rattle.std.proofs.Common.{◌≡◌, ℕ, zero, suc, ◌+◌, ◌-◌, ◌*◌, ◌^◌, ◌<◌, ◌≤◌, Bool, true, false, not, ◌==◌, List, [], ◌∷◌, ◌++◌, length, replicate, Option, Some, None, nat_lt, if◌then◌else◌, refl, sym, ap, zero-add, ◌∙◌, arith, lt-ltb, le-ltb, ne_eqb, inl, inr, length-append}
 use Rattle.std.specs.List.{fold}
 use Rattle.std.specs.Option.{option_and_then}
 use Rattle.std.proofs.Math.Nat.{add-mul, mul_assoc, mul_comm}
-use Rattle.std.proofs.lemmas.Bool.{cases_lt, cases_Bool}
+use Rattle.std.proofs.lemmas.Bool.{cases_lt}
 use Rattle.std.proofs.lemmas.List.{length-replicate}
 use Rattle.std.proofs.lemmas.List.Sums.{fold-append}
 use Rattle.std.proofs.lemmas.Nat.{pow-add}
 use Rattle.address_text.specs.declared.groups.Groups.{Groups}
-use Rattle.address_text.specs.Groups.{no_groups, with_group, with_groups, whole_number, filled_number}
+use Rattle.address_text.specs.Groups.{no_groups, with_groups, whole_number, filled_number}
 use Rattle.address_text.specs.Optional.{◌>>=◌, none_if}
 use Rattle.address_text.specs.V6.{filled, number_of_groups}
 
@@ -105,11 +105,11 @@ elided_is (Some before) (Some after) =
     elim (cases_lt 7 (length before + length after)) [
       | inl many ↦ full before after many ∙ sym (ap (λ (b : Bool). none_if b >>= (λ u. Some (number_of_groups (filled before after)))) (lt-ltb 7 (length before + length after) many))
       | inr few ↦
-        ap (λ (o : Option Groups). filled_by o (with_groups no_groups after)) (all_counted before (omega arith))
-        ∙ ap (λ (o : Option Groups). filled_by (Some (summed before)) o) (all_counted after (omega arith))
-        ∙ ap (λ (b : Bool). if b then None else Some (number_of_groups before * 2 ^ (128 - 16 * length before) + number_of_groups after)) (le-ltb 7 (length before + length after) few)
-        ∙ ap (λ (n : ℕ). let o : Option ℕ = Some n in o) (sym (filled_is before after few))
-        ∙ sym (ap (λ (b : Bool). none_if b >>= (λ u. Some (number_of_groups (filled before after)))) (le-ltb 7 (length before + length after) few))
+          ap (λ (o : Option Groups). filled_by o (with_groups no_groups after)) (all_counted before (omega arith))
+          ∙ ap (λ (o : Option Groups). filled_by (Some (summed before)) o) (all_counted after (omega arith))
+          ∙ ap (λ (b : Bool). if b then None else Some (number_of_groups before * 2 ^ (128 - 16 * length before) + number_of_groups after)) (le-ltb 7 (length before + length after) few)
+          ∙ ap (λ (n : ℕ). let o : Option ℕ = Some n in o) (sym (filled_is before after few))
+          ∙ sym (ap (λ (b : Bool). none_if b >>= (λ u. Some (number_of_groups (filled before after)))) (le-ltb 7 (length before + length after) few))
     ]
   where
     full : (before after : List ℕ) → 7 < length before + length after → filled_by (with_groups no_groups before) (with_groups no_groups after) ≡ None
@@ -119,9 +119,9 @@ elided_is (Some before) (Some after) =
           | inr short ↦ elim (cases_lt 8 (length after)) [
             | inl long ↦ ap (λ (o : Option Groups). filled_by (with_groups no_groups before) o) (too_many no_groups after (omega arith) (omega arith)) ∙ none_after (with_groups no_groups before)
             | inr also ↦
-              ap (λ (o : Option Groups). filled_by o (with_groups no_groups after)) (all_counted before short)
-              ∙ ap (λ (o : Option Groups). filled_by (Some (summed before)) o) (all_counted after also)
-              ∙ ap (λ (b : Bool). if b then None else Some (number_of_groups before * 2 ^ (128 - 16 * length before) + number_of_groups after)) (lt-ltb 7 (length before + length after) many)
+                ap (λ (o : Option Groups). filled_by o (with_groups no_groups after)) (all_counted before short)
+                ∙ ap (λ (o : Option Groups). filled_by (Some (summed before)) o) (all_counted after also)
+                ∙ ap (λ (b : Bool). if b then None else Some (number_of_groups before * 2 ^ (128 - 16 * length before) + number_of_groups after)) (lt-ltb 7 (length before + length after) many)
           ]
         ]
 

@@ -1,6 +1,6 @@
 -- The address of IP version 6 that a text writes, read from its front (RFC 4291, section 2.2). That it is the one of the grammar is
 -- a law of this crate.
-use Rattle.std.specs.Prelude.{ℕ, ◌+◌, ◌-◌, ◌*◌, ◌/◌, ◌==◌, ◌&&◌, Bool, true, not, if◌then◌else◌, nat_lt, nat_le, List, [], ◌∷◌, ◌++◌, length, replicate, fold, Option, Some, None, option_map}
+use Rattle.std.specs.Prelude.{ℕ, ◌+◌, ◌-◌, ◌*◌, ◌==◌, ◌&&◌, Bool, not, if◌then◌else◌, nat_lt, nat_le, List, [], ◌∷◌, ◌++◌, length, replicate, fold, Option, Some, None, option_map}
 use Rattle.std.specs.Char.{is_ascii_hexdigit}
 use Rattle.std.specs.List.{list_all, list_any, slice_split}
 use Rattle.std.specs.Str.Parse.{digits_value}
@@ -62,7 +62,7 @@ side_groups last_groups (b ∷ rest) = text_groups last_groups (b ∷ rest)
 abbrev pub number_of_groups : List ℕ → ℕ
 number_of_groups groups = fold (λ number group. number * 65536 + group) 0 groups
 
--- so many groups of zeros between these
+-- eight groups: these, groups of zeros, and those
 abbrev pub filled : List ℕ → List ℕ → List ℕ
 filled before after = before ++ (replicate (8 - (length before + length after)) 0 ++ after)
 

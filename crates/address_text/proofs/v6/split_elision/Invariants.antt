@@ -1,4 +1,4 @@
-use Rattle.std.proofs.Common.{◌≡◌, ◌-◌, ◌≤◌, ℕ, List, take, drop, length}
+use Rattle.std.proofs.Common.{◌≡◌, ◌-◌, ◌≤◌, take, drop, length}
 use Rattle.std.specs.Option.{option_map}
 use Rattle.address_text.specs.V6.{at_elision}
 use Rattle.address_text.proofs.SplitLemmas.{with_front}
