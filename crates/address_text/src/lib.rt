@@ -5,6 +5,7 @@ mod decimal;
 mod dotted;
 mod groups;
 mod hexadecimal;
+pub mod laws;
 mod v6;
 
 pub use dotted::read_v4;
