@@ -5,4 +5,5 @@ pub mod HexLemmas
 pub mod NumberLemmas
 pub mod OnlyLemmas
 pub mod ReadLemmas
+pub mod SlashLemmas
 pub mod SplitLemmas

@@ -2,5 +2,6 @@ pub mod Decimal
 pub mod Dotted
 pub mod Grammar
 pub mod Groups
+pub mod NetworkText
 pub mod Optional
 pub mod V6

@@ -1,4 +1,4 @@
-//! Texts of addresses: four decimals of IP version 4, and groups of hexadecimal digits of IP version 6.
+//! Texts of addresses, four decimals of IP version 4 or groups of hexadecimal digits of IP version 6, and of networks of them.
 #![tactic(auto)]
 
 mod decimal;
@@ -6,7 +6,9 @@ mod dotted;
 mod groups;
 mod hexadecimal;
 pub mod laws;
+mod network;
 mod v6;
 
 pub use dotted::read_v4;
+pub use network::{NetworkTextFault, read_address, read_network};
 pub use v6::read_v6;
