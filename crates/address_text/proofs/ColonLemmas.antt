@@ -64,7 +64,7 @@ octet_no_colon text n e =
 place_first : (x : ℕ) (xs : List ℕ) → is_dot x ≡ true → position_or_len is_dot (x ∷ xs) ≡ 0
 place_first x xs dot = ap (λ (b : Bool). cond (not b) (1 + position_or_len is_dot xs) 0) dot
 
-place_next : (x : ℕ) (xs : List ℕ) → is_dot x ≡ false → position_or_len is_dot (x ∷ xs) ≡ suc (position_or_len is_dot xs)
+pub place_next : (x : ℕ) (xs : List ℕ) → is_dot x ≡ false → position_or_len is_dot (x ∷ xs) ≡ suc (position_or_len is_dot xs)
 place_next x xs other = ap (λ (b : Bool). cond (not b) (1 + position_or_len is_dot xs) 0) other ∙ one-add (position_or_len is_dot xs)
 
 -- a text is what stands before its first dot, and behind it

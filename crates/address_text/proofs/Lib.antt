@@ -1,4 +1,5 @@
 pub mod ColonLemmas
+pub mod DecimalLemmas
 pub mod FieldLemmas
 pub mod GroupLemmas
 pub mod HexLemmas
@@ -7,3 +8,5 @@ pub mod OnlyLemmas
 pub mod ReadLemmas
 pub mod SlashLemmas
 pub mod SplitLemmas
+pub mod StdLemmas
+pub mod WrittenLemmas

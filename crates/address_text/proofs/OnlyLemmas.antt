@@ -48,7 +48,7 @@ plain_only (field ∷ next ∷ fields) groups some e =
     (grammar.more field (join_with_byte 58 (next ∷ fields)) a.0 b.0 (group_is field a.0 a.1) (plain_only (next ∷ fields) b.0 (omega arith) b.1))
 
 -- a group before others
-before_last : (field : List ℕ) (group : ℕ) → IsGroup field group → (text groups : List ℕ) → AreLastGroups text groups → AreLastGroups (field ++ (58 ∷ text)) (group ∷ groups)
+pub before_last : (field : List ℕ) (group : ℕ) → IsGroup field group → (text groups : List ℕ) → AreLastGroups text groups → AreLastGroups (field ++ (58 ∷ text)) (group ∷ groups)
 before_last field group g _ _ (grammar.plain text groups are) = grammar.plain (field ++ (58 ∷ text)) (group ∷ groups) (grammar.more field text group groups g are)
 before_last field group g _ _ (grammar.dotted text number e) = grammar.behind field text (group ∷ []) number (grammar.one field group g) e
 before_last field group g _ _ (grammar.behind before text groups number are e) =

@@ -5,3 +5,4 @@ pub mod Groups
 pub mod NetworkText
 pub mod Optional
 pub mod V6
+pub mod Written

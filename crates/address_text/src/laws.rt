@@ -1,8 +1,12 @@
 //! Laws of texts of addresses. Each function is its clauses, and does nothing.
 
 ghost use Rattle.std.specs.Prelude.{◌≡◌, ℕ, List, Some};
+ghost use Rattle.ip_prefix.specs.declared.Addr.{Addr};
+ghost use Rattle.ip_prefix.specs.Bits.{IsAddr};
 ghost use Rattle.address_text.specs.Grammar.{IsV6Text};
+ghost use Rattle.address_text.specs.NetworkText.{address_of};
 ghost use Rattle.address_text.specs.V6.{number_of_groups, v6_of};
+ghost use Rattle.address_text.specs.Written.{addr_text};
 
 /// A text is read as the address of its groups exactly where it is one of the grammar's cases (RFC 4291, section 2.2). So no text
 /// writes two addresses.
@@ -11,4 +15,9 @@ pub fn a_text_is_read_by_its_cases()
         v6_of text ≡ Some (number_of_groups groups) }
     ensures only { (text : List ℕ) (number : ℕ) → v6_of text ≡ Some number →
         (groups : List ℕ) × IsV6Text text groups × (number ≡ number_of_groups groups) }
+{}
+
+/// An address is read back from what is written of it.
+pub fn what_is_written_is_read_back()
+    ensures { (addr : Addr) → IsAddr addr → address_of (addr_text addr) ≡ Some addr }
 {}

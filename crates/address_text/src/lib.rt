@@ -8,7 +8,9 @@ mod hexadecimal;
 pub mod laws;
 mod network;
 mod v6;
+mod written;
 
 pub use dotted::read_v4;
 pub use network::{NetworkTextFault, read_address, read_network};
 pub use v6::read_v6;
+pub use written::AddressText;
