@@ -1,48 +1,12 @@
--- Texts cut at their colons, and the groups of the fields.
-use Rattle.std.proofs.Common.{◌≡◌, ℕ, ◌+◌, ◌-◌, ◌<◌, ◌≤◌, List, [], ◌∷◌, length, take, drop, cond, Option, Some, None, nat_lt, refl, sym, ap, ◌∙◌, arith, length-drop, ⊎_elim}
-use Rattle.std.specs.List.{position, position_or_len, slice_split}
+-- The groups of a text's fields.
+use Rattle.std.proofs.Common.{◌≡◌, ℕ, ◌<◌, List, [], ◌∷◌, length, Option, Some, None, refl, sym, ap, ◌∙◌, arith}
+use Rattle.std.specs.List.{slice_split}
 use Rattle.std.specs.Option.{option_and_then}
-use Rattle.std.proofs.lemmas.Bool.{cases_Bool}
-use Rattle.std.proofs.lemmas.List.{take_all}
-use Rattle.std.proofs.lemmas.List.Splits.{slice_split_first, length-slice_split}
+use Rattle.std.proofs.lemmas.List.Splits.{length-slice_split}
 use Rattle.address_text.specs.declared.groups.Groups.{Groups}
 use Rattle.address_text.specs.Groups.{with_group, with_groups}
 use Rattle.address_text.specs.Optional.{◌>>=◌}
 use Rattle.address_text.specs.V6.{is_colon, group_of, groups_of, text_groups}
-
--- a text without a colon is one field
-whole : (text : List ℕ) → length text ≤ position_or_len is_colon text → slice_split is_colon text ≡ text ∷ []
-whole [] h = refl
-whole (x ∷ xs) h =
-    ⊎_elim
-    (λ yes. let first : position_or_len is_colon (x ∷ xs) ≡ 0 = rw yes refl in absurd (omega arith))
-    (λ no. let first : position_or_len is_colon (x ∷ xs) ≡ 1 + position_or_len is_colon xs = rw no refl in rw (no, whole xs (omega arith)) refl)
-    (cases_Bool (is_colon x))
-
-pub field_whole : (text : List ℕ) → None ≡ position is_colon text → slice_split is_colon text ≡ text ∷ []
-field_whole text h = whole text (grind (arith))
-
--- the place that `position` gives
-place : (n len at : ℕ) → Some at ≡ cond (nat_lt n len) (Some n) None → at ≡ n
-place n len at h =
-    ⊎_elim
-    (λ yes. let e : cond (nat_lt n len) (Some n) None ≡ Some n = rw yes refl in let both : Some at ≡ Some n = h ∙ e in cc)
-    (λ no. let e : cond (nat_lt n len) (Some n) None ≡ None = rw no refl in let both : Some at ≡ None = h ∙ e in absurd cc)
-    (cases_Bool (nat_lt n len))
-
--- a text with a colon is a field, and the fields behind the colon
-pub field_cut : (text : List ℕ) (at : ℕ) → Some at ≡ position is_colon text → at < length text
-    → slice_split is_colon text ≡ take at text ∷ slice_split is_colon (take (length text - (at + 1)) (drop (at + 1) text))
-field_cut text at h lt =
-    let same : at ≡ position_or_len is_colon text = place _ _ at h in
-    let all : take (length text - (at + 1)) (drop (at + 1) text) ≡ drop (at + 1) text = take_all (length text - (at + 1)) (drop (at + 1) text) (omega (arith, length-drop (at + 1) text)) in
-    let cut : slice_split is_colon text ≡ take (position_or_len is_colon text) text ∷ slice_split is_colon (drop (position_or_len is_colon text + 1) text) = slice_split_first is_colon text 0 (omega arith) in
-    rw (all, same) cut
-
-pub behind_shorter : (text : List ℕ) (at : ℕ) → at < length text → length (take (length text - (at + 1)) (drop (at + 1) text)) < length text
-behind_shorter text at lt =
-    let all : take (length text - (at + 1)) (drop (at + 1) text) ≡ drop (at + 1) text = take_all (length text - (at + 1)) (drop (at + 1) text) (omega (arith, length-drop (at + 1) text)) in
-    rw all (omega (arith, length-drop (at + 1) text))
 
 -- a field before others
 pub groups_first : (last : List ℕ → Option (List ℕ)) (field : List ℕ) (fields : List (List ℕ)) → 0 < length fields

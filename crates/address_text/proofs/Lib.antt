@@ -1,12 +1,12 @@
 pub mod ColonLemmas
+pub mod CutLemmas
 pub mod DecimalLemmas
+pub mod ElisionLemmas
 pub mod FieldLemmas
 pub mod GroupLemmas
 pub mod HexLemmas
 pub mod NumberLemmas
 pub mod OnlyLemmas
 pub mod ReadLemmas
-pub mod SlashLemmas
-pub mod SplitLemmas
 pub mod StdLemmas
 pub mod WrittenLemmas

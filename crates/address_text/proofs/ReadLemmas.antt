@@ -13,7 +13,7 @@ use Rattle.address_text.specs.Optional.{◌>>=◌, none_if}
 use Rattle.address_text.specs.V6.{at_elision, elided_of, filled, group_of, groups_of, is_colon, number_of_groups, one_group, one_or_two_groups, side_groups, text_groups, v6_at, v6_of, whole_of, with_first}
 use Rattle.address_text.proofs.ColonLemmas.{HasNoColon, one_field, first_field, digits_no_colon, digits_no_dot, tail_no_colon, tail_has_dot}
 use Rattle.address_text.proofs.FieldLemmas.{groups_first, some_fields}
-use Rattle.address_text.proofs.SplitLemmas.{with_front}
+use Rattle.address_text.proofs.ElisionLemmas.{with_front}
 
 -- no `::` within a text without a colon
 

@@ -4,5 +4,6 @@ pub mod Grammar
 pub mod Groups
 pub mod NetworkText
 pub mod Optional
+pub mod Split
 pub mod V6
 pub mod Written

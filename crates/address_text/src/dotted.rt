@@ -1,10 +1,11 @@
 //! Four octets in decimal, joined by dots.
 
-ghost use Rattle.std.specs.Prelude.{◌≡◌, ◌<◌, ◌^◌, true, length, position, IfSome};
+ghost use Rattle.std.specs.Prelude.{◌≡◌, ◌<◌, IfSome};
 ghost use Rattle.std.specs.List.{before_first, after_first};
 ghost use Rattle.address_text.specs.Dotted.{is_dot, has_leading_zero, octet_of, dotted_of, v4_of, tail_of};
 
 use crate::decimal::decimal;
+use crate::split::split_first;
 
 /// The address of IP version 4 that a text writes: four octets in decimal, of 1 to 3 digits each and at most 255, joined by dots
 /// (RFC 3986, section 3.2.2). Leading zeros are allowed, and do not make an octet octal.
@@ -41,18 +42,10 @@ fn split_dot(text: &[u8]) -> (&[u8], &[u8])
     ensures first { result.0.now ≡ before_first is_dot text.now }
     ensures rest { result.1.now ≡ after_first is_dot text.now }
 {
-    match dot_at(text) {
-        Some(at) => (&text[..at], &text[at + 1..]),
+    match split_first(text, b'.') {
+        Some(parts) => parts,
         None => (text, &[]),
     }
-}
-
-// Where the first dot stands.
-fn dot_at(text: &[u8]) -> Option<usize>
-    ensures value { result ≡ position is_dot text.now }
-    ensures bound { IfSome result (λ at. at < length text.now) }
-{
-    text.iter().position(|b| *b == b'.')
 }
 
 // The octet that 1 to 3 decimal digits write; where it is strict, they have no leading zero.

@@ -7,6 +7,7 @@ mod groups;
 mod hexadecimal;
 pub mod laws;
 mod network;
+mod split;
 mod v6;
 mod written;
 

@@ -1,12 +1,11 @@
 //! Networks as text: an address and a length.
 
-ghost use Rattle.std.specs.Prelude.{◌≡◌, ◌<◌, true, false, length, position, IfSome, MatchOption};
-ghost use Rattle.std.specs.List.{before_first, after_first, list_any};
-ghost use Rattle.address_text.specs.NetworkText.{address_of, is_slash, length_of, network_text};
-ghost use Rattle.address_text.specs.V6.{is_colon};
+ghost use Rattle.std.specs.Prelude.{◌≡◌};
+ghost use Rattle.address_text.specs.NetworkText.{address_of, length_of, network_text};
 
 use crate::decimal::decimal;
 use crate::dotted::read_v4;
+use crate::split::{has_byte, split_first};
 use crate::v6::read_v6;
 use allow_list::{Network, NetworkFault};
 use ip_prefix::Addr;
@@ -46,7 +45,7 @@ impl From<NetworkFault> for NetworkTextFault {
 pub fn read_network(text: &[u8]) -> Result<Network, NetworkTextFault>
     ensures { result ≡ network_text text.now }
 {
-    let Some((addr, length)) = split_slash(text) else {
+    let Some((addr, length)) = split_first(text, b'/') else {
         return Err(NetworkTextFault::Form);
     };
     let addr = read_address(addr).ok_or(NetworkTextFault::Address)?;
@@ -54,41 +53,15 @@ pub fn read_network(text: &[u8]) -> Result<Network, NetworkTextFault>
     Ok(Network::new(addr, length)?)
 }
 
-// What stands before the first slash, and behind it.
-fn split_slash(text: &[u8]) -> Option<(&[u8], &[u8])>
-    ensures { MatchOption result (list_any is_slash text.now ≡ false) (λ parts.
-        (list_any is_slash text.now ≡ true) × (parts.0.now ≡ before_first is_slash text.now)
-        × (parts.1.now ≡ after_first is_slash text.now)) }
-{
-    match slash_at(text) {
-        Some(at) => Some((&text[..at], &text[at + 1..])),
-        None => None,
-    }
-}
-
-// Where the first slash stands.
-fn slash_at(text: &[u8]) -> Option<usize>
-    ensures value { result ≡ position is_slash text.now }
-    ensures bound { IfSome result (λ at. at < length text.now) }
-{
-    text.iter().position(|b| *b == b'/')
-}
-
 /// The address that a text writes: with a colon one of version 6, as [`read_v6`] reads it, else one of version 4, as
 /// [`read_v4`] does.
 pub fn read_address(text: &[u8]) -> Option<Addr>
     ensures { result ≡ address_of text.now }
 {
-    if has_colon(text) {
+    if has_byte(text, b':') {
         return Some(Addr::V6(read_v6(text)?));
     }
     Some(Addr::V4(read_v4(text)?))
-}
-
-fn has_colon(text: &[u8]) -> bool
-    ensures { result ≡ list_any is_colon text.now }
-{
-    text.iter().any(|b| *b == b':')
 }
 
 // The length that 1 to 3 decimal digits write.

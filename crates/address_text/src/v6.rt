@@ -1,15 +1,14 @@
 //! The address of IP version 6 that a text writes.
 
-ghost use Rattle.std.specs.Prelude.{◌≡◌, ◌<◌, ◌+◌, ◌&&◌, ℕ, List, [], ◌∷◌, length, position, slice_index, Option, None, IfSome, MatchOption};
-ghost use Rattle.std.specs.List.{list_any, slice_split};
+ghost use Rattle.std.specs.Prelude.{◌≡◌, ◌<◌, ◌+◌, ◌&&◌, ℕ, List, length, slice_index, Option, None, IfSome, MatchOption};
 ghost use Rattle.std.specs.Option.{option_and_then, option_map};
-ghost use Rattle.address_text.specs.Dotted.{is_dot};
 ghost use Rattle.address_text.specs.Groups.{AreFew, no_groups, with_groups};
 ghost use Rattle.address_text.specs.V6.{at_elision, elided_of, is_colon, one_group, one_or_two_groups, side_groups, text_groups, v6_of, whole_of};
 
 use crate::dotted::read_tail;
-use crate::groups::{self, Groups, fill, push, push_halves, whole};
+use crate::groups::Groups;
 use crate::hexadecimal::read_group;
+use crate::split::{has_byte, split_first};
 
 /// The address of IP version 6 that a text writes (RFC 4291, section 2.2): eight groups of 1 to 4 hexadecimal digits in either
 /// case, joined by colons, or fewer and one `::`, which stands for one group of zeros or more. The last two groups may be written
@@ -29,7 +28,7 @@ fn read_whole(text: &[u8]) -> Option<u128>
     ensures { result ≡ whole_of text.now }
 {
     let groups = read_groups(text)?;
-    whole(groups)
+    groups.whole()
 }
 
 // The address that the groups before `::` and those behind it write.
@@ -38,7 +37,7 @@ fn read_sides(head: &[u8], tail: &[u8]) -> Option<u128>
 {
     let before = read_before(head)?;
     let after = read_behind(tail)?;
-    fill(before, after)
+    before.fill(after)
 }
 
 // What stands before the first `::`, and behind it.
@@ -69,7 +68,7 @@ fn read_before(text: &[u8]) -> Option<Groups>
     ensures few { IfSome result AreFew }
 {
     if text.is_empty() {
-        return Some(groups::none());
+        return Some(Groups::none());
     }
     read_plain(text)
 }
@@ -80,7 +79,7 @@ fn read_behind(text: &[u8]) -> Option<Groups>
     ensures few { IfSome result AreFew }
 {
     if text.is_empty() {
-        return Some(groups::none());
+        return Some(Groups::none());
     }
     read_groups(text)
 }
@@ -92,7 +91,7 @@ fn read_plain(text: &[u8]) -> Option<Groups>
 {
     let (groups, last) = read_fields(text)?;
     let group = read_group(last)?;
-    push(groups, group)
+    groups.push(group)
 }
 
 // The groups of a text, of which the last two may be written as four decimals.
@@ -101,12 +100,12 @@ fn read_groups(text: &[u8]) -> Option<Groups>
     ensures few { IfSome result AreFew }
 {
     let (groups, last) = read_fields(text)?;
-    if has_dot(last) {
+    if has_byte(last, b'.') {
         let number = read_tail(last)?;
-        return push_halves(groups, number);
+        return groups.push_halves(number);
     }
     let group = read_group(last)?;
-    push(groups, group)
+    groups.push(group)
 }
 
 // The groups that stand before colons, and the field behind the last colon.
@@ -117,38 +116,12 @@ fn read_fields(text: &[u8]) -> Option<(Groups, &[u8])>
         ≡ option_and_then (with_groups read.0) (last_groups read.1.now)) }
     ensures few { IfSome result (λ read. AreFew read.0) }
 {
-    let mut groups = groups::none();
+    let mut groups = Groups::none();
     let mut rest = text;
-    while let Some((field, behind)) = split_colon(rest) {
+    while let Some((field, behind)) = split_first(rest, b':') {
         let group = read_group(field)?;
-        groups = push(groups, group)?;
+        groups = groups.push(group)?;
         rest = behind;
     }
     Some((groups, rest))
-}
-
-// The field before the first colon, and what stands behind the colon.
-fn split_colon(text: &[u8]) -> Option<(&[u8], &[u8])>
-    ensures fields { MatchOption result (slice_split is_colon text.now ≡ text.now ∷ [])
-        (λ cut. slice_split is_colon text.now ≡ cut.0.now ∷ slice_split is_colon cut.1.now) }
-    ensures shorter { IfSome result (λ cut. length cut.1.now < length text.now) }
-{
-    match colon_at(text) {
-        Some(at) => Some((&text[..at], &text[at + 1..])),
-        None => None,
-    }
-}
-
-// Where the first colon stands.
-fn colon_at(text: &[u8]) -> Option<usize>
-    ensures value { result ≡ position is_colon text.now }
-    ensures bound { IfSome result (λ at. at < length text.now) }
-{
-    text.iter().position(|b| *b == b':')
-}
-
-fn has_dot(text: &[u8]) -> bool
-    ensures { result ≡ list_any is_dot text.now }
-{
-    text.iter().any(|b| *b == b'.')
 }

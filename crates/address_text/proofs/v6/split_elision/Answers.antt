@@ -1,5 +1,5 @@
 use Rattle.std.proofs.Common.{sym, ◌∙◌, arith}
-use Rattle.address_text.proofs.SplitLemmas.{elision_later, elision_here, elision_nowhere}
+use Rattle.address_text.proofs.ElisionLemmas.{elision_later, elision_here, elision_nowhere}
 use Rattle.address_text.proofs.v6.split_elision.Goals as goal
 
 pub loop-at-preserved : goal.loop-at-preserved

@@ -1,7 +1,7 @@
 use Rattle.std.proofs.Common.{◌≡◌, ◌-◌, ◌≤◌, take, drop, length}
 use Rattle.std.specs.Option.{option_map}
 use Rattle.address_text.specs.V6.{at_elision}
-use Rattle.address_text.proofs.SplitLemmas.{with_front}
+use Rattle.address_text.proofs.ElisionLemmas.{with_front}
 use Rattle.address_text.proofs.v6.split_elision.Given as goal
 
 abbrev pub invariant-loop-at : goal.invariant-loop-at
