@@ -2,6 +2,7 @@ pub mod Decimal
 pub mod Dotted
 pub mod Grammar
 pub mod Groups
+pub mod Mapped
 pub mod NetworkText
 pub mod Optional
 pub mod Split

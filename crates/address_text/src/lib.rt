@@ -1,4 +1,4 @@
-//! Texts of addresses, four decimals of IP version 4 or groups of hexadecimal digits of IP version 6, and of networks of them.
+//! Texts of addresses, four decimals of IP version 4 or groups of hexadecimal digits of IP version 6, and of networks.
 #![tactic(auto)]
 
 mod decimal;
@@ -6,12 +6,14 @@ mod dotted;
 mod groups;
 mod hexadecimal;
 pub mod laws;
+mod mapped;
 mod network;
 mod split;
 mod v6;
 mod written;
 
 pub use dotted::read_v4;
+pub use mapped::is_mapped;
 pub use network::{NetworkTextFault, read_address, read_network};
 pub use v6::read_v6;
 pub use written::AddressText;
