@@ -86,7 +86,7 @@ impl Network {
     }
 }
 
-// whether some bit behind the first of them, so many, is 1
+// Whether some bit behind the first of them, so many, is 1.
 fn has_bits_behind(addr: Addr, length: u32) -> bool
     requires { length ≤ width addr }
     ensures { result ≡ has_host_bits addr length }
