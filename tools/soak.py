@@ -90,13 +90,13 @@ class ChangingPrimary(peers.Primary):
             self.serial += 1
 
 
-def write_files(folder, upstream):
+def write_files(folder, upstream, hits):
     with open(folder / "queries", "w", encoding="ascii") as out:
         for turn in range(100_000):
             if turn % 10 == 0:
                 out.write(f"m{turn}.miss.test A\n")
             elif turn % 2:
-                out.write(f"h{turn % HITS}.example A\n")
+                out.write(f"h{turn % hits}.example A\n")
             else:
                 out.write(f"p{turn % PASSES}.kept.test A\n")
     (folder / "unbound.conf").write_text(f"""server:
@@ -248,7 +248,7 @@ def main():
     port = options.port
     with tempfile.TemporaryDirectory() as name:
         folder = pathlib.Path(name)
-        write_files(folder, port + 1)
+        write_files(folder, port + 1, min(HITS, options.rules))
         path = os.environ["PATH"] + ":/usr/sbin"
         unbound = subprocess.Popen(["unbound", "-d", "-c", str(folder / "unbound.conf")], env={**os.environ, "PATH": path})
         primary = ChangingPrimary(port + 2, [f"h{n}.example" for n in range(options.rules)])
