@@ -8,7 +8,7 @@ use Rattle.std.proofs.lemmas.Bool.{and_from, and_right, cases_eq}
 use Rattle.std.proofs.lemmas.Bool.Decides.{nat_tests}
 use Rattle.std.proofs.lemmas.Fmt.{decimal_is_IsNumeral, decimal_digit, length-decimal-le, first_decimal}
 use Rattle.address_text.specs.Decimal.{decimal_of, is_number, value_of}
-use Rattle.address_text.specs.Dotted.{is_dot, has_leading_zero, octet_of, dotted_of}
+use Rattle.address_text.specs.Dotted.{is_octet_dot, has_leading_zero, octet_of, dotted_of}
 use Rattle.address_text.specs.Optional.{◌>>=◌}
 use Rattle.address_text.proofs.ColonLemmas.{place_next}
 
@@ -18,7 +18,7 @@ digit_is c h = grind (arith, nat_tests)
 digit_worth : (c : ℕ) → digit_value c < 10 → c - 48 ≡ digit_value c
 digit_worth c h = grind (arith, nat_tests)
 
-no_dot : (c : ℕ) → digit_value c < 10 → is_dot c ≡ false
+no_dot : (c : ℕ) → digit_value c < 10 → is_octet_dot c ≡ false
 no_dot c h = grind (arith, nat_tests)
 
 all_decimal : (text : List ℕ) → AllDigits 10 text → list_all is_ascii_digit text ≡ true
@@ -30,7 +30,7 @@ value_behind n [] h = refl
 value_behind n (c ∷ cs) h = value_behind (n * 10 + (c - 48)) cs h.1 ∙ ap (λ (d : ℕ). digits_value_after 10 (n * 10 + d) cs) (digit_worth c h.0)
 
 abbrev HasNoDot : List ℕ → Type 0
-HasNoDot text = AllByRecursion (λ b. is_dot b ≡ false) text
+HasNoDot text = AllByRecursion (λ b. is_octet_dot b ≡ false) text
 
 digits_no_dot : (text : List ℕ) → AllDigits 10 text → HasNoDot text
 digits_no_dot [] h = tt
@@ -61,14 +61,14 @@ octet_read true n few = ap (λ (b : Bool). if b then None else decimal_of 3 256 
 octet_read false n few = decimal_read n few
 
 -- what stands before a dot, and behind it
-before_dot : (text rest : List ℕ) → HasNoDot text → before_first is_dot (text ++ (46 ∷ rest)) ≡ text
+before_dot : (text rest : List ℕ) → HasNoDot text → before_first is_octet_dot (text ++ (46 ∷ rest)) ≡ text
 before_dot [] rest h = refl
 before_dot (x ∷ xs) rest h = ap (λ (n : ℕ). take n (x ∷ (xs ++ (46 ∷ rest)))) (place_next x (xs ++ (46 ∷ rest)) h.0) ∙ ap (λ (t : List ℕ). x ∷ t) (before_dot xs rest h.1)
 
-after_dot : (text rest : List ℕ) → HasNoDot text → after_first is_dot (text ++ (46 ∷ rest)) ≡ rest
+after_dot : (text rest : List ℕ) → HasNoDot text → after_first is_octet_dot (text ++ (46 ∷ rest)) ≡ rest
 after_dot [] rest h = refl
 after_dot (x ∷ xs) rest h =
-    let next : position_or_len is_dot (x ∷ (xs ++ (46 ∷ rest))) + 1 ≡ suc (position_or_len is_dot (xs ++ (46 ∷ rest)) + 1) = omega (arith, place_next x (xs ++ (46 ∷ rest)) h.0) in
+    let next : position_or_len is_octet_dot (x ∷ (xs ++ (46 ∷ rest))) + 1 ≡ suc (position_or_len is_octet_dot (xs ++ (46 ∷ rest)) + 1) = omega (arith, place_next x (xs ++ (46 ∷ rest)) h.0) in
     ap (λ (n : ℕ). drop n (x ∷ (xs ++ (46 ∷ rest)))) next ∙ after_dot xs rest h.1
 
 abbrev four : Option ℕ → Option ℕ → Option ℕ → Option ℕ → Option ℕ
@@ -84,13 +84,13 @@ parts_read strict ta tb tc td a b c d na nb nc ea eb ec ed =
     let third : List ℕ = tc ++ (46 ∷ td) in
     let second : List ℕ = tb ++ (46 ∷ third) in
     let text : List ℕ = ta ++ (46 ∷ second) in
-    let behind : after_first is_dot text ≡ second = after_dot ta second na in
-    let later : after_first is_dot (after_first is_dot text) ≡ third = ap (after_first is_dot) behind ∙ after_dot tb third nb in
-    four_is (octet_of strict (before_first is_dot text)) (octet_of strict (before_first is_dot (after_first is_dot text))) (octet_of strict (before_first is_dot (after_first is_dot (after_first is_dot text)))) (octet_of strict (after_first is_dot (after_first is_dot (after_first is_dot text)))) a b c d
+    let behind : after_first is_octet_dot text ≡ second = after_dot ta second na in
+    let later : after_first is_octet_dot (after_first is_octet_dot text) ≡ third = ap (after_first is_octet_dot) behind ∙ after_dot tb third nb in
+    four_is (octet_of strict (before_first is_octet_dot text)) (octet_of strict (before_first is_octet_dot (after_first is_octet_dot text))) (octet_of strict (before_first is_octet_dot (after_first is_octet_dot (after_first is_octet_dot text)))) (octet_of strict (after_first is_octet_dot (after_first is_octet_dot (after_first is_octet_dot text)))) a b c d
     (ap (octet_of strict) (before_dot ta second na) ∙ ea)
-    (ap (λ (t : List ℕ). octet_of strict (before_first is_dot t)) behind ∙ ap (octet_of strict) (before_dot tb third nb) ∙ eb)
-    (ap (λ (t : List ℕ). octet_of strict (before_first is_dot t)) later ∙ ap (octet_of strict) (before_dot tc td nc) ∙ ec)
-    (ap (λ (t : List ℕ). octet_of strict (after_first is_dot t)) later ∙ ap (octet_of strict) (after_dot tc td nc) ∙ ed)
+    (ap (λ (t : List ℕ). octet_of strict (before_first is_octet_dot t)) behind ∙ ap (octet_of strict) (before_dot tb third nb) ∙ eb)
+    (ap (λ (t : List ℕ). octet_of strict (before_first is_octet_dot t)) later ∙ ap (octet_of strict) (before_dot tc td nc) ∙ ec)
+    (ap (λ (t : List ℕ). octet_of strict (after_first is_octet_dot t)) later ∙ ap (octet_of strict) (after_dot tc td nc) ∙ ed)
 
 from_right : (a b c d : List ℕ) → (((((a ++ codes ".") ++ b) ++ codes ".") ++ c) ++ codes ".") ++ d ≡ a ++ (46 ∷ (b ++ (46 ∷ (c ++ (46 ∷ d)))))
 from_right a b c d = simp append_assoc

@@ -7,11 +7,11 @@ use Rattle.std.specs.Str.Parse.{digits_value}
 use Rattle.std.proofs.lemmas.Bool.{and_parts, cases_Bool, leb-true, ltb-true, ltb-false, not-false}
 use Rattle.std.proofs.lemmas.List.Splits.{join_with_byte-slice_split}
 use Rattle.std.proofs.lemmas.Option.{cond_some}
-use Rattle.address_text.specs.Dotted.{is_dot, tail_of}
+use Rattle.address_text.specs.Dotted.{is_octet_dot, tail_of}
 use Rattle.address_text.specs.Grammar as grammar
 use Rattle.address_text.specs.Grammar.{IsGroup, AreGroups, AreLastGroups, MayBe, IsV6Text, halves}
 use Rattle.address_text.specs.Optional.{none_if}
-use Rattle.address_text.specs.V6.{at_elision, elided_of, filled, group_of, groups_of, is_colon, number_of_groups, one_group, one_or_two_groups, side_groups, text_groups, v6_at, v6_of, whole_of, with_first}
+use Rattle.address_text.specs.V6.{at_elision, elided_of, filled, group_of, groups_of, is_colon, number_of_groups, one_group, one_or_two_groups, side_groups, text_groups, v6_at, v6_number, whole_of, with_first}
 use Rattle.address_text.proofs.ColonLemmas.{bind_some}
 use Rattle.address_text.proofs.FieldLemmas.{some_fields}
 
@@ -63,7 +63,7 @@ end_only text groups e =
     let a = map_some halves (tail_of text) groups read in
     subst (AreLastGroups text) a.2 (grammar.dotted text a.0 a.1))
     (λ other. let read : one_group text ≡ Some groups = rw other at e in grammar.plain text groups (one_only text groups read))
-    (cases_Bool (list_any is_dot text))
+    (cases_Bool (list_any is_octet_dot text))
 
 last_only : (fields : List (List ℕ)) (groups : List ℕ) → 0 < length fields → groups_of one_or_two_groups fields ≡ Some groups → AreLastGroups (join_with_byte 58 fields) groups
 last_only [] groups some e = absurd (omega arith)
@@ -132,6 +132,6 @@ only_by : (text : List ℕ) (sides : Option (List ℕ × List ℕ)) (number : �
 only_by text None number at e = whole_only text number e
 only_by text (Some sides) number at e = subst (λ (t : List ℕ). Writes t number) (sides_are text sides at) (elided_only sides.0 sides.1 number e)
 
-pub text_only : (text : List ℕ) (number : ℕ) → v6_of text ≡ Some number → Writes text number
-unfolding v6_of
+pub text_only : (text : List ℕ) (number : ℕ) → v6_number text ≡ Some number → Writes text number
+unfolding v6_number
 text_only text number e = only_by text (at_elision text) number refl e

@@ -10,7 +10,7 @@ use Rattle.address_text.specs.Dotted.{tail_of}
 use Rattle.address_text.specs.Grammar as grammar
 use Rattle.address_text.specs.Grammar.{IsGroup, AreGroups, AreLastGroups, MayBe, IsV6Text, halves}
 use Rattle.address_text.specs.Optional.{◌>>=◌, none_if}
-use Rattle.address_text.specs.V6.{at_elision, elided_of, filled, group_of, groups_of, is_colon, number_of_groups, one_group, one_or_two_groups, side_groups, text_groups, v6_at, v6_of, whole_of, with_first}
+use Rattle.address_text.specs.V6.{at_elision, elided_of, filled, group_of, groups_of, is_colon, number_of_groups, one_group, one_or_two_groups, side_groups, text_groups, v6_at, v6_number, whole_of, with_first}
 use Rattle.address_text.proofs.ColonLemmas.{HasNoColon, one_field, first_field, digits_no_colon, digits_no_dot, tail_no_colon, tail_has_dot}
 use Rattle.address_text.proofs.FieldLemmas.{groups_first, some_fields}
 use Rattle.address_text.proofs.ElisionLemmas.{with_front}
@@ -158,7 +158,7 @@ sides_read head tail before after some others few =
     ∙ ap (λ (o : Option (List ℕ)). o >>= (λ ms. none_if (nat_lt 7 (length before + length ms)) >>= (λ u. Some (number_of_groups (filled before ms))))) (after_read tail after others)
     ∙ ap (λ (b : Bool). none_if b >>= (λ u. Some (number_of_groups (filled before after)))) (le-ltb 7 (length before + length after) few)
 
-pub text_read : (text groups : List ℕ) → IsV6Text text groups → v6_of text ≡ Some (number_of_groups groups)
-unfolding v6_of
+pub text_read : (text groups : List ℕ) → IsV6Text text groups → v6_number text ≡ Some (number_of_groups groups)
+unfolding v6_number
 text_read _ _ (grammar.whole text groups are eight) = ap (v6_at text) (no_elision text groups are) ∙ whole_read text groups are eight
 text_read _ _ (grammar.elided head tail before after some others few) = ap (v6_at (head ++ (58 ∷ 58 ∷ tail))) (at_sides head tail before some) ∙ sides_read head tail before after some others few

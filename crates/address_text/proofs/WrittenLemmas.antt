@@ -9,11 +9,11 @@ use Rattle.std.proofs.lemmas.List.Sums.{fold_push}
 use Rattle.ip_prefix.specs.declared.Addr.{Addr}
 use Rattle.ip_prefix.specs.declared.Addr.TheVariants.{V4, V6}
 use Rattle.ip_prefix.specs.Bits.{IsAddr}
-use Rattle.address_text.specs.Dotted.{dotted_of, v4_of}
+use Rattle.address_text.specs.Dotted.{dotted_of, v4_number}
 use Rattle.address_text.specs.Grammar as grammar
 use Rattle.address_text.specs.Grammar.{AreGroups, AreLastGroups, IsV6Text, halves}
-use Rattle.address_text.specs.NetworkText.{address_of}
-use Rattle.address_text.specs.V6.{is_colon, number_of_groups, v6_of}
+use Rattle.address_text.specs.NetworkText.{text_address}
+use Rattle.address_text.specs.V6.{is_colon, number_of_groups, v6_number}
 use Rattle.address_text.specs.Written.{last_digits, eight_groups, addr_text}
 use Rattle.address_text.proofs.ColonLemmas.{HasNoColon, tail_no_colon}
 use Rattle.address_text.proofs.DecimalLemmas.{dotted_read}
@@ -62,13 +62,13 @@ text_colon : (text groups : List ℕ) → IsV6Text text groups → list_any is_c
 text_colon _ _ (grammar.whole text groups are eight) = last_colon text groups are eight
 text_colon _ _ (grammar.elided head tail before after some others few) = any_behind head (58 ∷ tail)
 
-v6_back : (number : ℕ) → number < 2 ^ 128 → address_of (addr_text (V6 number)) ≡ Some (V6 number)
+v6_back : (number : ℕ) → number < 2 ^ 128 → text_address (addr_text (V6 number)) ≡ Some (V6 number)
 v6_back number few =
     let groups : List ℕ = eight_groups number in
     let text : List ℕ = ipv6_text groups in
     let is : IsV6Text text groups = library_text text groups (IsColonHex-ipv6_text groups refl (segments_of_number number)) in
     let same : number_of_groups groups ≡ number = groups_back 8 number few in
-    ap (λ (b : Bool). if b then option_map V6 (v6_of text) else option_map V4 (v4_of text)) (text_colon text groups is)
+    ap (λ (b : Bool). if b then option_map V6 (v6_number text) else option_map V4 (v4_number text)) (text_colon text groups is)
     ∙ ap (option_map V6) (text_read text groups is) ∙ ap (λ (n : ℕ). let o : Option Addr = Some (V6 n) in o) same
 
 -- and one of version 4 has none
@@ -79,7 +79,7 @@ none_any (x ∷ xs) h = ap (λ (b : Bool). b || list_any is_colon xs) h.0 ∙ no
 octets_back : (number : ℕ) → number < 2 ^ 32 → ((number / 256 / 256 / 256 % 256 * 256 + number / 256 / 256 % 256) * 256 + number / 256 % 256) * 256 + number % 256 ≡ number
 octets_back number few = omega arith
 
-v4_back : (number : ℕ) → number < 2 ^ 32 → address_of (addr_text (V4 number)) ≡ Some (V4 number)
+v4_back : (number : ℕ) → number < 2 ^ 32 → text_address (addr_text (V4 number)) ≡ Some (V4 number)
 v4_back number few =
     let a : ℕ = number / 256 / 256 / 256 % 256 in
     let b : ℕ = number / 256 / 256 % 256 in
@@ -88,9 +88,9 @@ v4_back number few =
     let text : List ℕ = dotted_text a b c d in
     let read : (strict : Bool) → dotted_of strict text ≡ Some (((a * 256 + b) * 256 + c) * 256 + d) = λ strict. dotted_read strict a b c d (omega arith) (omega arith) (omega arith) (omega arith) in
     let colon : list_any is_colon text ≡ false = none_any text (tail_no_colon text (((a * 256 + b) * 256 + c) * 256 + d) (read true)) in
-    ap (λ (t : Bool). if t then option_map V6 (v6_of text) else option_map V4 (v4_of text)) colon
+    ap (λ (t : Bool). if t then option_map V6 (v6_number text) else option_map V4 (v4_number text)) colon
     ∙ ap (option_map V4) (read false) ∙ ap (λ (n : ℕ). let o : Option Addr = Some (V4 n) in o) (octets_back number few)
 
-pub read_back : (addr : Addr) → IsAddr addr → address_of (addr_text addr) ≡ Some addr
+pub read_back : (addr : Addr) → IsAddr addr → text_address (addr_text addr) ≡ Some addr
 read_back (V4 number) few = v4_back number few
 read_back (V6 number) few = v6_back number few

@@ -10,13 +10,13 @@ use Rattle.allow_list.specs.Network.{network_of}
 use Rattle.address_text.specs.declared.network.NetworkTextFault.{NetworkTextFault}
 use Rattle.address_text.specs.declared.network.NetworkTextFault.TheVariants.{Form, Address, Length, HostBits}
 use Rattle.address_text.specs.Decimal.{decimal_of}
-use Rattle.address_text.specs.Dotted.{v4_of}
-use Rattle.address_text.specs.V6.{is_colon, v6_of}
+use Rattle.address_text.specs.Dotted.{v4_number}
+use Rattle.address_text.specs.V6.{is_colon, v6_number}
 
 -- an address; with a colon it is of version 6
-abbrev pub address_of : List ℕ → Option Addr
-address_of text =
-    if list_any is_colon text then option_map V6 (v6_of text) else option_map V4 (v4_of text)
+abbrev pub text_address : List ℕ → Option Addr
+text_address text =
+    if list_any is_colon text then option_map V6 (v6_number text) else option_map V4 (v4_number text)
 
 -- `/`, which stands before a length
 abbrev pub is_slash : ℕ → Bool
@@ -55,6 +55,6 @@ as_text_fault (Err fault) = Err (text_fault fault)
 unfoldable pub network_text : List ℕ → Result PlainPrefix NetworkTextFault
 network_text text = do
   _ ← fault_if (not (list_any is_slash text)) Form
-  addr ← or_fault (address_of (before_first is_slash text)) Address
+  addr ← or_fault (text_address (before_first is_slash text)) Address
   length ← or_fault (length_of (after_first is_slash text)) Length
   as_text_fault (network_of addr length)

@@ -4,7 +4,7 @@ use Rattle.std.specs.Prelude.{ℕ, ◌+◌, ◌-◌, ◌*◌, ◌==◌, ◌&&◌
 use Rattle.std.specs.Char.{is_ascii_hexdigit}
 use Rattle.std.specs.List.{list_all, list_any, slice_split}
 use Rattle.std.specs.Str.Parse.{digits_value}
-use Rattle.address_text.specs.Dotted.{is_dot, tail_of}
+use Rattle.address_text.specs.Dotted.{is_octet_dot, tail_of}
 use Rattle.address_text.specs.Grammar.{halves}
 use Rattle.address_text.specs.Optional.{◌>>=◌, none_if}
 
@@ -38,7 +38,7 @@ one_group text = do
 
 -- one group, or four decimals, which are two
 abbrev pub one_or_two_groups : List ℕ → Option (List ℕ)
-one_or_two_groups text = if list_any is_dot text then option_map halves (tail_of text) else one_group text
+one_or_two_groups text = if list_any is_octet_dot text then option_map halves (tail_of text) else one_group text
 
 -- the groups of fields, of which the last is read as this function says, and each other is one group
 abbrev pub groups_of : (List ℕ → Option (List ℕ)) → List (List ℕ) → Option (List ℕ)
@@ -87,5 +87,5 @@ v6_at text None = whole_of text
 v6_at text (Some sides) = elided_of sides.0 sides.1
 
 -- the address that a text writes
-unfoldable pub v6_of : List ℕ → Option ℕ
-v6_of text = v6_at text (at_elision text)
+unfoldable pub v6_number : List ℕ → Option ℕ
+v6_number text = v6_at text (at_elision text)

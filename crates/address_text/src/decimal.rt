@@ -1,13 +1,15 @@
 //! Numbers in decimal.
 
-ghost use Rattle.std.specs.Prelude.{◌≡◌, ◌≤◌, ◌<◌, true, length, IfSome};
+ghost use Rattle.std.specs.Prelude.{◌≡◌, ◌≤◌, ◌<◌, ◌^◌, true, length, IfSome};
 ghost use Rattle.std.specs.Char.{is_ascii_digit};
 ghost use Rattle.std.specs.List.{list_all};
 ghost use Rattle.address_text.specs.Decimal.{decimal_of, value_of};
 
-/// The number that 1 to `most` decimal digits write, where it is below the bound; leading zeros are allowed.
-pub(crate) fn decimal(digits: &[u8], most: usize, bound: u32) -> Option<u32>
-    requires { most ≤ 10 }
+/// The number that 1 to `most` decimal digits write, where it is below the bound; leading zeros are allowed, and a sign is not.
+/// No more than 10 digits are read, and no bound is above 4,294,967,296.
+pub fn read_decimal(digits: &[u8], most: usize, bound: u64) -> Option<u32>
+    requires most { most ≤ 10 }
+    requires bound { bound ≤ 2 ^ 32 }
     ensures value { result ≡ decimal_of most bound digits.now }
     ensures below { IfSome result (λ value. value < bound) }
 {
@@ -15,7 +17,7 @@ pub(crate) fn decimal(digits: &[u8], most: usize, bound: u32) -> Option<u32>
         return None;
     }
     let value = value(digits);
-    if value < u64::from(bound) {
+    if value < bound {
         Some(value as u32)
     } else {
         None

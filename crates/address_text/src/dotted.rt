@@ -2,15 +2,15 @@
 
 ghost use Rattle.std.specs.Prelude.{◌≡◌, ◌<◌, IfSome};
 ghost use Rattle.std.specs.List.{before_first, after_first};
-ghost use Rattle.address_text.specs.Dotted.{is_dot, has_leading_zero, octet_of, dotted_of, v4_of, tail_of};
+ghost use Rattle.address_text.specs.Dotted.{is_octet_dot, has_leading_zero, octet_of, dotted_of, v4_number, tail_of};
 
-use crate::decimal::decimal;
+use crate::decimal::read_decimal;
 use crate::split::split_first;
 
 /// The address of IP version 4 that a text writes: four octets in decimal, of 1 to 3 digits each and at most 255, joined by dots
 /// (RFC 3986, section 3.2.2). Leading zeros are allowed, and do not make an octet octal.
 pub fn read_v4(text: &[u8]) -> Option<u32>
-    ensures { result ≡ v4_of text.now }
+    ensures { result ≡ v4_number text.now }
 {
     dotted(text, false)
 }
@@ -39,8 +39,8 @@ fn dotted(text: &[u8], strict: bool) -> Option<u32>
 
 // What stands before the first dot, and behind it.
 fn split_dot(text: &[u8]) -> (&[u8], &[u8])
-    ensures first { result.0.now ≡ before_first is_dot text.now }
-    ensures rest { result.1.now ≡ after_first is_dot text.now }
+    ensures first { result.0.now ≡ before_first is_octet_dot text.now }
+    ensures rest { result.1.now ≡ after_first is_octet_dot text.now }
 {
     match split_first(text, b'.') {
         Some(parts) => parts,
@@ -56,7 +56,7 @@ fn octet(digits: &[u8], strict: bool) -> Option<u32>
     if strict && begins_with_zero(digits) {
         return None;
     }
-    decimal(digits, 3, 256)
+    read_decimal(digits, 3, 256)
 }
 
 // Whether there are more digits than one, of which the first is a zero.

@@ -12,6 +12,7 @@ mod split;
 mod v6;
 mod written;
 
+pub use decimal::read_decimal;
 pub use dotted::read_v4;
 pub use mapped::is_mapped;
 pub use network::{NetworkTextFault, read_address, read_network};

@@ -1,9 +1,9 @@
 //! Networks as text: an address and a length.
 
 ghost use Rattle.std.specs.Prelude.{◌≡◌};
-ghost use Rattle.address_text.specs.NetworkText.{address_of, length_of, network_text};
+ghost use Rattle.address_text.specs.NetworkText.{text_address, length_of, network_text};
 
-use crate::decimal::decimal;
+use crate::decimal::read_decimal;
 use crate::dotted::read_v4;
 use crate::split::{has_byte, split_first};
 use crate::v6::read_v6;
@@ -56,7 +56,7 @@ pub fn read_network(text: &[u8]) -> Result<Network, NetworkTextFault>
 /// The address that a text writes: with a colon one of version 6, as [`read_v6`] reads it, else one of version 4, as
 /// [`read_v4`] does.
 pub fn read_address(text: &[u8]) -> Option<Addr>
-    ensures { result ≡ address_of text.now }
+    ensures { result ≡ text_address text.now }
 {
     if has_byte(text, b':') {
         return Some(Addr::V6(read_v6(text)?));
@@ -68,5 +68,5 @@ pub fn read_address(text: &[u8]) -> Option<Addr>
 fn read_length(digits: &[u8]) -> Option<u32>
     ensures { result ≡ length_of digits.now }
 {
-    decimal(digits, 3, 1000)
+    read_decimal(digits, 3, 1000)
 }

@@ -3,7 +3,7 @@
 ghost use Rattle.std.specs.Prelude.{◌≡◌, ◌<◌, ◌+◌, ◌&&◌, ℕ, List, length, slice_index, Option, None, IfSome, MatchOption};
 ghost use Rattle.std.specs.Option.{option_and_then, option_map};
 ghost use Rattle.address_text.specs.Groups.{AreFew, no_groups, with_groups};
-ghost use Rattle.address_text.specs.V6.{at_elision, elided_of, is_colon, one_group, one_or_two_groups, side_groups, text_groups, v6_of, whole_of};
+ghost use Rattle.address_text.specs.V6.{at_elision, elided_of, is_colon, one_group, one_or_two_groups, side_groups, text_groups, v6_number, whole_of};
 
 use crate::dotted::read_tail;
 use crate::groups::Groups;
@@ -13,9 +13,9 @@ use crate::split::{has_byte, split_first};
 /// The address of IP version 6 that a text writes (RFC 4291, section 2.2): eight groups of 1 to 4 hexadecimal digits in either
 /// case, joined by colons, or fewer and one `::`, which stands for one group of zeros or more. The last two groups may be written
 /// as four decimals without leading zeros. No zone index (RFC 4007, section 11) is read.
-#[tactic(auto, unfolding(crate::specs::V6::v6_of))]
+#[tactic(auto, unfolding(crate::specs::V6::v6_number))]
 pub fn read_v6(text: &[u8]) -> Option<u128>
-    ensures { result ≡ v6_of text.now }
+    ensures { result ≡ v6_number text.now }
 {
     match split_elision(text) {
         None => read_whole(text),
