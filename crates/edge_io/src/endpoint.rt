@@ -1,7 +1,7 @@
-// Where a peer is.
+// Where a server is.
 use ip_prefix::Addr;
 
-/// Where a peer is: an address and a port.
+/// Where a server is: an address and a port.
 #[derive(Clone, Copy, Debug, PartialEq, Eq)]
 pub struct Endpoint {
     pub addr: Addr,

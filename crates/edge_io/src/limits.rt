@@ -3,6 +3,9 @@
 /// How many workers there are at most: threads of a server or of a load run, and workers of a script.
 pub const WORKER_LIMIT: usize = 16;
 
+/// How many endpoints a server has at most.
+pub const LISTEN_LIMIT: usize = 16;
+
 /// How many messages of one connection of a client are answered at most. Behind them it is closed.
 pub const CONNECTION_MESSAGES: u32 = 4_096;
 

@@ -9,7 +9,8 @@ use crate::limits::{NEW_MILLISECONDS, TURN_MESSAGES, UNANSWERED_MESSAGES};
 use crate::message_buffer::{Frames, MessageBuffer};
 use crate::shared_connection::{ConnectionView, SharedConnection, StretchEnd};
 use crate::stretch::Stretch;
-use edge_io::{CONNECTION_MESSAGES, Endpoint};
+use edge_io::CONNECTION_MESSAGES;
+use server_io::Peer;
 use std::alloc::{AllocError, Global};
 use std::io;
 use std::io::Read;
@@ -98,7 +99,7 @@ impl ClientConnection {
     }
 
     /// Who sent its messages.
-    pub(crate) fn peer(&self) -> Endpoint {
+    pub(crate) fn peer(&self) -> Peer {
         self.shared.peer()
     }
 

@@ -4,7 +4,8 @@ ghost use Rattle.std.specs.Prelude.{◌≡◌, ◌≤◌, None, IfOk, length};
 
 use crate::frame_gauge::FrameGauge;
 use crate::shared_connection::SharedConnection;
-use edge_io::{SendError, Sink, SinkError};
+use edge_io::{Sink, SinkError};
+use server_io::SendError;
 use std::alloc::Global;
 use std::sync::{Arc, Wait};
 

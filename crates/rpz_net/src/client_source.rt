@@ -4,7 +4,8 @@ ghost use Rattle.std.specs.Prelude.{◌≤◌, ⊤, None, length};
 
 use crate::shared_connection::SharedConnection;
 use crate::stretch::Stretch;
-use edge_io::{Endpoint, Failed, Source};
+use edge_io::{Failed, Source};
+use server_io::Peer;
 use std::alloc::AllocError;
 use std::sync::{Arc, Wait};
 
@@ -25,7 +26,7 @@ impl<R: Wait + Drop> ClientSource<R> {
     }
 
     /// The client.
-    pub(crate) fn client(&self) -> Endpoint {
+    pub(crate) fn client(&self) -> Peer {
         self.stretch.client()
     }
 

@@ -4,7 +4,7 @@ use crate::read_buffer::ReadBuffer;
 use crate::tcp_sink::TcpSink;
 use crate::tcp_source::TcpSource;
 use crate::time_limit::TimeLimit;
-use edge_io::WireError;
+use server_io::WireError;
 use std::alloc::{AllocError, Global};
 use std::net::TcpStream;
 use std::sync::Arc;

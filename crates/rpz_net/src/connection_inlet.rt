@@ -7,7 +7,7 @@ use crate::notices::NoticeSender;
 use crate::service_state::ServiceState;
 use crate::stretch::Stretch;
 use crossbeam_channel::{Receiver, RecvTimeoutError};
-use edge_io::{Arrival, Inlet, Received};
+use server_io::{Arrival, Inlet, Received};
 use std::alloc::Global;
 use std::sync::{Arc, Wait};
 use std::time;

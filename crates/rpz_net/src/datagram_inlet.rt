@@ -1,6 +1,6 @@
 //! Where a worker takes datagrams from.
 
-use crate::address::endpoint_of;
+use crate::address::peer_of;
 use crate::client_sink::ClientSink;
 use crate::client_source::ClientSource;
 use crate::datagram::is_notify;
@@ -9,14 +9,15 @@ use crate::notices::NoticeSender;
 use crate::service_state::ServiceState;
 use crate::shortage::is_shortage;
 use dns_name::Octets;
-use edge_io::{Arrival, Endpoint, Inlet, Received};
 use ip_prefix::Transport;
+use server_io::{Arrival, Inlet, Peer, Received};
 use std::alloc::{AllocError, Global};
 use std::sync::{Arc, Wait};
 use std::time::Duration;
 use std::{io, thread, time};
 
-/// Where a worker takes datagrams from: a UDP socket on which several wait, of which the system wakes one for each datagram.
+/// Where a worker takes datagrams from: the UDP socket of a listener, on which several wait, of which the system wakes one for each
+/// datagram.
 ///
 /// A NOTIFY (RFC 1996) is one of the arrivals, but goes to the thread that has the wires. A datagram for which there is no room is
 /// dropped. After `PASSING_ERRORS` errors in a row it ends, and the wires fail.
@@ -25,6 +26,7 @@ pub struct DatagramInlet<R: time::Clock + Wait + Drop> {
     rt: R,
     alloc: Global,
     service: Arc<ServiceState>,
+    listener: usize,
     // `None` once it has ended.
     notices: Option<NoticeSender>,
     buffer: Vec<u8>,
@@ -35,7 +37,7 @@ pub struct DatagramInlet<R: time::Clock + Wait + Drop> {
 // What one call of the socket gave.
 #[derive(Drop)]
 enum Step {
-    Datagram { peer: Endpoint, bytes: Octets },
+    Datagram { peer: Peer, bytes: Octets },
     // Nothing that is an arrival, and more may be there.
     Passed,
     // Nothing came for as long as the socket waits.
@@ -44,11 +46,12 @@ enum Step {
 }
 
 impl<R: time::Clock + Wait + Drop> DatagramInlet<R> {
-    /// An inlet of this service, of which it holds the other end for NOTIFYs; without, it has ended.
+    /// An inlet of a listener of this service, of which it holds the other end for NOTIFYs; without, it has ended.
     pub(crate) fn new(
         rt: R,
         alloc: Global,
         service: Arc<ServiceState>,
+        listener: usize,
         notices: Option<NoticeSender>,
     ) -> Result<Self, AllocError> {
         let buffer = vec![in alloc; 0; DATAGRAM_MAX]?;
@@ -56,6 +59,7 @@ impl<R: time::Clock + Wait + Drop> DatagramInlet<R> {
             rt,
             alloc,
             service,
+            listener,
             notices,
             buffer,
             errors: 0,
@@ -67,12 +71,15 @@ impl<R: time::Clock + Wait + Drop> DatagramInlet<R> {
         if self.notices.is_none() || self.service.is_stopped() {
             return Step::End;
         }
-        let received = self.service.socket.recv_from(&mut self.buffer);
+        let Some(socket) = self.service.sockets.get(self.listener) else {
+            return Step::End;
+        };
+        let received = socket.recv_from(&mut self.buffer);
         if self.service.is_stopped() {
             return Step::End;
         }
         match received {
-            Ok((len, peer)) => self.arrived(len, endpoint_of(peer)),
+            Ok((len, address)) => self.arrived(len, peer_of(address, self.listener)),
             Err(error) if error.kind() == io::ErrorKind::WouldBlock => {
                 self.errors = 0;
                 Step::Nothing
@@ -83,7 +90,7 @@ impl<R: time::Clock + Wait + Drop> DatagramInlet<R> {
     }
 
     // A datagram of so many bytes has come.
-    fn arrived(&mut self, len: usize, peer: Endpoint) -> Step {
+    fn arrived(&mut self, len: usize, peer: Peer) -> Step {
         self.errors = 0;
         if !self.service.take_turn() {
             return Step::End;
@@ -105,7 +112,7 @@ impl<R: time::Clock + Wait + Drop> DatagramInlet<R> {
     }
 
     // Hands a NOTIFY on to the thread that has the wires. `false` says that it is dropped.
-    fn pass_on(&self, peer: Endpoint, bytes: &[u8]) -> bool {
+    fn pass_on(&self, peer: Peer, bytes: &[u8]) -> bool {
         let Some(notices) = &self.notices else {
             return false;
         };

@@ -1,5 +1,5 @@
-//! The edge of a server over the system's sockets, clock and random numbers: the wires of `edge_io` over a UDP socket and a TCP
-//! listener, the two sides of a TCP connection to a server and of one of a client, a link to the upstream, a place for replies, a clock
+//! The edge of a server over the system's sockets, clock and random numbers: the wires of `server_io` over a UDP socket and a TCP
+//! listener for each endpoint, the two sides of a TCP connection to a server and of one of a client, a link to the upstream, a place for replies, a clock
 //! and IDs.
 //!
 //! Each counts its faults, and tells nothing of what the network gives or takes. Every wait has a limit, in `limits`. No thread that
@@ -8,6 +8,7 @@
 
 mod address;
 mod answer_place;
+mod bound_sockets;
 mod client_connection;
 mod client_counts;
 mod client_phase;
@@ -21,6 +22,7 @@ mod datagram;
 mod datagram_inlet;
 mod frame_gauge;
 pub mod limits;
+mod listeners;
 mod message_buffer;
 mod net_wires;
 mod new_connections;
@@ -65,7 +67,7 @@ mod wake_signal;
 mod wire_numbers;
 mod wire_state;
 
-pub use address::{address_of, endpoint_of};
+pub use address::{address_of, peer_of};
 pub use client_sink::ClientSink;
 pub use client_source::ClientSource;
 pub use connection_inlet::ConnectionInlet;

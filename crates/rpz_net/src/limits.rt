@@ -76,7 +76,7 @@ pub const CONNECTION_QUEUE: usize = 64;
 /// Milliseconds between two looks at which connections have waited too long.
 pub const LATE_MILLISECONDS: u64 = 250;
 
-/// How many connections are accepted in a row before something else has its turn.
+/// How many connections are accepted in a row, at all listeners in turn, before something else has its turn.
 pub const ACCEPT_RUN: u32 = 64;
 
 /// How many events of the sockets are taken from the system at a time.

@@ -2,8 +2,8 @@
 
 ghost use Rattle.std.specs.Prelude.{◌≡◌, ◌≤◌, None, Ok, length};
 ghost use Rattle.edge_io.specs.Edge.{Rose};
-ghost use Rattle.edge_io.specs.Wired.{BlamesOrder};
 ghost use Rattle.edge_io.specs.declared.frame.TheConstants.{FRAME_MAX};
+ghost use Rattle.server_io.specs.Wired.{BlamesOrder};
 
 use crate::client_sink::ClientSink;
 use crate::client_source::ClientSource;
@@ -16,23 +16,25 @@ use crate::standard_streams::take_free_numbers;
 use crate::tcp_link::TcpLink;
 use crate::thread_starter::{ThreadStarter, thread_starter};
 use crate::upstreams::Upstreams;
-use edge_io::{ConnectionLimits, Endpoint, Order, SendError, Wake, WireError, Wires};
+use edge_io::{ConnectionLimits, Endpoint};
 use ip_prefix::Transport;
+use server_io::{Order, Peer, SendError, Wake, WireError, Wires};
 use std::alloc::Global;
 use std::net::{Net, TcpListener, TcpStream};
 use std::sync::Wait;
 use std::thread::Threads;
 use std::time;
 
-/// The network of a server: a UDP socket and a TCP listener at the endpoint that it serves, TCP connections to the primary servers
-/// of its zones, and TCP connections to its upstream.
+/// The network of a server: a UDP socket and a TCP listener at each endpoint that it serves, TCP connections to the primary servers
+/// of its zones, and TCP connections to its upstream. It serves up to `LISTEN_LIMIT` endpoints.
 ///
 /// It tells nothing of what comes and goes. The limits of time are those of `limits`. It has a thread for the connections of clients, one
 /// for each connection to an upstream, one for each transfer that is under way, and one that starts these. No call waits for any of
 /// them, but for `stop`, which joins all but those of transfers.
 ///
-/// Where the host has several addresses, each is bound by wires of its own: from the unspecified address (0.0.0.0 or ::) the system
-/// sends a reply from the address that it would choose, and not from the one that was asked.
+/// An endpoint of version 6 takes nothing of version 4. Where the host has several addresses, each is an endpoint of its own: from the
+/// unspecified address (0.0.0.0 or ::) the system sends a datagram from the address that it would choose, and not from the one that was
+/// asked.
 #[derive(Drop)]
 pub struct NetWires<
     R: Net<Listener = TcpListener, Stream = TcpStream> + time::Clock + Wait + Copy + Drop,
@@ -44,6 +46,8 @@ pub struct NetWires<
     // Missing where the system had no room for it, and once these wires have stopped.
     starter: Option<ThreadStarter<R>>,
     service: Option<Service<R>>,
+    // The endpoint that the last `bind` couldn't open.
+    refused: Option<Endpoint>,
     orders: Orders,
     upstreams: Upstreams,
     order_faults: u64,
@@ -74,11 +78,17 @@ impl<
             admitted: None,
             starter: thread_starter(rt, alloc).ok(),
             service: None,
+            refused: None,
             orders: Orders::new(alloc),
             upstreams: Upstreams::new(alloc),
             order_faults: 0,
             faults: 0,
         }
+    }
+
+    /// The endpoint that the last `bind` couldn't open; `None` where it opened all, or none was to blame.
+    pub fn refused(&self) -> Option<Endpoint> {
+        self.refused
     }
 }
 
@@ -144,11 +154,20 @@ impl<
         }
     }
 
-    fn bind(&mut self, at: Endpoint) -> Result<(), WireError> {
+    fn bind(&mut self, all: &[Endpoint]) -> Result<(), WireError> {
+        let mut refused = None;
         let opened = match &self.starter {
-            Some(starter) => Service::open(self.rt, self.alloc, at, self.turns, starter),
+            Some(starter) => Service::open(
+                self.rt,
+                self.alloc,
+                all,
+                &mut refused,
+                self.turns,
+                starter,
+            ),
             None => Err(WireError::Failed),
         };
+        self.refused = refused;
         match opened {
             Ok(service) => {
                 if let Some(limits) = self.admitted {
@@ -189,14 +208,18 @@ impl<
         }
     }
 
-    fn datagrams(&mut self) -> Result<DatagramInlet<R>, WireError> {
-        let Some(service) = &self.service else {
-            count_fault(&mut self.faults);
-            return Err(WireError::Failed);
+    fn datagrams(&mut self, listener: usize) -> Result<DatagramInlet<R>, WireError> {
+        let made = match &self.service {
+            Some(service) => service.datagrams(self.rt, self.alloc, listener),
+            None => Err(WireError::Failed),
         };
-        match service.datagrams(self.rt, self.alloc) {
+        match made {
             Ok(inlet) => Ok(inlet),
-            Err(_) => Err(WireError::OutOfMemory),
+            Err(WireError::OutOfMemory) => Err(WireError::OutOfMemory),
+            Err(WireError::Failed) => {
+                count_fault(&mut self.faults);
+                Err(WireError::Failed)
+            }
         }
     }
 
@@ -253,12 +276,7 @@ impl<
         }
     }
 
-    fn answer(
-        &mut self,
-        peer: Endpoint,
-        transport: Transport,
-        bytes: &[u8],
-    ) -> Result<(), SendError> {
+    fn answer(&mut self, peer: Peer, transport: Transport, bytes: &[u8]) -> Result<(), SendError> {
         let sent = match &self.service {
             Some(service) => service.state.send(&self.rt, peer, transport, bytes),
             None => Err(SendError::Failed),

@@ -1,15 +1,15 @@
 //! New connections of clients.
 
-use crate::address::endpoint_of;
+use crate::address::peer_of;
 use crate::client_connection::ClientConnection;
 use crate::client_counts::Client;
 use crate::connection_changes::ConnectionPlace;
 use crate::limits::{ACCEPT_RUN, NEW_CONNECTIONS};
 use crate::reception::{FIRST, Reception, TurnError};
 use crate::shared_connection::SharedConnection;
-use edge_io::Endpoint;
 use mio::unix::SourceFd;
 use mio::{Interest, Registry, Token};
+use server_io::Peer;
 use std::net::TcpStream;
 use std::os::fd::AsRawFd;
 use std::sync::{Arc, Wait};
@@ -17,16 +17,16 @@ use std::time::Instant;
 use std::{io, time};
 
 impl<R: time::Clock + Wait + Copy + Drop> Reception<R> {
-    /// Takes some of the new connections.
+    /// Takes some of the new connections, of all listeners in turn.
     pub(crate) fn accept_some(&mut self, now: Instant) -> Result<(), TurnError> {
         for _ in 0..ACCEPT_RUN {
-            if !self.connections_wait {
+            let Some(listener) = self.listeners.take_turn() else {
                 return Ok(());
-            }
-            match self.sockets.listener.accept() {
-                Ok((stream, peer)) => self.take_in(stream, endpoint_of(peer), now),
+            };
+            match self.listeners.accept(listener) {
+                Ok((stream, address)) => self.take_in(stream, peer_of(address, listener), now),
                 Err(error) if error.kind() == io::ErrorKind::WouldBlock => {
-                    self.connections_wait = false;
+                    self.listeners.set_waits(listener, false);
                 }
                 Err(error) => return Err(TurnError::of(&error)),
             }
@@ -35,7 +35,7 @@ impl<R: time::Clock + Wait + Copy + Drop> Reception<R> {
     }
 
     // Takes a new connection in. It is closed where there is no room for it, or where it can't be served.
-    fn take_in(&mut self, stream: TcpStream, peer: Endpoint, now: Instant) {
+    fn take_in(&mut self, stream: TcpStream, peer: Peer, now: Instant) {
         let limits = self.service.connection_limits();
         let client = Client::of(peer.addr);
         let Some(place) = self.table.open(client, limits.of_client) else {
@@ -94,7 +94,7 @@ impl<R: time::Clock + Wait + Copy + Drop> Reception<R> {
     fn begin(
         &mut self,
         stream: TcpStream,
-        peer: Endpoint,
+        peer: Peer,
         place: ConnectionPlace,
     ) -> Option<Arc<SharedConnection>> {
         let token = Token(place.index.saturating_add(FIRST));

@@ -5,8 +5,8 @@ use crate::notifiers::NotifyOrigin;
 use crate::wire_state::WireState;
 use crossbeam_channel::{Receiver, Sender, TryRecvError, bounded};
 use dns_name::Octets;
-use edge_io::Endpoint;
 use ip_prefix::Transport;
+use server_io::Peer;
 use std::alloc::{AllocError, Global};
 use std::sync::{Arc, Wait};
 use std::time;
@@ -15,7 +15,7 @@ use std::time::Instant;
 /// A NOTIFY, who sent it, and over which transport.
 #[derive(Drop)]
 pub(crate) struct Notice {
-    pub(crate) peer: Endpoint,
+    pub(crate) peer: Peer,
     pub(crate) transport: Transport,
     pub(crate) bytes: Octets,
 }
@@ -80,7 +80,7 @@ impl NoticeSender {
     pub(crate) fn pass_on<R: time::Clock + Wait>(
         &self,
         rt: &R,
-        peer: Endpoint,
+        peer: Peer,
         transport: Transport,
         bytes: Octets,
     ) -> bool {
@@ -96,7 +96,7 @@ impl NoticeSender {
     }
 
     // Whether a NOTIFY that comes now is looked at, and of whom it is; `None` where it comes too soon behind others.
-    fn admit<R: time::Clock + Wait>(&self, rt: &R, peer: Endpoint) -> Option<NotifyOrigin> {
+    fn admit<R: time::Clock + Wait>(&self, rt: &R, peer: Peer) -> Option<NotifyOrigin> {
         let now = Instant::now(rt).ok()?;
         self.state.notifiers.lock(rt).admit(peer.addr, now)
     }

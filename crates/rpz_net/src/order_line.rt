@@ -4,7 +4,7 @@ use crate::limits::{FRAMES_AHEAD, ORDERS_MOST};
 use crate::wire_state::WireState;
 use crossbeam_channel::{Receiver, Sender, TryRecvError, bounded};
 use dns_name::Octets;
-use edge_io::OrderEnd;
+use server_io::OrderEnd;
 use std::alloc::{AllocError, Global};
 use std::net::{Shutdown, TcpStream};
 use std::sync::atomic::{AtomicBool, Ordering};

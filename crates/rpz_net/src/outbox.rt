@@ -3,7 +3,7 @@
 ghost use Rattle.std.specs.Prelude.{◌≤◌, vec_len};
 
 use crate::limits::OUTBOX_BYTES;
-use edge_io::SendError;
+use server_io::SendError;
 use std::alloc::{AllocError, Global};
 use std::io;
 use std::io::{IoSlice, Write};

@@ -1,22 +1,23 @@
 //! Connections of clients, by peer.
 
 use crate::shared_connection::SharedConnection;
-use edge_io::Endpoint;
 use ip_prefix::Addr;
+use server_io::Peer;
 use std::alloc::Global;
 use std::collections::BTreeMap;
 use std::sync::Arc;
 
-// A peer: its address, whose version has a place of its own, and its port.
+// A peer: its address, whose version has a place of its own, its port, and the listener that it has connected to.
 #[derive(Clone, Copy, PartialEq, Eq, PartialOrd, Ord, Drop)]
 struct PeerKey {
     version: u8,
     bits: u128,
     port: u16,
+    listener: usize,
 }
 
 impl PeerKey {
-    fn of(peer: Endpoint) -> PeerKey {
+    fn of(peer: Peer) -> PeerKey {
         let (version, bits) = match peer.addr {
             Addr::V4(bits) => (4, u128::from(bits)),
             Addr::V6(bits) => (6, bits),
@@ -25,6 +26,7 @@ impl PeerKey {
             version,
             bits,
             port: peer.port,
+            listener: peer.listener,
         }
     }
 }
@@ -44,20 +46,20 @@ impl PeerTable {
     }
 
     /// The connection of a peer, if one is open.
-    pub(crate) fn find(&self, peer: Endpoint) -> Option<Arc<SharedConnection>> {
+    pub(crate) fn find(&self, peer: Peer) -> Option<Arc<SharedConnection>> {
         let connection = self.connections.get(&PeerKey::of(peer))?;
         Arc::try_clone(connection).ok()
     }
 
-    /// Adds a connection. `false` says that there is no memory for it, or that its peer has one: the same port of a client may lead to
-    /// two addresses of the server.
+    /// Adds a connection. `false` says that there is no memory for it, or that its peer has one: where a listener has all addresses of
+    /// the host, the same port of a client may lead to two of them.
     pub(crate) fn add(&mut self, connection: Arc<SharedConnection>) -> bool {
         let key = PeerKey::of(connection.peer());
         !self.connections.contains_key(&key) && self.connections.insert(key, connection).is_ok()
     }
 
     /// Takes the connection of a peer out.
-    pub(crate) fn remove(&mut self, peer: Endpoint) {
+    pub(crate) fn remove(&mut self, peer: Peer) {
         drop(self.connections.remove(&PeerKey::of(peer)));
     }
 }

@@ -7,6 +7,7 @@ use crate::limits::{
     LATE_MILLISECONDS, OUTBOX_BYTES_ALL, PASSING_ERRORS, SHORTAGE_MILLISECONDS, STOP_MILLISECONDS,
     TURN_MESSAGES,
 };
+use crate::listeners::Listeners;
 use crate::notices::NoticeSender;
 use crate::service_state::ServiceState;
 use crate::shared_connection::SharedConnection;
@@ -14,26 +15,26 @@ use crate::shortage::is_shortage;
 use crate::stretch::Stretch;
 use crossbeam_channel::{Sender, TrySendError};
 use dns_name::Octets;
-use edge_io::Endpoint;
+use edge_io::LISTEN_LIMIT;
 use ip_prefix::Transport;
 use mio::event::Event;
 use mio::unix::SourceFd;
 use mio::{Events, Poll, Registry, Token};
+use server_io::Peer;
 use std::alloc::Global;
-use std::net::TcpListener;
 use std::os::fd::AsRawFd;
 use std::sync::{Arc, Wait};
 use std::time::{Duration, Instant};
 use std::{io, mem, time};
 
-/// The token of the listener.
-pub(crate) const CONNECTIONS: Token = Token(0);
-
 /// The token of what wakes the thread.
-pub(crate) const WAKES: Token = Token(1);
+pub(crate) const WAKES: Token = Token(0);
+
+/// The token of the first listener. Those of the others follow.
+pub(crate) const FIRST_LISTENER: usize = 1;
 
 /// The token of the first connection.
-pub(crate) const FIRST: usize = 2;
+pub(crate) const FIRST: usize = FIRST_LISTENER + LISTEN_LIMIT;
 
 /// The connections of clients. A thread of its own has them: it takes new ones, reads whole messages, and sends the replies that a client
 /// doesn't take at once. A connection with whole messages goes into a queue, from which workers take them, and comes back once they were
@@ -44,6 +45,7 @@ pub(crate) struct Reception<R: time::Clock + Wait + Drop> {
     pub(crate) alloc: Global,
     pub(crate) service: Arc<ServiceState>,
     pub(crate) sockets: ReceptionSockets,
+    pub(crate) listeners: Listeners,
     pub(crate) table: ConnectionTable,
     /// To the workers.
     pub(crate) queue: Sender<Stretch<R>>,
@@ -53,8 +55,6 @@ pub(crate) struct Reception<R: time::Clock + Wait + Drop> {
     pub(crate) scratch: Vec<u8>,
     /// An empty list, for the connections that changed.
     pub(crate) changed: Vec<ConnectionPlace>,
-    /// New connections may be there: the system has reported them, and has not refused one since.
-    pub(crate) connections_wait: bool,
     /// When all connections are to be looked at next.
     pub(crate) next_look: Option<Instant>,
 }
@@ -62,7 +62,6 @@ pub(crate) struct Reception<R: time::Clock + Wait + Drop> {
 /// What the thread waits for.
 #[derive(Drop)]
 pub(crate) struct ReceptionSockets {
-    pub(crate) listener: TcpListener,
     pub(crate) poll: Poll,
     pub(crate) events: Events,
 }
@@ -132,7 +131,7 @@ impl<R: time::Clock + Wait + Copy + Drop> Reception<R> {
 
     // How long it may wait for something new.
     fn longest_wait(&self) -> Option<Duration> {
-        if self.connections_wait || self.table.pending.len() > 0 {
+        if self.listeners.any_waits() || self.table.pending.len() > 0 {
             Some(Duration::ZERO)
         } else if self.table.count() == 0 {
             None
@@ -150,8 +149,11 @@ impl<R: time::Clock + Wait + Copy + Drop> Reception<R> {
         };
         for event in self.sockets.events.iter() {
             match event.token() {
-                CONNECTIONS => self.connections_wait = true,
                 WAKES => {}
+                token if token.0 < FIRST => {
+                    let listener = token.0.saturating_sub(FIRST_LISTENER);
+                    self.listeners.set_waits(listener, true);
+                }
                 token => hear(&mut self.table, token, event),
             }
         }
@@ -268,7 +270,7 @@ impl<R: time::Clock + Wait + Copy + Drop> Reception<R> {
         }
     }
 
-    fn take_notify(&mut self, index: usize, now: Instant) -> Option<(Endpoint, Octets)> {
+    fn take_notify(&mut self, index: usize, now: Instant) -> Option<(Peer, Octets)> {
         let connection = self.table.get_mut(index)?;
         let before = connection.gathered();
         let message = connection.take_notify(now);

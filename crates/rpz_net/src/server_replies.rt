@@ -5,13 +5,13 @@ ghost use Rattle.std.specs.Prelude.{◌≡◌, None};
 use crate::client_sink::ClientSink;
 use crate::client_source::ClientSource;
 use crate::service_state::ServiceState;
-use edge_io::{Endpoint, Replies, SendError, StreamEnd};
 use ip_prefix::Transport;
+use server_io::{Peer, Replies, SendError, StreamEnd};
 use std::sync::{Arc, Wait};
 use std::time;
 
-/// Sends replies over the UDP socket of an endpoint and the connections of its clients, and gives these back once their messages were
-/// read. It doesn't tell what it sends.
+/// Sends replies over the UDP socket of the endpoint that a client sent to and the connections of clients, and gives these back once
+/// their messages were read. It doesn't tell what it sends.
 ///
 /// No reply waits. Over UDP each error of the socket is a fault, and so is a full send buffer, at which the reply is lost, as UDP may
 /// lose it. Over TCP it goes out as a frame on the connection of the peer, and what the client doesn't take at once goes out later. It
@@ -45,12 +45,7 @@ impl<R: time::Clock + Wait + Drop> Replies<ClientSource<R>, ClientSink<R>> for S
 
     ghost faults = { λ r. r.faults };
 
-    fn send(
-        &mut self,
-        peer: Endpoint,
-        transport: Transport,
-        bytes: &[u8],
-    ) -> Result<(), SendError> {
+    fn send(&mut self, peer: Peer, transport: Transport, bytes: &[u8]) -> Result<(), SendError> {
         match self.service.send(&self.rt, peer, transport, bytes) {
             Err(SendError::Failed) => {
                 self.faults = self.faults.saturating_add(1);

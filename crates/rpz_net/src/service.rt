@@ -1,37 +1,33 @@
-//! The endpoint that is served.
+//! The endpoints that are served.
 
-use crate::address::address_of;
+use crate::bound_sockets::{BoundSockets, bind_all};
 use crate::connection_changes::ConnectionChanges;
 use crate::connection_inlet::ConnectionInlet;
 use crate::connection_table::ConnectionTable;
 use crate::datagram_inlet::DatagramInlet;
-use crate::limits::{
-    ARRIVAL_SECONDS, CONNECTION_QUEUE, EVENTS, RECEIVE_BUFFER, RECEIVE_BYTES, SEND_BUFFER,
-    WAKE_SECONDS,
-};
+use crate::limits::{CONNECTION_QUEUE, EVENTS, RECEIVE_BYTES, WAKE_SECONDS};
+use crate::listeners::Listeners;
 use crate::notices::{Notice, NoticeReceiver, NoticeSender, Noticed, notices};
 use crate::orders::Orders;
-use crate::reception::{CONNECTIONS, Reception, ReceptionSockets, WAKES};
+use crate::reception::{Reception, ReceptionSockets};
 use crate::server_replies::ServerReplies;
 use crate::service_state::ServiceState;
-use crate::socket_option::{ask_receive_buffer, ask_send_buffer, prepare_listener};
 use crate::stretch::Stretch;
 use crate::thread_starter::{Job, ThreadStarter};
 use crate::time_limit::{moment_after, time_until};
 use crate::wire_state::WireState;
 use crossbeam_channel::{Receiver, Sender, bounded};
-use edge_io::{Endpoint, Wake, WireError};
+use edge_io::Endpoint;
 use ip_prefix::Transport;
-use mio::unix::SourceFd;
-use mio::{Events, Interest, Poll, Waker};
+use mio::{Events, Waker};
+use server_io::{Wake, WireError};
 use std::alloc::{AllocError, Global};
 use std::net::{Net, TcpListener, TcpStream, UdpSocket};
-use std::os::fd::AsRawFd;
 use std::sync::{Arc, Wait};
+use std::time;
 use std::time::Duration;
-use std::{io, time};
 
-/// The endpoint that is served, as the thread has it that has the wires.
+/// The endpoints that are served, as the thread has them that has the wires.
 #[derive(Drop)]
 pub(crate) struct Service<R: time::Clock + Wait + Drop> {
     pub(crate) state: Arc<ServiceState>,
@@ -70,30 +66,10 @@ impl<R: time::Clock + Wait + Drop> Rooms<R> {
     }
 }
 
-// Both sockets, and what waits for connections.
-fn open_sockets<R: Net<Listener = TcpListener, Stream = TcpStream>>(
-    rt: &R,
-    at: Endpoint,
-) -> io::Result<(UdpSocket, TcpListener, Poll, Waker)> {
-    let udp = UdpSocket::bind(rt, address_of(at))?;
-    let listener = rt.bind(address_of(at))?;
-    udp.set_read_timeout(Some(Duration::from_secs(ARRIVAL_SECONDS)))?;
-    listener.set_nonblocking(true)?;
-    prepare_listener(&listener);
-    ask_receive_buffer(&udp, RECEIVE_BUFFER);
-    ask_send_buffer(&udp, SEND_BUFFER);
-    let poll = Poll::new(rt)?;
-    let fd = listener.as_raw_fd();
-    poll.registry()
-        .register(&mut SourceFd(&fd), CONNECTIONS, Interest::READABLE)?;
-    let waker = Waker::new(poll.registry(), WAKES)?;
-    Ok((udp, listener, poll, waker))
-}
-
 // What the threads of a service share, and another handle to it.
 fn shared(
     alloc: Global,
-    udp: UdpSocket,
+    udp: Vec<UdpSocket>,
     waker: Waker,
     wires: &Arc<WireState>,
 ) -> Result<(Arc<ServiceState>, Arc<ServiceState>), AllocError> {
@@ -111,19 +87,21 @@ fn shared(
 impl<R: Net<Listener = TcpListener, Stream = TcpStream> + time::Clock + Wait + Copy + Drop> Service<
     R,
 > {
-    /// Opens the endpoint for datagrams and for connections, whose inlets give so many arrivals in all, and starts the thread for the
-    /// connections. `Failed` comes where it can't be opened.
+    /// Opens these endpoints for datagrams and for connections, whose inlets give so many arrivals in all, and starts the thread for the
+    /// connections. `Failed` comes where not all of them can be opened, where there is none, and where there are too many.
+    /// `refused` then has the one that can't be opened, if it is one of them.
     pub(crate) fn open(
         rt: R,
         alloc: Global,
-        at: Endpoint,
+        all: &[Endpoint],
+        refused: &mut Option<Endpoint>,
         turns: Option<u32>,
         starter: &ThreadStarter<R>,
     ) -> Result<Self, WireError> {
         let Ok(wires) = Arc::try_clone(&starter.state) else {
             return Err(WireError::OutOfMemory);
         };
-        let (service, reception) = Service::parts(rt, alloc, at, wires)?;
+        let (service, reception) = Service::parts(rt, alloc, all, refused, wires)?;
         if let Some(turns) = turns {
             service.state.limit(turns);
         }
@@ -137,12 +115,16 @@ impl<R: Net<Listener = TcpListener, Stream = TcpStream> + time::Clock + Wait + C
     fn parts(
         rt: R,
         alloc: Global,
-        at: Endpoint,
+        all: &[Endpoint],
+        refused: &mut Option<Endpoint>,
         wires: Arc<WireState>,
     ) -> Result<(Self, Reception<R>), WireError> {
-        let Ok((udp, listener, poll, waker)) = open_sockets(&rt, at) else {
-            return Err(WireError::Failed);
-        };
+        let BoundSockets {
+            udp,
+            listeners,
+            poll,
+            waker,
+        } = bind_all(&rt, alloc, all, refused)?;
         let Ok((state, again)) = shared(alloc, udp, waker, &wires) else {
             return Err(WireError::OutOfMemory);
         };
@@ -167,17 +149,13 @@ impl<R: Net<Listener = TcpListener, Stream = TcpStream> + time::Clock + Wait + C
             rt,
             alloc,
             service: again,
-            sockets: ReceptionSockets {
-                listener,
-                poll,
-                events,
-            },
+            sockets: ReceptionSockets { poll, events },
+            listeners: Listeners::new(listeners),
             table: ConnectionTable::new(alloc),
             queue: to_workers,
             notices: Some(another),
             scratch,
             changed: Vec::new(alloc),
-            connections_wait: false,
             next_look: None,
         };
         Ok((service, reception))
@@ -193,10 +171,30 @@ impl<R: time::Clock + Wait + Copy + Drop> Service<R> {
         }
     }
 
-    /// An inlet for datagrams.
-    pub(crate) fn datagrams(&self, rt: R, alloc: Global) -> Result<DatagramInlet<R>, AllocError> {
+    /// An inlet for the datagrams of this listener. `Failed` comes where there is no such listener.
+    pub(crate) fn datagrams(
+        &self,
+        rt: R,
+        alloc: Global,
+        listener: usize,
+    ) -> Result<DatagramInlet<R>, WireError> {
+        if listener >= self.state.sockets.len() {
+            return Err(WireError::Failed);
+        }
+        match self.datagrams_of(rt, alloc, listener) {
+            Ok(inlet) => Ok(inlet),
+            Err(_) => Err(WireError::OutOfMemory),
+        }
+    }
+
+    fn datagrams_of(
+        &self,
+        rt: R,
+        alloc: Global,
+        listener: usize,
+    ) -> Result<DatagramInlet<R>, AllocError> {
         let state = Arc::try_clone(&self.state)?;
-        DatagramInlet::new(rt, alloc, state, self.notice_sender()?)
+        DatagramInlet::new(rt, alloc, state, listener, self.notice_sender()?)
     }
 
     /// An inlet for connections.

@@ -1,4 +1,4 @@
-//! What the threads that serve an endpoint share.
+//! What the threads of a server share.
 
 use crate::connection_changes::ConnectionChanges;
 use crate::datagram::send_datagram;
@@ -7,8 +7,9 @@ use crate::peer_table::PeerTable;
 use crate::shared_connection::SharedConnection;
 use crate::socket_option::end_receiving;
 use crate::wire_state::WireState;
-use edge_io::{ConnectionLimits, Endpoint, SendError};
+use edge_io::ConnectionLimits;
 use ip_prefix::Transport;
+use server_io::{Peer, SendError};
 use std::alloc::Global;
 use std::net::UdpSocket;
 use std::sync::atomic::{AtomicBool, AtomicU64, Ordering};
@@ -17,11 +18,12 @@ use std::sync::{Arc, Mutex, Wait};
 // More than any limit.
 const NO_LIMIT: u64 = u64::MAX;
 
-/// What the threads that serve an endpoint share: its UDP socket, how many arrivals they still give, and whether they have to end.
+/// What the threads of a server share: the UDP sockets of its endpoints, how many arrivals they still give, and whether they have to
+/// end.
 #[derive(Drop)]
 pub(crate) struct ServiceState {
-    /// The socket of the endpoint, which waits for datagrams.
-    pub(crate) socket: UdpSocket,
+    /// The socket of each listener, which waits for datagrams.
+    pub(crate) sockets: Vec<UdpSocket>,
     /// What workers tell the thread that has the connections of clients.
     pub(crate) changes: Arc<ConnectionChanges>,
     /// The connections of clients. The lock is held for a look into this table, and for nothing that waits.
@@ -45,12 +47,12 @@ impl ServiceState {
     /// Nothing was given yet.
     pub(crate) fn new(
         alloc: Global,
-        socket: UdpSocket,
+        sockets: Vec<UdpSocket>,
         changes: Arc<ConnectionChanges>,
         wires: Arc<WireState>,
     ) -> Self {
         ServiceState {
-            socket,
+            sockets,
             changes,
             peers: Mutex::new(PeerTable::new(alloc)),
             wires,
@@ -92,17 +94,18 @@ impl ServiceState {
         }
     }
 
-    /// Sends a reply: as one datagram, or over TCP as a frame on the connection of the peer. It doesn't wait. `Failed` comes where the
-    /// datagram didn't go out, where the peer has no connection, and where that takes no more.
+    /// Sends a reply from the endpoint that its peer sent to: as one datagram, or over TCP as a frame on the connection of the peer. It
+    /// doesn't wait. `Failed` comes where there is no such listener, where the datagram didn't go out, where the peer has no connection,
+    /// and where that takes no more.
     pub(crate) fn send<R: Wait>(
         &self,
         rt: &R,
-        peer: Endpoint,
+        peer: Peer,
         transport: Transport,
         message: &[u8],
     ) -> Result<(), SendError> {
         match transport {
-            Transport::Udp if send_datagram(&self.socket, peer, message) => Ok(()),
+            Transport::Udp if self.send_over_udp(peer, message) => Ok(()),
             Transport::Udp => Err(SendError::Failed),
             Transport::Tcp => match self.connection_of(rt, peer) {
                 Some(connection) => connection.put(rt, message),
@@ -111,8 +114,16 @@ impl ServiceState {
         }
     }
 
+    // Sends a datagram, and says whether it went out.
+    fn send_over_udp(&self, peer: Peer, message: &[u8]) -> bool {
+        match self.sockets.get(peer.listener) {
+            Some(socket) => send_datagram(socket, peer, message),
+            None => false,
+        }
+    }
+
     // The connection of a peer. The lock is not held behind this.
-    fn connection_of<R: Wait>(&self, rt: &R, peer: Endpoint) -> Option<Arc<SharedConnection>> {
+    fn connection_of<R: Wait>(&self, rt: &R, peer: Peer) -> Option<Arc<SharedConnection>> {
         self.peers.lock(rt).find(peer)
     }
 
@@ -143,7 +154,9 @@ impl ServiceState {
     /// Ends the service: all waits for arrivals end at once. Replies still go out.
     pub(crate) fn stop(&self) {
         self.is_stopped.store(true, Ordering::SeqCst);
-        end_receiving(&self.socket);
+        for socket in self.sockets.iter() {
+            end_receiving(socket);
+        }
         self.wake_connections();
     }
 

@@ -3,7 +3,7 @@
 use crate::connection_changes::{ConnectionChanges, ConnectionPlace};
 use crate::limits::OUTBOX_BYTES_ALL;
 use crate::outbox::Outbox;
-use edge_io::{Endpoint, SendError};
+use server_io::{Peer, SendError};
 use std::alloc::Global;
 use std::net::{Shutdown, TcpStream};
 use std::sync::{Arc, Mutex, Wait};
@@ -50,7 +50,7 @@ pub(crate) struct ConnectionView {
 #[derive(Drop)]
 pub(crate) struct SharedConnection {
     stream: TcpStream,
-    peer: Endpoint,
+    peer: Peer,
     place: ConnectionPlace,
     changes: Arc<ConnectionChanges>,
     state: Mutex<State>,
@@ -61,7 +61,7 @@ impl SharedConnection {
     pub(crate) fn new(
         alloc: Global,
         stream: TcpStream,
-        peer: Endpoint,
+        peer: Peer,
         place: ConnectionPlace,
         changes: Arc<ConnectionChanges>,
     ) -> Self {
@@ -87,7 +87,7 @@ impl SharedConnection {
     }
 
     /// The client.
-    pub(crate) fn peer(&self) -> Endpoint {
+    pub(crate) fn peer(&self) -> Peer {
         self.peer
     }
 

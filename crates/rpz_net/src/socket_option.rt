@@ -1,15 +1,44 @@
 //! Options of sockets that std doesn't set.
 
+ghost use Rattle.std.specs.Prelude.{◌↔◌, pos, ◌≤ℤ◌, IsOk};
+
 use crate::limits::{BACKLOG, CLIENT_RECEIVE_BUFFER, CLIENT_SEND_BUFFER, UNREAD_MILLISECONDS};
 use libc::net as c;
+use std::io;
 use std::net::{TcpListener, TcpStream, UdpSocket};
-use std::os::fd::AsRawFd;
+use std::os::fd::{AsRawFd, OwnedFd};
 
 // The value of an option that is a number.
 fn option_value(number: i32) -> [u8; 16] {
     let mut value = [0u8; 16];
     value[..4].copy_from_slice(&number.to_ne_bytes());
     value
+}
+
+/// The error of the call of the system that has just given this number, if it is negative.
+pub(crate) fn status(number: i32) -> io::Result<()>
+    ensures { IsOk result ↔ (pos 0 ≤ℤ number) }
+{
+    if number < 0 {
+        Err(io::Error::from_raw_os_error(os::errno()))
+    } else {
+        Ok(())
+    }
+}
+
+/// Has a socket of version 6 take messages of that version alone (IPV6_V6ONLY, RFC 3493, section 5.3), before it is bound. Else one at
+/// the unspecified address would take those of version 4 as well, where the system is set so.
+pub(crate) fn take_only_version_6(socket: &OwnedFd) -> io::Result<()> {
+    let value = option_value(1);
+    let fd = socket.as_raw_fd();
+    status(unsafe { c::setsockopt(fd, c::IPPROTO_IPV6, c::IPV6_V6ONLY, &value, 4) })
+}
+
+/// Has a socket take an endpoint again whose connections have just ended (SO_REUSEADDR), before it is bound.
+pub(crate) fn take_again(socket: &OwnedFd) -> io::Result<()> {
+    let value = option_value(1);
+    let fd = socket.as_raw_fd();
+    status(unsafe { c::setsockopt(fd, c::SOL_SOCKET, c::SO_REUSEADDR, &value, 4) })
 }
 
 /// Asks the system to keep so many bytes of datagrams that wait (SO_RCVBUF). It gives no more than its own limit, and whatever it

@@ -1,7 +1,7 @@
 //! Messages of a connection for a worker.
 
 use crate::shared_connection::{SharedConnection, StretchEnd};
-use edge_io::Endpoint;
+use server_io::Peer;
 use std::alloc::AllocError;
 use std::sync::{Arc, Wait};
 
@@ -27,7 +27,7 @@ impl<R: Wait + Drop> Stretch<R> {
     }
 
     /// The client.
-    pub(crate) fn client(&self) -> Endpoint {
+    pub(crate) fn client(&self) -> Peer {
         self.connection.peer()
     }
 

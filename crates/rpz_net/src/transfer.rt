@@ -11,9 +11,8 @@ use crate::tcp_sink::TcpSink;
 use crate::tcp_source::TcpSource;
 use crate::time_limit::moment_after;
 use dns_name::Octets;
-use edge_io::{
-    Endpoint, FrameError, FrameFault, OrderEnd, SinkError, WireError, read_frame, write_frame,
-};
+use edge_io::{Endpoint, FrameError, FrameFault, SinkError, read_frame, write_frame};
+use server_io::{OrderEnd, WireError};
 use std::alloc::Global;
 use std::net::{Net, TcpListener, TcpStream};
 use std::sync::Wait;

@@ -1,21 +1,15 @@
 // What comes to a server, and where its threads take it from.
-use crate::{Endpoint, Sink, Source};
+use crate::Peer;
 use dns_name::Octets;
+use edge_io::{Sink, Source};
 
 /// What comes to a server.
 #[derive(Drop)]
 pub enum Arrival<S: Source + Drop, K: Sink + Drop> {
     /// A datagram, and who sent it.
-    Datagram {
-        peer: Endpoint,
-        bytes: Octets,
-    },
+    Datagram { peer: Peer, bytes: Octets },
     /// A connection that a client has opened.
-    Connection {
-        source: S,
-        sink: K,
-        client: Endpoint,
-    },
+    Connection { source: S, sink: K, client: Peer },
 }
 
 /// What an inlet gives.

@@ -1,9 +1,10 @@
 // An order as wires in memory keep it.
 ghost use Rattle.std.specs.Prelude.{◌≡◌};
-ghost use Rattle.edge_io.specs.Wired.{PlainOrder};
+ghost use Rattle.server_io.specs.Wired.{PlainOrder};
 
-use crate::{Endpoint, Order};
+use crate::Order;
 use dns_name::Octets;
+use edge_io::Endpoint;
 use std::marker::Model;
 
 /// A transfer that was ordered, and its order. `None` stands for one that could not be begun.

@@ -1,8 +1,8 @@
 // Transfers that are ordered, and what the thread waits for that orders them.
 ghost use Rattle.std.specs.Prelude.{◌↔◌, IsTrue};
-ghost use Rattle.edge_io.specs.Wired.{IsOrderFault};
+ghost use Rattle.server_io.specs.Wired.{IsOrderFault};
 
-use crate::Endpoint;
+use crate::Peer;
 use dns_name::Octets;
 use ip_prefix::Transport;
 
@@ -58,7 +58,7 @@ pub enum Wake {
     },
     /// A message that is a request with the opcode NOTIFY (RFC 1996), who sent it, and over which transport.
     Notify {
-        peer: Endpoint,
+        peer: Peer,
         transport: Transport,
         bytes: Octets,
     },

@@ -2,17 +2,17 @@
 use Rattle.std.specs.Prelude.{◌≡◌, ℕ, List, [], ◌∷◌, ◌++◌, length, Option, Some, None, Result, Ok, Err, IfOk, IfSome, ⊤}
 use Rattle.std.specs.Option.{option_map}
 use Rattle.std.specs.Result.{result_ok}
-use Rattle.edge_io.specs.Told.{PlainReply}
 use Rattle.edge_io.specs.declared.connection_limits.ConnectionLimits.{ConnectionLimits}
 use Rattle.edge_io.specs.declared.endpoint.Endpoint.{Endpoint}
-use Rattle.edge_io.specs.declared.replies.SendError.{SendError}
-use Rattle.edge_io.specs.declared.wake.Order.{Order}
-use Rattle.edge_io.specs.declared.wake.OrderEnd.{OrderEnd}
-use Rattle.edge_io.specs.declared.wake.OrderEnd.TheVariants.{ReadFault, WriteFault, FetchFault}
-use Rattle.edge_io.specs.declared.wake.Wake.{Wake}
-use Rattle.edge_io.specs.declared.wake.Wake.TheVariants as wake
-use Rattle.edge_io.specs.declared.wires.WireError.{WireError}
-use Rattle.edge_io.specs.declared.wires.WireError.TheVariants.{OutOfMemory, Failed}
+use Rattle.server_io.specs.Told.{PlainReply}
+use Rattle.server_io.specs.declared.replies.SendError.{SendError}
+use Rattle.server_io.specs.declared.wake.Order.{Order}
+use Rattle.server_io.specs.declared.wake.OrderEnd.{OrderEnd}
+use Rattle.server_io.specs.declared.wake.OrderEnd.TheVariants.{ReadFault, WriteFault, FetchFault}
+use Rattle.server_io.specs.declared.wake.Wake.{Wake}
+use Rattle.server_io.specs.declared.wake.Wake.TheVariants as wake
+use Rattle.server_io.specs.declared.wires.WireError.{WireError}
+use Rattle.server_io.specs.declared.wires.WireError.TheVariants.{OutOfMemory, Failed}
 
 -- a transfer that was ordered of a primary server by this request, and its order; `None` where it could not be begun
 pub record PlainOrder : Type 0 where
@@ -22,11 +22,13 @@ pub record PlainOrder : Type 0 where
 
 -- What wires tell: what was asked of them so far, each in order, and the wakes that are still to come. Of the wakes `None` stands
 -- for a wait that fails, and behind the last comes `Ended`, ever after. `turns` is how many arrivals are taken, and `admitted` how
--- many connections of clients may be open, where that was said.
+-- many connections of clients may be open, where that was said. `inlets` has, for each inlet for datagrams that was asked for, the
+-- place of its endpoint in the list that was bound last.
 pub record PlainWires : Type 0 where
   pub turns : Option ℕ
   pub admitted : Option ConnectionLimits
   pub bound : List Endpoint
+  pub inlets : List ℕ
   pub linked : List Endpoint
   pub ordered : List PlainOrder
   pub answered : List PlainReply
@@ -39,6 +41,7 @@ new_wires wakes =
       turns = None;
       admitted = None;
       bound = [];
+      inlets = [];
       linked = [];
       ordered = [];
       answered = [];
@@ -52,8 +55,11 @@ with_turns turns wires = record wires { turns = Some turns }
 abbrev pub with_admitted : ConnectionLimits → PlainWires → PlainWires
 with_admitted limits wires = record wires { admitted = Some limits }
 
-abbrev pub with_bound : Endpoint → PlainWires → PlainWires
-with_bound at wires = record wires { bound = wires.bound ++ at ∷ [] }
+abbrev pub with_bound : List Endpoint → PlainWires → PlainWires
+with_bound all wires = record wires { bound = wires.bound ++ all }
+
+abbrev pub with_inlet : ℕ → PlainWires → PlainWires
+with_inlet listener wires = record wires { inlets = wires.inlets ++ listener ∷ [] }
 
 abbrev pub with_linked : Endpoint → PlainWires → PlainWires
 with_linked at wires = record wires { linked = wires.linked ++ at ∷ [] }

@@ -1,14 +1,14 @@
 // Wires in memory.
 ghost use Rattle.std.specs.Prelude.{◌≡◌, ◌≤◌, ◌<◌, ◌++◌, [], ◌∷◌, Some, IfOk, map, vec_len, vec_capacity};
 ghost use Rattle.edge_io.specs.Edge.{Rose};
-ghost use Rattle.edge_io.specs.Wired.{BlamesOrder, new_wires};
+ghost use Rattle.server_io.specs.Wired.{BlamesOrder, new_wires};
 
 use crate::list_inlet::{ArrivalQueue, ListInlet};
 use crate::{
-    Arrival, ConnectionLimits, Endpoint, Link, Order, Replies, Schedule, SendError, SentOrder,
-    SentReply, Sink, Source, Wake, WireError, Wires,
+    Arrival, Order, Peer, Replies, SendError, SentOrder, SentReply, Wake, WireError, Wires,
 };
 use dns_name::Octets;
+use edge_io::{ConnectionLimits, Endpoint, Link, Schedule, Sink, Source};
 use ip_prefix::Transport;
 use std::alloc::{AllocError, Global};
 use std::collections::VecDeque;
@@ -39,8 +39,9 @@ impl<S: Source + Drop, K: Sink + Drop> WireStage<S, K> {
 }
 
 /// Wires in memory. Each wait is one of a list of stages. The inlets end behind the last stage, by `stop`, or at the limit of
-/// arrivals; the wake `Ended` doesn't wait for that. Links and places for replies are handed out from lists, and a call behind
-/// the last of its list fails. Other calls fail where they are told to.
+/// arrivals; the wake `Ended` doesn't wait for that. The inlets for datagrams of all listeners take from one queue, whatever the
+/// listener of a peer is. Links and places for replies are handed out from lists, and a call behind the last of its list fails, as
+/// does one for an inlet of a listener that there is not. Other calls fail where they are told to.
 #[derive(Drop)]
 pub struct ListWires<
     S: Source + Drop,
@@ -62,8 +63,12 @@ pub struct ListWires<
     pub admitted: Option<ConnectionLimits>,
     // How many more are handed to inlets.
     left: u64,
-    /// The endpoints that `bind` was given, in order. One whose call ran out of memory is not among them.
+    /// The endpoints that `bind` was given, in order. Those of a call that ran out of memory are not among them.
     pub bound: Vec<Endpoint>,
+    /// The listeners that `datagrams` was given, likewise.
+    pub inlets: Vec<usize>,
+    // How many endpoints were bound last.
+    listeners: usize,
     /// The endpoints that `link` was given, likewise.
     pub linked: Vec<Endpoint>,
     /// The transfers that were ordered, likewise.
@@ -126,6 +131,8 @@ impl<
             admitted: None,
             left: u64::MAX,
             bound: Vec::new(alloc),
+            inlets: Vec::new(alloc),
+            listeners: 0,
             linked: Vec::new(alloc),
             ordered: Vec::new(alloc),
             answered: Vec::new(alloc),
@@ -191,6 +198,7 @@ impl<
       turns = w.turns;
       admitted = w.admitted;
       bound = w.bound.items;
+      inlets = w.inlets.items;
       linked = w.linked.items;
       ordered = w.ordered.items;
       answered = w.answered.items;
@@ -210,13 +218,14 @@ impl<
         self.admitted = Some(limits);
     }
 
-    fn bind(&mut self, at: Endpoint) -> Result<(), WireError> {
-        if self.bound.push(at).is_err() {
+    fn bind(&mut self, all: &[Endpoint]) -> Result<(), WireError> {
+        if self.bound.extend_from_slice(all).is_err() {
             return Err(WireError::OutOfMemory);
         }
         if self.schedule.fails_now() {
             return Err(WireError::Failed);
         }
+        self.listeners = all.len();
         Ok(())
     }
 
@@ -237,14 +246,20 @@ impl<
         }
     }
 
-    fn datagrams(&mut self) -> Result<ListInlet<S, K, R>, WireError> {
+    fn datagrams(&mut self, listener: usize) -> Result<ListInlet<S, K, R>, WireError> {
+        let Ok(inlet) = self.datagrams.inlet(self.rt) else {
+            return Err(WireError::OutOfMemory);
+        };
+        if self.inlets.push(listener).is_err() {
+            return Err(WireError::OutOfMemory);
+        }
         if self.schedule.fails_now() {
             return Err(WireError::Failed);
         }
-        match self.datagrams.inlet(self.rt) {
-            Ok(inlet) => Ok(inlet),
-            Err(_) => Err(WireError::OutOfMemory),
+        if listener >= self.listeners {
+            return Err(nothing_left(&mut self.schedule));
         }
+        Ok(inlet)
     }
 
     fn connections(&mut self) -> Result<ListInlet<S, K, R>, WireError> {
@@ -302,12 +317,7 @@ impl<
         }
     }
 
-    fn answer(
-        &mut self,
-        peer: Endpoint,
-        transport: Transport,
-        bytes: &[u8],
-    ) -> Result<(), SendError> {
+    fn answer(&mut self, peer: Peer, transport: Transport, bytes: &[u8]) -> Result<(), SendError> {
         if self.schedule.fails_now() {
             return Err(SendError::Failed);
         }

@@ -2,12 +2,11 @@
 ghost use Rattle.std.specs.Prelude.{◌≡◌, ◌≤◌, ℕ, Option, Err, length};
 ghost use Rattle.std.specs.Option.{option_map};
 ghost use Rattle.edge_io.specs.Edge.{Rose};
-ghost use Rattle.edge_io.specs.Wired.{BlamesOrder, GivesNext, IsNextOrder, PlainWires, after_call, after_send, plain_order, with_bound, with_admitted, with_later_wakes, with_linked, with_ordered, with_turns};
 ghost use Rattle.edge_io.specs.declared.frame.TheConstants.{FRAME_MAX};
+ghost use Rattle.server_io.specs.Wired.{BlamesOrder, GivesNext, IsNextOrder, PlainWires, after_call, after_send, plain_order, with_admitted, with_bound, with_inlet, with_later_wakes, with_linked, with_ordered, with_turns};
 
-use crate::{
-    ConnectionLimits, Endpoint, Inlet, Link, Order, Replies, SendError, Sink, Source, Wake,
-};
+use crate::{Inlet, Order, Peer, Replies, SendError, Wake};
+use edge_io::{ConnectionLimits, Endpoint, Link, Sink, Source};
 use ip_prefix::Transport;
 
 /// Why a call of the wires gave nothing.
@@ -24,6 +23,8 @@ pub enum WireError {
 ///
 /// The threads that answer clients take arrivals from inlets. One thread has the wires: it binds, links and orders transfers,
 /// and waits for what comes of them. No call waits for a client, a primary server or the upstream.
+///
+/// A listener is an endpoint that is served. Its number is its place in the list that was bound last, from 0 on.
 pub trait Wires {
     /// The reading side of a connection that a client has opened.
     type In: Source + Drop + Send + 'static;
@@ -67,9 +68,9 @@ pub trait Wires {
         ensures orders { order_faults self.new ≡ order_faults self.old }
         ensures count { faults self.new ≡ faults self.old };
 
-    /// Opens the endpoint, for datagrams and for connections.
-    fn bind(&mut self, at: Endpoint) -> Result<(), WireError>
-        ensures told { told self.new ≡ after_call (with_bound at) result (told self.old) }
+    /// Opens these endpoints, each for datagrams and for connections: all of them, or none.
+    fn bind(&mut self, all: &[Endpoint]) -> Result<(), WireError>
+        ensures told { told self.new ≡ after_call (with_bound all.now) result (told self.old) }
         ensures orders { order_faults self.new ≡ order_faults self.old }
         ensures count { faults self.old ≤ faults self.new }
         ensures failed { result ≡ Err WireError.Failed → Rose (faults self.old) (faults self.new) }
@@ -83,7 +84,7 @@ pub trait Wires {
         ensures failed { result ≡ Err WireError.Failed → Rose (faults self.old) (faults self.new) }
         ensures no_room { result ≡ Err WireError.OutOfMemory → faults self.new ≡ faults self.old };
 
-    /// Makes a place where replies go, from the endpoint that was opened.
+    /// Makes a place where replies go, each from the endpoint that its peer sent to.
     fn replies(&mut self) -> Result<Self::Back, WireError>
         ensures told { told self.new ≡ told self.old }
         ensures orders { order_faults self.new ≡ order_faults self.old }
@@ -91,15 +92,15 @@ pub trait Wires {
         ensures failed { result ≡ Err WireError.Failed → Rose (faults self.old) (faults self.new) }
         ensures no_room { result ≡ Err WireError.OutOfMemory → faults self.new ≡ faults self.old };
 
-    /// Makes an inlet for datagrams. Each thread that takes some has one of its own.
-    fn datagrams(&mut self) -> Result<Self::Datagrams, WireError>
-        ensures told { told self.new ≡ told self.old }
+    /// Makes an inlet for the datagrams that come to this listener. Each thread that takes some has one of its own.
+    fn datagrams(&mut self, listener: usize) -> Result<Self::Datagrams, WireError>
+        ensures told { told self.new ≡ after_call (with_inlet listener) result (told self.old) }
         ensures orders { order_faults self.new ≡ order_faults self.old }
         ensures count { faults self.old ≤ faults self.new }
         ensures failed { result ≡ Err WireError.Failed → Rose (faults self.old) (faults self.new) }
         ensures no_room { result ≡ Err WireError.OutOfMemory → faults self.new ≡ faults self.old };
 
-    /// Makes an inlet for connections of clients. Each thread that takes some has one of its own.
+    /// Makes an inlet for connections of clients, to all listeners. Each thread that takes some has one of its own.
     fn connections(&mut self) -> Result<Self::Connections, WireError>
         ensures told { told self.new ≡ told self.old }
         ensures orders { order_faults self.new ≡ order_faults self.old }
@@ -140,13 +141,9 @@ pub trait Wires {
         ensures no_room { result ≡ Err WireError.OutOfMemory →
             (order_faults self.new ≡ order_faults self.old) × (faults self.new ≡ faults self.old) };
 
-    /// Sends a reply to a NOTIFY: as one datagram, or over TCP as a frame on the connection of this peer. It doesn't wait.
-    fn answer(
-        &mut self,
-        peer: Endpoint,
-        transport: Transport,
-        bytes: &[u8],
-    ) -> Result<(), SendError>
+    /// Sends a reply to a NOTIFY from the endpoint that its peer sent to: as one datagram, or over TCP as a frame on the connection of
+    /// this peer. It doesn't wait.
+    fn answer(&mut self, peer: Peer, transport: Transport, bytes: &[u8]) -> Result<(), SendError>
         ensures told { told self.new ≡
             after_send (record { peer = peer; transport = transport; bytes = bytes.now }) result
             (told self.old) }

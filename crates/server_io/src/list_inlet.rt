@@ -1,6 +1,7 @@
 // Inlets in memory, and the queues that they take from.
-use crate::{Arrival, Inlet, Received, Sink, Source};
+use crate::{Arrival, Inlet, Received};
 use crossbeam_channel::{Receiver, Sender, bounded};
+use edge_io::{Sink, Source};
 use std::alloc::{AllocError, Global};
 use std::sync::Wait;
 

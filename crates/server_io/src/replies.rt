@@ -2,11 +2,13 @@
 ghost use Rattle.std.specs.Prelude.{◌≡◌, ◌≤◌, ℕ, List, [], Option, Some, None, Err};
 ghost use Rattle.std.specs.Option.{option_map};
 ghost use Rattle.edge_io.specs.Edge.{Rose};
-ghost use Rattle.edge_io.specs.Told.{PlainReply, Closings, more_if_ok, closed_more};
-ghost use Rattle.edge_io.specs.declared.replies.SendError.TheVariants.{OutOfMemory};
+ghost use Rattle.edge_io.specs.Told.{more_if_ok};
+ghost use Rattle.server_io.specs.Told.{PlainReply, Closings, closed_more};
+ghost use Rattle.server_io.specs.declared.replies.SendError.TheVariants.{OutOfMemory};
 
-use crate::{Endpoint, Schedule, Sink, Source};
+use crate::Peer;
 use dns_name::Octets;
+use edge_io::{Schedule, Sink, Source};
 use ip_prefix::Transport;
 use std::alloc::{AllocError, AllocFailed, Global};
 use std::marker::Model;
@@ -65,8 +67,8 @@ pub trait Replies<S: Source, K: Sink> {
     /// How often a send has failed. It never falls, and stands still at 2^64 - 1.
     ghost faults: { Self → ℕ };
 
-    /// Sends a reply: as one datagram, or over TCP as a frame on the connection of this peer.
-    fn send(&mut self, peer: Endpoint, transport: Transport, bytes: &[u8]) -> Result<(), SendError>
+    /// Sends a reply from the endpoint that its peer sent to: as one datagram, or over TCP as a frame on the connection of this peer.
+    fn send(&mut self, peer: Peer, transport: Transport, bytes: &[u8]) -> Result<(), SendError>
         ensures sent { sent self.new ≡
             more_if_ok (sent self.old) result
             (record { peer = peer; transport = transport; bytes = bytes.now }) }
@@ -86,7 +88,7 @@ pub trait Replies<S: Source, K: Sink> {
 /// A reply that was sent. Contracts see its peer, its transport and its bytes.
 #[derive(Drop)]
 pub struct SentReply {
-    pub peer: Endpoint,
+    pub peer: Peer,
     pub transport: Transport,
     pub bytes: Octets,
 }
@@ -98,7 +100,7 @@ impl Model for SentReply {
 }
 
 impl SentReply {
-    pub(crate) fn new(peer: Endpoint, transport: Transport, bytes: Octets) -> Self
+    pub(crate) fn new(peer: Peer, transport: Transport, bytes: Octets) -> Self
         ensures peer { result.peer ≡ peer }
         ensures transport { result.transport ≡ transport }
         ensures bytes { result.bytes ≡ bytes }
@@ -153,12 +155,7 @@ impl<S: Source + Drop, K: Sink + Drop> Replies<S, K> for ListReplies<S, K> {
 
     ghost faults = { λ r. r.schedule.faults };
 
-    fn send(
-        &mut self,
-        peer: Endpoint,
-        transport: Transport,
-        bytes: &[u8],
-    ) -> Result<(), SendError> {
+    fn send(&mut self, peer: Peer, transport: Transport, bytes: &[u8]) -> Result<(), SendError> {
         if self.schedule.fails_now() {
             return Err(SendError::Failed);
         }
