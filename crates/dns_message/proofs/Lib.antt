@@ -21,3 +21,4 @@ pub mod DataLoop
 pub mod Drafts
 pub mod Fronts
 pub mod ProgressSteps
+pub mod Outside

@@ -1,5 +1,5 @@
 -- What is done with the bytes that a client sent (RFC 1035, section 4.1.1; RFC 6891; RFC 6895, section 2.3).
-use Rattle.std.specs.Prelude.{ℕ, ◌==◌, nat_le, nat_lt, Bool, true, false, not, ◌&&◌, ◌||◌, if◌then◌else◌, List, [], length, Option, Some, None, Result, Ok, Err}
+use Rattle.std.specs.Prelude.{ℕ, ◌+◌, ◌==◌, nat_le, nat_lt, Bool, true, false, not, ◌&&◌, ◌||◌, if◌then◌else◌, List, [], length, Option, Some, None, Result, Ok, Err}
 use Rattle.ip_prefix.specs.declared.Addr.{Addr}
 use Rattle.ip_prefix.specs.declared.Transport.{Transport}
 use Rattle.dns_record.specs.declared.rtype.TheConstants.{AXFR, IXFR}
@@ -13,7 +13,9 @@ use Rattle.dns_message.specs.declared.question.Question.{Question}
 use Rattle.dns_message.specs.declared.request.Incoming.{Incoming}
 use Rattle.dns_message.specs.declared.triage.TheConstants.{NO_ERROR, FORMAT_ERROR, NOT_IMPLEMENTED, REFUSED}
 use Rattle.dns_message.specs.declared.request.Incoming.TheVariants.{Silent, Refuse, Query as Asks}
-use Rattle.dns_message.specs.Reading.{header_in, message_of}
+use Rattle.dns_record.specs.Number.{number_at}
+use Rattle.dns_message.specs.Reading.{header_in, message_of, question_at}
+use Rattle.dns_message.specs.Spelling.{question_octets}
 
 -- The bytes are long enough for a header, and QR is 0. Anything else gets no reply, so
 -- that no two servers answer each other without end.
@@ -118,10 +120,31 @@ request_outcome h None client transport = Refuse (header_alone FORMAT_ERROR h)
 request_outcome h (Some asked) client transport =
     query_or_refusal h asked.0 asked.1 client transport
 
--- What is done with the bytes.
-unfoldable pub incoming_of : List ℕ → Addr → Transport → Incoming
-incoming_of bytes client transport =
+abbrev pub question_read : Result (Question × ℕ) MessageFault → Option Question
+question_read (Ok read) = Some read.0
+question_read (Err fault) = None
+
+-- The question of a request, where its header announces one that can be read. Nothing behind it is looked at.
+unfoldable pub first_question : List ℕ → Option Question
+first_question bytes =
+    if number_at 2 bytes 4 == 1 then question_read (question_at bytes 12) else None
+
+-- the question, where a header and it alone have at most so many octets
+abbrev pub question_within : ℕ → Option Question → Option Question
+question_within most None = None
+question_within most (Some question) =
+    if nat_le (12 + length (question_octets (Some question))) most then Some question else None
+
+-- What a client gets that may not ask: REFUSED, whatever it sent, and no more octets than it sent.
+unfoldable pub turned_away : List ℕ → Message
+turned_away bytes =
+    refusal REFUSED (header_in bytes) (question_within (length bytes) (first_question bytes)) None
+
+-- What is done with the bytes of a client that may ask, or may not.
+unfoldable pub incoming_of : Bool → List ℕ → Addr → Transport → Incoming
+incoming_of may_ask bytes client transport =
     if not (speaks_in bytes) then Silent
+    else (if not may_ask then Refuse (turned_away bytes)
     else (if (header_in bytes).opcode == 0
     then request_outcome (header_in bytes) (query_parts_in (message_of bytes)) client transport
-    else Refuse (header_alone NOT_IMPLEMENTED (header_in bytes)))
+    else Refuse (header_alone NOT_IMPLEMENTED (header_in bytes))))

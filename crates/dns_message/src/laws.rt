@@ -1,13 +1,15 @@
 //! Laws of messages. Each function is its clauses, and does nothing.
 
-ghost use Rattle.std.specs.Prelude.{◌≡◌, ℕ, ◌+◌, ◌<◌, List, length, take, Ok, Err};
+ghost use Rattle.std.specs.Prelude.{◌≡◌, ℕ, ◌+◌, ◌<◌, ◌≤◌, true, List, length, take, Ok, Err};
 ghost use Rattle.dns_record.specs.Number.{AreOctets};
 ghost use Rattle.dns_message.specs.declared.fault.MessageFault.{MessageFault};
 ghost use Rattle.dns_message.specs.declared.message.Message.{Message};
-ghost use Rattle.dns_message.specs.Compressed.{compressed_message};
+ghost use Rattle.dns_message.specs.declared.limit.TheConstants.{LEAST_LIMIT};
+ghost use Rattle.dns_message.specs.Compressed.{compressed_message, compressed_within};
 ghost use Rattle.dns_message.specs.Faults.{MessageShows};
 ghost use Rattle.dns_message.specs.Grammar.{MessageAt};
 ghost use Rattle.dns_message.specs.Reading.{message_of};
+ghost use Rattle.dns_message.specs.Request.{speaks_in, turned_away};
 ghost use Rattle.dns_message.specs.Spelling.{header_octets, message_octets, opt_count, question_count, IsMessage};
 
 /// Exactly the messages that the bytes are by the rules of the grammar are read, and exactly the faults are given
@@ -41,4 +43,10 @@ pub fn a_compressed_message_begins_with_its_header()
     ensures { (m : Message) (z : ℕ) → take 12 (compressed_message z m)
         ≡ header_octets z m.header (question_count m.question) (length m.answer)
         (length m.authority) (length m.additional + opt_count m.edns) }
+{}
+
+/// What a client gets that may not ask is no longer than what it sent.
+pub fn a_client_outside_gets_no_more_than_it_sent()
+    ensures { (bytes : List ℕ) → speaks_in bytes ≡ true →
+        length (compressed_within LEAST_LIMIT (turned_away bytes)) ≤ length bytes }
 {}

@@ -31,7 +31,7 @@ pub use record_refs::RecordRefs;
 pub use request::{Incoming, Query};
 pub use triage::{
     FORMAT_ERROR, NO_ERROR, NOT_IMPLEMENTED, REFUSED, classify, has_later_version,
-    read_query_parts, refusal, speaks,
+    read_query_parts, refusal, speaks, turned_away,
 };
 pub use writing::{write_full, write_parts, write_start};
 pub use written::WrittenRecords;

@@ -1,6 +1,7 @@
 //! Reads a message.
 
 ghost use Rattle.std.specs.Prelude.{◌≡◌, ◌+◌, ◌/◌, ◌%◌, ◌<◌, ◌≤◌, length, slice_index, IfOk};
+ghost use Rattle.dns_message.specs.Request.{first_question};
 ghost use Rattle.dns_message.specs.Reading.{Gives, is_set as bit_is_set, header_in, after_octets, question_at, questions_at, records_at, sections_of, message_of};
 
 use crate::fault::{MessageError, MessageFault};
@@ -11,7 +12,7 @@ use crate::question::Question;
 use dns_name::{NameError, NameReader};
 use dns_record::number::u16_at;
 use dns_record::{Records, read_record_of};
-use std::alloc::Global;
+use std::alloc::{AllocError, Global};
 
 /// The message that the bytes are, or the first fault: that of the first byte that shows one, and where all
 /// records are read, `Trailing` before `TwoOpts`. The three bits Z of the header are ignored, and so
@@ -77,6 +78,23 @@ fn is_set(value: u8, byte: u8) -> bool
     ensures { result ≡ bit_is_set value byte }
 {
     byte / value % 2 == 1
+}
+
+/// The question of a message of at least 12 bytes, where its header announces one that can be read. Nothing behind it is looked at.
+#[tactic(auto, unfolding(crate::specs::Request::first_question))]
+pub fn read_first_question(alloc: Global, bytes: &[u8]) -> Result<Option<Question>, AllocError>
+    requires { 12 ≤ length bytes.now }
+    ensures { IfOk result (λ question. question ≡ first_question bytes.now) }
+{
+    if u16_at(bytes, 4) != 1 {
+        return Ok(None);
+    }
+    let mut names = NameReader::new(alloc, bytes);
+    match read_question(alloc, &mut names, 12) {
+        Ok((question, _after)) => Ok(Some(question)),
+        Err(MessageError::Fault(_)) => Ok(None),
+        Err(MessageError::OutOfMemory) => Err(AllocError),
+    }
 }
 
 // No question or one behind the header, and the place after it.

@@ -1,7 +1,9 @@
 //! The triage of requests.
 
-ghost use Rattle.std.specs.Prelude.{◌≡◌, IfOk};
+ghost use Rattle.std.specs.Prelude.{◌≡◌, ◌+◌, ◌≤◌, nat_le, length, Some, IfOk};
 ghost use Rattle.dns_message.specs.Reading.{message_of};
+ghost use Rattle.dns_message.specs.Spelling.{question_octets};
+ghost use Rattle.dns_message.specs.Request as form;
 ghost use Rattle.dns_message.specs.Request.{speaks_in, refusal as refusal_of, query_parts as asked_by, query_parts_in, has_later_version as later_version, is_served as serves, query_or_refusal as answered_by, incoming_of};
 
 use crate::edns::{BAD_VERSION, EDNS_VERSION, Edns, reply_edns};
@@ -9,7 +11,7 @@ use crate::fault::MessageError;
 use crate::header::Header;
 use crate::message::Message;
 use crate::question::Question;
-use crate::reading::{read_header, read_message};
+use crate::reading::{read_first_question, read_header, read_message};
 use crate::request::{Incoming, Query};
 use dns_record::{Records, class, rtype};
 use ip_prefix::{Addr, Transport};
@@ -35,10 +37,11 @@ pub fn speaks(bytes: &[u8]) -> bool
     bytes.len() >= 12 && !read_header(bytes).qr
 }
 
-/// What is done with the bytes that a client sent (RFC 1035, section 4.1.1; the response codes are those of
+/// What is done with the bytes of a client that may ask, or may not (RFC 1035, section 4.1.1; the response codes are those of
 /// RFC 6895, section 2.3). In this order:
 ///
 /// - `Silent` for under 12 bytes, and for a response;
+/// - `Refuse` with 5 (refused) for a client that may not ask, whatever it sent: see [`turned_away`];
 /// - `Refuse` with the response code 4 (not implemented) and the header alone for an opcode other than 0;
 /// - `Refuse` with 1 (format error) and the header alone where the bytes are no message, or one without a
 ///   question;
@@ -53,14 +56,18 @@ pub fn speaks(bytes: &[u8]) -> bool
 #[tactic(auto, unfolding(crate::specs::Request::incoming_of))]
 pub fn classify(
     alloc: Global,
+    may_ask: bool,
     bytes: &[u8],
     client: Addr,
     transport: Transport,
 ) -> Result<Incoming, AllocError>
-    ensures { IfOk result (λ i. i ≡ incoming_of bytes.now client transport) }
+    ensures { IfOk result (λ i. i ≡ incoming_of may_ask bytes.now client transport) }
 {
     if !speaks(bytes) {
         return Ok(Incoming::Silent);
+    }
+    if !may_ask {
+        return Ok(Incoming::Refuse(turned_away(alloc, bytes)?));
     }
     let header = read_header(bytes);
     if header.opcode != 0 {
@@ -72,6 +79,43 @@ pub fn classify(
             alloc, &header, question, edns, client, transport,
         )),
     }
+}
+
+/// What a client gets that may not ask: REFUSED, with its question as it came, where the header announces one that can be read and the
+/// reply is no longer than what it sent; else the header alone. There is no OPT record. Nothing behind the question is looked at.
+#[tactic(auto, unfolding(crate::specs::Request::turned_away))]
+pub fn turned_away(alloc: Global, bytes: &[u8]) -> Result<Message, AllocError>
+    requires { 12 ≤ length bytes.now }
+    ensures { IfOk result (λ m. m ≡ form.turned_away bytes.now) }
+{
+    let question = read_first_question(alloc, bytes)?;
+    let header = read_header(bytes);
+    Ok(refusal(
+        alloc,
+        REFUSED,
+        &header,
+        question_within(bytes.len(), question),
+        None,
+    ))
+}
+
+// The question, where a header and it alone have at most so many bytes.
+fn question_within(most: usize, question: Option<Question>) -> Option<Question>
+    ensures { result ≡ form.question_within most question }
+{
+    let question = question?;
+    if is_within(most, &question) {
+        Some(question)
+    } else {
+        None
+    }
+}
+
+// Whether a header and this question have at most so many bytes.
+fn is_within(most: usize, question: &Question) -> bool
+    ensures { result ≡ nat_le (12 + length (question_octets (Some question.now))) most }
+{
+    question.name.octets().len() + 16 <= most
 }
 
 /// What a well formed request asks and what its OPT record says, or none where the bytes are no message, or one without a

@@ -1,5 +1,5 @@
 -- The summary of a load: what the replies to all its queries come to. It knows nothing of workers.
-use Rattle.std.specs.Prelude.{ℕ, ◌+◌, ◌*◌, ◌%◌, ◌^◌, ◌==◌, ◌&&◌, Bool, false, not, List, [], ◌∷◌, ◌++◌, length, map, flat_map, fold, count_by, slice_index, Option, Some, None, codes, decimal}
+use Rattle.std.specs.Prelude.{ℕ, ◌+◌, ◌*◌, ◌%◌, ◌^◌, ◌==◌, ◌&&◌, Bool, true, false, not, List, [], ◌∷◌, ◌++◌, length, map, flat_map, fold, count_by, slice_index, Option, Some, None, codes, decimal}
 use Rattle.dns_name.specs.Labels.{Name}
 use Rattle.ip_prefix.specs.declared.Transport.TheVariants.{Udp}
 use Rattle.dns_record.specs.declared.soa.Soa.{Soa}
@@ -60,9 +60,9 @@ abbrev pub last_turn : PlainPolicy → Incoming → Turn
 last_turn policy incoming =
     turn_by policy incoming (facts_after policy incoming upstream FACT_LIMIT [])
 
--- what is said to a query, which came over UDP
+-- what is said to a query, which came over UDP from a client that may ask
 abbrev pub turn_for : PlainPolicy → LoadQuery → Turn
-turn_for policy query = last_turn policy (incoming_of query.message query.client Udp)
+turn_for policy query = last_turn policy (incoming_of true query.message query.client Udp)
 
 -- the bytes of a reply
 abbrev pub reply_octets : Turn → List ℕ

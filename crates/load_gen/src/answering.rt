@@ -57,7 +57,7 @@ fn turn_for(
     let policy = Arc::try_clone(policy)?;
     let message = query.message.as_slice();
     let udp = Transport::Udp;
-    let mut session = Session::start(alloc, KNOWN_KEY, policy, message, query.client, udp)?;
+    let mut session = Session::start(alloc, KNOWN_KEY, policy, true, message, query.client, udp)?;
     last_turn(alloc, &mut session)
 }
 

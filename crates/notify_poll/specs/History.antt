@@ -1,11 +1,11 @@
 -- What happens to timers over time, the latest first.
-use Rattle.std.specs.Prelude.{◌≡◌, ℕ, ◌+◌, ◌==◌, Bool, true, false, List, [], ◌∷◌, filter, slice_get, Some}
+use Rattle.std.specs.Prelude.{◌≡◌, ℕ, ◌+◌, ◌==◌, Bool, true, false, List, [], ◌∷◌, filter, position, slice_get, Some}
 use Rattle.dns_name.specs.Labels.{Name}
 use Rattle.dns_name.specs.Alike.{same_name}
 use Rattle.dns_record.specs.declared.rtype.TheConstants.{SOA}
 use Rattle.dns_record.specs.declared.class.TheConstants.{IN}
 use Rattle.dns_message.specs.Reading.{header_in, message_of}
-use Rattle.dns_message.specs.Request.{QueryParts, query_parts_in, speaks_in}
+use Rattle.dns_message.specs.Request.{QueryParts, has_later_version, query_parts_in, speaks_in}
 use Rattle.ip_prefix.specs.declared.Addr.{Addr}
 use Rattle.notify_poll.specs.declared.notifying.TheConstants.{NOTIFY}
 use Rattle.notify_poll.specs.declared.timer.Polling.{Polling}
@@ -86,3 +86,10 @@ pub record IsNotifyOf (bytes : List ℕ) (client : Addr) (origins : List Name) (
   pub is_origin : slice_get origins place ≡ Some origin
   pub is_named : same_name asked.0.name origin ≡ true
   pub is_from : is_from_primary (slice_get timers place) client ≡ true
+
+-- it is served, and the zone is the first of the list that has the origin
+pub record IsFirstNotifyOf (bytes : List ℕ) (client : Addr) (origins : List Name)
+    (timers : List Timer) (place : ℕ) : Type 0 where
+  pub of : IsNotifyOf bytes client origins timers place
+  pub is_served : has_later_version of.asked.1 ≡ false
+  pub is_first : position (same_name of.asked.0.name) origins ≡ Some place

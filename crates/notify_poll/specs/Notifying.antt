@@ -1,6 +1,7 @@
 -- What a NOTIFY is answered, and which zone it brings forward (RFC 1996, sections 3.6 to 3.12; the response codes are those of
 -- RFC 6895, section 2.3).
-use Rattle.std.specs.Prelude.{ℕ, ◌==◌, Bool, false, not, ◌&&◌, List, Option, Some, None, if◌then◌else◌, position, slice_get, slice_set}
+use Rattle.std.specs.Prelude.{ℕ, ◌==◌, Bool, false, not, ◌&&◌, ◌||◌, List, Option, Some, None, if◌then◌else◌, position, slice_get, slice_set}
+use Rattle.std.specs.List.{list_any}
 use Rattle.ip_prefix.specs.declared.Addr.{Addr}
 use Rattle.ip_prefix.specs.declared.Addr.TheVariants.{V4, V6}
 use Rattle.dns_name.specs.Labels.{Name}
@@ -16,7 +17,7 @@ use Rattle.dns_message.specs.declared.question.Question.{Question}
 use Rattle.dns_message.specs.declared.triage.TheConstants.{NO_ERROR, FORMAT_ERROR, NOT_IMPLEMENTED, REFUSED}
 use Rattle.dns_message.specs.Compressed.{compressed_within}
 use Rattle.dns_message.specs.Reading.{header_in, message_of}
-use Rattle.dns_message.specs.Request.{QueryParts, has_later_version, header_alone, query_parts_in, reply_edns, speaks_in, with_question}
+use Rattle.dns_message.specs.Request.{QueryParts, has_later_version, header_alone, query_parts_in, reply_edns, speaks_in, turned_away, with_question}
 use Rattle.notify_poll.specs.declared.notifying.Notified.{Notified}
 use Rattle.notify_poll.specs.declared.notifying.Notified.TheVariants.{Reply, Silent}
 use Rattle.notify_poll.specs.declared.notifying.TheConstants.{NOTIFY}
@@ -70,13 +71,19 @@ notify_answer h None origins timers client = (Some (header_alone FORMAT_ERROR h)
 notify_answer h (Some asked) origins timers client =
     version_answer h asked.0 asked.1 (zone_noted origins timers client asked.0)
 
--- What the bytes are answered that came from this client, and the place of the zone that they bring forward.
-unfoldable pub answer_to : List ℕ → Addr → List Name → List Timer → Answer
-answer_to bytes client origins timers =
+-- the client is the primary of some zone
+abbrev pub is_of_primary : List Timer → Addr → Bool
+is_of_primary timers client = list_any (λ timer. is_primary timer.primary client) timers
+
+-- What the bytes are answered that came from this client, which may ask or may not, and the place of the zone that they bring
+-- forward. The primary of a zone is heard whether it may ask or not.
+unfoldable pub answer_to : Bool → List ℕ → Addr → List Name → List Timer → Answer
+answer_to may_ask bytes client origins timers =
     if not (speaks_in bytes) then (None, None)
+    else (if not (may_ask || is_of_primary timers client) then (Some (turned_away bytes), None)
     else (if (header_in bytes).opcode == NOTIFY
     then notify_answer (header_in bytes) (query_parts_in (message_of bytes)) origins timers client
-    else (Some (header_alone NOT_IMPLEMENTED (header_in bytes)), None))
+    else (Some (header_alone NOT_IMPLEMENTED (header_in bytes)), None)))
 
 abbrev pub as_notified : Option Message → Notified
 as_notified None = Silent

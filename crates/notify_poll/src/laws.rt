@@ -1,11 +1,11 @@
 //! Laws of the timers. Each function is its clauses, and does nothing.
 
-ghost use Rattle.std.specs.Prelude.{◌≡◌, ◌≢◌, ℕ, List, Option, Some, true, false, slice_get};
+ghost use Rattle.std.specs.Prelude.{◌≡◌, ◌≢◌, ℕ, Bool, List, Option, Some, true, false, slice_get};
 ghost use Rattle.std.specs.List.{list_all};
 ghost use Rattle.std.specs.Option.{option_map};
 ghost use Rattle.dns_name.specs.Labels.{Name};
 ghost use Rattle.ip_prefix.specs.declared.Addr.{Addr};
-ghost use Rattle.notify_poll.specs.History.{IsNotifyOf, PollEvent, about, is_at_once, moment_after, retry_after, timer_after, timers_after};
+ghost use Rattle.notify_poll.specs.History.{IsFirstNotifyOf, IsNotifyOf, PollEvent, about, is_at_once, moment_after, retry_after, timer_after, timers_after};
 ghost use Rattle.notify_poll.specs.Notifying.{answer_to, brought_forward};
 ghost use Rattle.notify_poll.specs.Timers.{after_poll, begun, first_timer, is_due, noted};
 ghost use Rattle.notify_poll.specs.declared.timer.Polling.{Polling};
@@ -13,11 +13,15 @@ ghost use Rattle.notify_poll.specs.declared.timer.TimerStage.TheVariants.{Waits}
 ghost use Rattle.notify_poll.specs.declared.timer.Timer.{Timer};
 
 /// No message brings a zone forward but a NOTIFY for the SOA record of its origin, from its own primary; and it leaves the timers of
-/// all other zones.
+/// all other zones. Such a NOTIFY is taken, whether the primary may ask or not.
 pub fn only_its_primary_brings_a_zone_forward()
-    ensures notify { (bytes : List ℕ) (client : Addr) (origins : List Name) (timers : List Timer)
-        (place : ℕ) → (answer_to bytes client origins timers).1 ≡ Some place →
+    ensures notify { (may_ask : Bool) (bytes : List ℕ) (client : Addr) (origins : List Name)
+        (timers : List Timer) (place : ℕ) →
+        (answer_to may_ask bytes client origins timers).1 ≡ Some place →
         IsNotifyOf bytes client origins timers place }
+    ensures taken { (may_ask : Bool) (bytes : List ℕ) (client : Addr) (origins : List Name)
+        (timers : List Timer) (place : ℕ) → IsFirstNotifyOf bytes client origins timers place →
+        (answer_to may_ask bytes client origins timers).1 ≡ Some place }
     ensures others { (second : ℕ) (timers : List Timer) (place other : ℕ) → other ≢ place →
         slice_get (brought_forward second timers (Some place)) other ≡ slice_get timers other }
 {}

@@ -2,12 +2,12 @@
 
 ghost use Rattle.std.specs.Prelude.{◌≡◌, IfOk, position};
 ghost use Rattle.dns_name.specs.Alike.{same_name};
-ghost use Rattle.notify_poll.specs.Notifying.{answer_to, is_primary as of_primary, place_from as from_primary, version_answer, zone_answer, zone_noted as place_of};
+ghost use Rattle.notify_poll.specs.Notifying.{answer_to, is_of_primary as of_some_primary, is_primary as of_primary, place_from as from_primary, version_answer, zone_answer, zone_noted as place_of};
 
 use crate::timer::Timer;
 use dns_message::{
     BAD_VERSION, Edns, FORMAT_ERROR, Header, Message, NO_ERROR, NOT_IMPLEMENTED, Question, REFUSED,
-    has_later_version, read_header, read_query_parts, refusal, reply_edns, speaks,
+    has_later_version, read_header, read_query_parts, refusal, reply_edns, speaks, turned_away,
 };
 use dns_name::{Name, Octets};
 use dns_record::{class, rtype};
@@ -29,6 +29,7 @@ pub enum Notified {
 /// The reply to these bytes of a client, and the place of the zone that they bring forward. In this order:
 ///
 /// - none for under 12 bytes, and for a response;
+/// - what [`turned_away`] says, for a client that may not ask and isn't the primary of a zone;
 /// - the response code 4 (not implemented) and the header alone for an opcode other than NOTIFY;
 /// - 1 (format error) and the header alone where the bytes are no message, or one without a question;
 /// - 16 (bad version; RFC 6891, section 9) for an OPT record of a version over 0;
@@ -37,15 +38,19 @@ pub enum Notified {
 #[tactic(auto, unfolding(crate::specs::Notifying::answer_to))]
 pub(crate) fn answer(
     alloc: Global,
+    may_ask: bool,
     bytes: &[u8],
     client: Addr,
     origins: &[Name],
     timers: &[Timer],
 ) -> Result<(Option<Message>, Option<usize>), AllocError>
-    ensures { IfOk result (λ a. a ≡ answer_to bytes.now client origins.now timers.now) }
+    ensures { IfOk result (λ a. a ≡ answer_to may_ask bytes.now client origins.now timers.now) }
 {
     if !speaks(bytes) {
         return Ok((None, None));
+    }
+    if !may_ask && !is_of_primary(timers, client) {
+        return Ok((Some(turned_away(alloc, bytes)?), None));
     }
     let header = read_header(bytes);
     if header.opcode != NOTIFY {
@@ -138,6 +143,13 @@ fn place_from(timers: &[Timer], client: Addr, place: Option<usize>) -> Option<us
         Some(timer) if is_primary(timer.primary, client) => place,
         _ => None,
     }
+}
+
+// Whether the client is the primary of some zone.
+fn is_of_primary(timers: &[Timer], client: Addr) -> bool
+    ensures { result ≡ of_some_primary timers.now client }
+{
+    timers.iter().any(|timer| is_primary(timer.primary, client))
 }
 
 // Whether the client is the primary.

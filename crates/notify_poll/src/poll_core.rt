@@ -86,24 +86,33 @@ impl PollCore {
         self.timers[place] = self.timers[place].end(polling, now);
     }
 
-    /// A message comes from this client, at this second. `origins` has the origin of each zone, in order. The reply is written with
+    /// A message comes from this client, which may ask or may not, at this second. `origins` has the origin of each zone, in order. The reply is written with
     /// its names in full, in at most 512 bytes. The zone that a NOTIFY from its own primary is about is brought forward: it is due,
     /// or polled again behind the poll that is under way. An `Err` leaves all timers as they were.
     pub fn notify(
         &mut self,
         alloc: Global,
+        may_ask: bool,
         message: &[u8],
         client: Addr,
         now: u32,
         origins: &[Name],
     ) -> Result<Notified, AllocError>
         ensures notified { IfOk result (λ notified. notified
-            ≡ as_notified (answer_to message.now client origins.now self.old).0) }
+            ≡ as_notified (answer_to may_ask message.now client origins.now self.old).0) }
         ensures ok { OnOk result (self.new
-            ≡ brought_forward now self.old (answer_to message.now client origins.now self.old).1) }
+            ≡ brought_forward now self.old
+            (answer_to may_ask message.now client origins.now self.old).1) }
         ensures err { OnErr result (self.new ≡ self.old) }
     {
-        let (reply, place) = answer(alloc, message, client, origins, self.timers.as_slice())?;
+        let (reply, place) = answer(
+            alloc,
+            may_ask,
+            message,
+            client,
+            origins,
+            self.timers.as_slice(),
+        )?;
         let notified = written(alloc, reply)?;
         self.bring_forward(place, now);
         Ok(notified)

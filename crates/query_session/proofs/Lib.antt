@@ -7,3 +7,4 @@ pub mod StandingReply
 pub mod PassedName
 pub mod Failures
 pub mod KeptFacts
+pub mod Outside

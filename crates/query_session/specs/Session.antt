@@ -1,5 +1,5 @@
 -- How one query is answered, turn by turn.
-use Rattle.std.specs.Prelude.{◌≡◌, ◌<◌, nat_lt, if◌then◌else◌, [], ◌∷◌, ◌++◌, length, Option, Some, None, IfSome}
+use Rattle.std.specs.Prelude.{◌≡◌, ℕ, ◌<◌, nat_lt, if◌then◌else◌, List, [], ◌∷◌, ◌++◌, length, Option, Some, None, IfSome}
 use Rattle.dns_message.specs.declared.question.Question.{Question}
 use Rattle.dns_message.specs.declared.request.Incoming.{Incoming}
 use Rattle.dns_message.specs.declared.request.Incoming.TheVariants.{Silent, Refuse, Query as Asks}
@@ -7,9 +7,11 @@ use Rattle.dns_message.specs.declared.request.Query.{Query}
 use Rattle.dns_message.specs.declared.limit.TheConstants.{LEAST_LIMIT}
 use Rattle.dns_message.specs.Compressed.{compressed_within}
 use Rattle.dns_message.specs.Limit.{reply_limit}
+use Rattle.dns_message.specs.Request.{speaks_in, turned_away}
 use Rattle.upstream_link.specs.declared.fact.Fact.{Fact}
 use Rattle.upstream_link.specs.declared.facts.TheConstants.{FACT_LIMIT}
 use Rattle.upstream_link.specs.Facts.{PlainFacts, fact_about}
+use Rattle.reply_build.specs.declared.said.Said.{Said as Spoken}
 use Rattle.reply_build.specs.declared.said.Said.TheVariants as said
 use Rattle.reply_build.specs.declared.turn.Turn.{Turn}
 use Rattle.reply_build.specs.declared.turn.Turn.TheVariants.{Ask, Said}
@@ -46,6 +48,13 @@ turn_by policy Silent facts = Said said.Silent
 turn_by policy (Refuse message) facts = Said (said.Reply (compressed_within LEAST_LIMIT message))
 turn_by policy (Asks query) facts =
     within_fact_limit query facts (turn_by_next query facts (next policy query facts))
+
+-- what is said to a client that may not ask: the refusal of its message, or nothing where none is due
+abbrev pub said_outside : List ℕ → Spoken
+said_outside bytes =
+    if speaks_in bytes
+    then said.Reply (compressed_within LEAST_LIMIT (turned_away bytes))
+    else said.Silent
 
 -- what a session does at this point
 abbrev pub turn_of : SessionState → Turn

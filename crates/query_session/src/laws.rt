@@ -1,14 +1,18 @@
 //! Laws of sessions. Each function is its clauses, and does nothing.
 
-ghost use Rattle.std.specs.Prelude.{◌≡◌, ◌↔◌, ℕ, ◌≤◌, List, [], length, true, IsTrue};
+ghost use Rattle.std.specs.Prelude.{◌≡◌, ◌↔◌, ℕ, ◌≤◌, List, [], length, true, false, IsTrue};
 ghost use Rattle.dns_message.specs.declared.question.Question.{Question};
 ghost use Rattle.dns_message.specs.declared.request.Incoming.{Incoming};
 ghost use Rattle.dns_message.specs.declared.request.Incoming.TheVariants.{Query as Asks};
 ghost use Rattle.dns_message.specs.declared.request.Query.{Query};
+ghost use Rattle.dns_message.specs.Request.{incoming_of};
+ghost use Rattle.ip_prefix.specs.declared.Addr.{Addr};
+ghost use Rattle.ip_prefix.specs.declared.Transport.{Transport};
 ghost use Rattle.policy_snapshot.specs.Policy.{PlainPolicy};
 ghost use Rattle.policy_snapshot.specs.Stands.{HaveRows};
 ghost use Rattle.query_session.specs.Laws.{FailsBy, Upstream, facts_after, failure_turn, is_said};
-ghost use Rattle.query_session.specs.Session.{turn_by};
+ghost use Rattle.query_session.specs.Session.{said_outside, turn_by};
+ghost use Rattle.reply_build.specs.declared.turn.Turn.TheVariants.{Said};
 ghost use Rattle.upstream_link.specs.declared.fact.AnswerFault.{AnswerFault};
 ghost use Rattle.upstream_link.specs.declared.fact.Fact.TheVariants.{Broken};
 ghost use Rattle.upstream_link.specs.declared.facts.TheConstants.{FACT_LIMIT};
@@ -58,3 +62,16 @@ pub fn a_reply_stands()
     nothing_unasked_could_matter();
     what_is_known_stays_known();
 }
+
+/// What a client gets that may not ask is determined by its message alone, and comes at once: no policy, no fact and no address
+/// changes it, nor the transport.
+pub fn a_client_outside_is_answered_whatever_the_policy()
+    ensures said { (bytes : List ℕ) (client : Addr) (transport : Transport)
+        (policy : PlainPolicy) (facts : PlainFacts) →
+        turn_by policy (incoming_of false bytes client transport) facts
+        ≡ Said (said_outside bytes) }
+    ensures alike { (bytes : List ℕ) (client other : Addr) (transport another : Transport)
+        (policy next : PlainPolicy) (facts more : PlainFacts) →
+        turn_by policy (incoming_of false bytes client transport) facts
+        ≡ turn_by next (incoming_of false bytes other another) more }
+{}

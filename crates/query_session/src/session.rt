@@ -54,21 +54,23 @@ impl Model for Session {
 }
 
 impl Session {
-    /// Begins with a message that came from this address over this transport. The session keeps the policy,
+    /// Begins with a message that came from this address, which may ask or may not, over this transport. The session keeps the policy,
     /// whatever comes after it. The key seeds a hash of the names in the reply, and is to be unknown to those who send the names: see
     /// [`reply_build::build`].
     pub fn start(
         alloc: Global,
         key: u64,
         policy: Arc<Snapshot, Global>,
+        may_ask: bool,
         message: &[u8],
         client: Addr,
         transport: Transport,
     ) -> Result<Self, AllocError>
         ensures { IfOk result (λ session. session
-            ≡ new_session (policy_in policy.value) (incoming_of message.now client transport)) }
+            ≡ new_session (policy_in policy.value)
+            (incoming_of may_ask message.now client transport)) }
     {
-        let incoming = classify(alloc, message, client, transport)?;
+        let incoming = classify(alloc, may_ask, message, client, transport)?;
         Ok(Session {
             alloc,
             key,
