@@ -4,11 +4,11 @@ use Rattle.std.specs.Prelude.{IfSome, IsSome, OnOk, slice_get}
 use Rattle.dns_message.specs.Spelling.{spelling}
 use Rattle.edge_io.specs.Edge.{Rose}
 use Rattle.edge_io.specs.Told.{ComesNext}
-use Rattle.edge_io.specs.Wired.{IsNextOrder, after_call, plain_order, with_ordered}
 use Rattle.edge_io.specs.declared.endpoint.Endpoint.{Endpoint}
-use Rattle.edge_io.specs.declared.wake.Order.{Order}
-use Rattle.edge_io.specs.declared.wires.WireError.{WireError}
-use Rattle.edge_io.specs.declared.wires.WireError.TheVariants as wire
+use Rattle.server_io.specs.Wired.{IsNextOrder, after_call, plain_order, with_ordered}
+use Rattle.server_io.specs.declared.wake.Order.{Order}
+use Rattle.server_io.specs.declared.wires.WireError.{WireError}
+use Rattle.server_io.specs.declared.wires.WireError.TheVariants as wire
 use Rattle.zone_rows.specs.declared.zone.PlainZone.{PlainZone}
 use Rattle.axfr_apply.specs.declared.fault.TransferError.{TransferError}
 use Rattle.axfr_apply.specs.declared.fault.TransferError.TheVariants as errors

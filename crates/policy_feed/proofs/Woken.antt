@@ -3,10 +3,10 @@ use Rattle.std.proofs.Common.{◌≡◌, ◌⊎◌, ◌+◌, ◌≤◌, ℕ, zer
 use Rattle.std.specs.Prelude.{IsSome, OnOk, position, slice_get, slice_set}
 use Rattle.std.proofs.lemmas.List.Quantifiers.{position-Some}
 use Rattle.std.proofs.lemmas.Option.{slice_get-get_or}
-use Rattle.edge_io.specs.declared.wake.Order.{Order}
-use Rattle.edge_io.specs.declared.wake.OrderEnd.{OrderEnd}
-use Rattle.edge_io.specs.declared.wake.Wake.{Wake}
-use Rattle.edge_io.specs.declared.wake.Wake.TheVariants as wake
+use Rattle.server_io.specs.declared.wake.Order.{Order}
+use Rattle.server_io.specs.declared.wake.OrderEnd.{OrderEnd}
+use Rattle.server_io.specs.declared.wake.Wake.{Wake}
+use Rattle.server_io.specs.declared.wake.Wake.TheVariants as wake
 use Rattle.zone_rows.specs.declared.zone.PlainZone.{PlainZone}
 use Rattle.axfr_apply.specs.declared.fault.TransferError.{TransferError}
 use Rattle.axfr_apply.specs.declared.fault.TransferError.TheVariants as errors

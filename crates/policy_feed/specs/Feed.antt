@@ -1,12 +1,13 @@
 -- The zones of a server while they are polled.
 use Rattle.std.specs.Prelude.{◌≡◌, ◌≤◌, ℕ, List, Option, Some, None, length, map}
 use Rattle.dns_name.specs.Labels.{Name}
-use Rattle.edge_io.specs.Wired.{PlainWires}
 use Rattle.edge_io.specs.declared.endpoint.Endpoint.{Endpoint}
-use Rattle.edge_io.specs.declared.wake.Order.{Order}
+use Rattle.server_io.specs.Wired.{PlainWires}
+use Rattle.server_io.specs.declared.wake.Order.{Order}
 use Rattle.zone_rows.specs.declared.zone.TheConstants.{ZONE_LIMIT}
 use Rattle.axfr_apply.specs.declared.transfer_request.TransferRequest.{TransferRequest}
 use Rattle.ip_prefix.specs.declared.Addr.{Addr}
+use Rattle.ip_prefix.specs.Prefix.{PlainPrefix}
 use Rattle.notify_poll.specs.Timers.{first_timers}
 use Rattle.notify_poll.specs.declared.timer.Timer.{Timer}
 use Rattle.policy_publish.specs.Lists.{Published}
@@ -22,8 +23,10 @@ pub record PlainPoll : Type 0 where
   pub asked : TransferRequest
   pub messages : List (List ℕ)
 
--- the zones, what is published of them, the timer of each, and the transfer of each that is under way, where one is
+-- the networks whose clients may ask, the zones, what is published of them, the timer of each, and the transfer of each that is
+-- under way, where one is
 pub record PlainFeeder : Type 0 where
+  pub allowed : List PlainPrefix
   pub zones : FedZones
   pub published : Published
   pub timers : List Timer
@@ -63,9 +66,11 @@ abbrev pub no_poll : Endpoint → Option PlainPoll
 no_poll at = None
 
 -- zones that are all due from this second on
-abbrev pub first_feeder : List Name → List Endpoint → Published → ℕ → PlainFeeder
-first_feeder origins primaries published second =
+abbrev pub first_feeder : List PlainPrefix → List Name → List Endpoint → Published → ℕ →
+    PlainFeeder
+first_feeder allowed origins primaries published second =
     record {
+      allowed = allowed;
       zones = record { origins = origins; primaries = primaries };
       published = published;
       timers = first_timers (map address_of primaries) second;

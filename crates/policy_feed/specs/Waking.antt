@@ -1,18 +1,19 @@
 -- What a wake does.
 use Rattle.std.specs.Prelude.{◌≡◌, ◌==◌, ◌+◌, ◌⊎◌, ℕ, Bool, false, List, [], ◌∷◌, ◌++◌, Option, Some, None, Result, Ok, Err, position, slice_get, slice_set}
-use Rattle.edge_io.specs.Wired.{PlainWires, after_send}
-use Rattle.edge_io.specs.declared.endpoint.Endpoint.{Endpoint}
-use Rattle.edge_io.specs.declared.replies.SendError.{SendError}
-use Rattle.edge_io.specs.declared.replies.SendError.TheVariants as send_error
-use Rattle.edge_io.specs.declared.wake.Order.{Order}
-use Rattle.edge_io.specs.declared.wake.OrderEnd.{OrderEnd}
-use Rattle.edge_io.specs.declared.wake.OrderEnd.TheVariants as order_end
-use Rattle.edge_io.specs.declared.wake.Wake.{Wake}
-use Rattle.edge_io.specs.declared.wake.Wake.TheVariants as wake
+use Rattle.server_io.specs.declared.peer.Peer.{Peer}
+use Rattle.server_io.specs.Wired.{PlainWires, after_send}
+use Rattle.server_io.specs.declared.replies.SendError.{SendError}
+use Rattle.server_io.specs.declared.replies.SendError.TheVariants as send_error
+use Rattle.server_io.specs.declared.wake.Order.{Order}
+use Rattle.server_io.specs.declared.wake.OrderEnd.{OrderEnd}
+use Rattle.server_io.specs.declared.wake.OrderEnd.TheVariants as order_end
+use Rattle.server_io.specs.declared.wake.Wake.{Wake}
+use Rattle.server_io.specs.declared.wake.Wake.TheVariants as wake
 use Rattle.ip_prefix.specs.declared.Transport.{Transport}
 use Rattle.axfr_apply.specs.declared.fault.TransferFault.TheVariants.{Cut, EndedEarly, ReadFault}
 use Rattle.axfr_apply.specs.Reading.{TransferOutcome, outcome_of}
-use Rattle.notify_poll.specs.Notifying.{answer_to, as_notified, brought_forward}
+use Rattle.allow_list.specs.Allowed.{is_allowed}
+use Rattle.notify_poll.specs.Notifying.{Answer, answer_to, as_notified, brought_forward}
 use Rattle.notify_poll.specs.declared.notifying.Notified.{Notified}
 use Rattle.notify_poll.specs.declared.notifying.Notified.TheVariants.{Reply, Silent}
 use Rattle.policy_feed.specs.Ending.{EndsPoll, PollEnd, poll_taken, read, unfetched, unwritten}
@@ -79,34 +80,36 @@ notice_by (Reply bytes) (Err send_error.Failed) = notice.Failed
 notice_by (Reply bytes) (Err send_error.OutOfMemory) = notice.Memory
 
 -- what the wires tell after a reply to a NOTIFY was to be sent
-abbrev pub told_by : Notified → Endpoint → Transport → Result (Unit {0}) SendError →
+abbrev pub told_by : Notified → Peer → Transport → Result (Unit {0}) SendError →
     Option PlainWires → Option PlainWires
 told_by Silent peer transport tried told = told
 told_by (Reply bytes) peer transport tried told =
     after_send (record { peer = peer; transport = transport; bytes = bytes }) tried told
 
+-- what a NOTIFY of a peer is answered, which may ask where the list allows it, and the zone that it brings forward
+abbrev pub answer_of : Peer → List ℕ → PlainFeeder → Answer
+answer_of peer bytes feeder =
+    answer_to (is_allowed feeder.allowed peer.addr) bytes peer.addr feeder.zones.origins
+    feeder.timers
+
 -- A NOTIFY is answered over its transport, and its zone brought forward, where it comes from the zone's own primary (RFC 1996).
-pub record AnswersNotify (second : ℕ) (peer : Endpoint) (transport : Transport) (bytes : List ℕ)
+pub record AnswersNotify (second : ℕ) (peer : Peer) (transport : Transport) (bytes : List ℕ)
     (before : Feed) (what : Notice) (after : Feed) : Type 0 where
   pub tried : Result (Unit {0}) SendError
-  pub what_is : what
-      ≡ notice_by
-      (as_notified (answer_to bytes peer.addr before.feeder.zones.origins before.feeder.timers).0)
-      tried
+  pub what_is : what ≡ notice_by (as_notified (answer_of peer bytes before.feeder).0) tried
   pub told : after.told
-      ≡ told_by
-      (as_notified (answer_to bytes peer.addr before.feeder.zones.origins before.feeder.timers).0)
-      peer transport tried before.told
+      ≡ told_by (as_notified (answer_of peer bytes before.feeder).0) peer transport tried
+      before.told
   pub feeder : after.feeder
       ≡ record before.feeder {
         timers = brought_forward second before.feeder.timers
-            (answer_to bytes peer.addr before.feeder.zones.origins before.feeder.timers).1;
+            (answer_of peer bytes before.feeder).1;
       }
   pub faults : after.faults ≡ before.faults
   pub ids : after.ids ≡ before.ids
 
 -- A NOTIFY is answered; or memory ran out for it, and it does nothing.
-abbrev pub TakesNotify : ℕ → Endpoint → Transport → List ℕ → Feed → Notice → Feed → Type 0
+abbrev pub TakesNotify : ℕ → Peer → Transport → List ℕ → Feed → Notice → Feed → Type 0
 TakesNotify second peer transport bytes before what after =
     ((what ≡ notice.Memory) × (after ≡ before))
     ⊎ AnswersNotify second peer transport bytes before what after

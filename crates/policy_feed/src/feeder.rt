@@ -36,6 +36,7 @@ impl<N: StoreName> Model for Feeder<N> {
 
     ghost view = { λ f.
         record {
+          allowed = N.store.allowed;
           zones = record { origins = f.origins.items; primaries = f.primaries.items };
           published = f.publisher;
           timers = f.timers;
@@ -44,6 +45,7 @@ impl<N: StoreName> Model for Feeder<N> {
 
     ghost invariant = { λ f. IsFed
         (record {
+          allowed = N.store.allowed;
           zones = record { origins = f.origins.items; primaries = f.primaries.items };
           published = f.publisher;
           timers = f.timers;
@@ -89,7 +91,7 @@ impl<N: StoreName> Feeder<N> {
     ) -> Result<Self, AllocError>
         requires zones { length primaries.items ≡ length publisher.version.zones }
         ensures { IfOk result (λ feeder.
-            feeder ≡ first_feeder origins.items primaries.items publisher now) }
+            feeder ≡ first_feeder N.store.allowed origins.items primaries.items publisher now) }
     {
         // called for its clause: there are at most 64 zones
         let _count = publisher.zone_count();

@@ -19,11 +19,12 @@ use crate::lines::write_line;
 use crate::polling::request_message;
 use crate::under_way::UnderWay;
 use dns_name::Octets;
-use edge_io::{Ids, Order, WireError, Wires};
+use edge_io::Ids;
 use ixfr_apply::TransferReader;
 use notify_poll::Polling;
 use policy_publish::{Publisher, StoreName};
 use script_codec::ZoneFault;
+use server_io::{Order, WireError, Wires};
 use std::alloc::{AllocError, Global};
 use std::sync::Wait;
 

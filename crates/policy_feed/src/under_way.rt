@@ -4,8 +4,8 @@ ghost use Rattle.std.specs.Prelude.{◌≡◌, []};
 ghost use Rattle.policy_feed.specs.Reading.{HearsMessage};
 
 use axfr_apply::{Taken, TransferError};
-use edge_io::Order;
 use ixfr_apply::{Fed, TransferReader};
+use server_io::Order;
 use std::marker::Model;
 use taken_messages::TakenMessages;
 

@@ -12,11 +12,12 @@ use crate::notice::Notice;
 use crate::under_way::{Heard, UnderWay};
 use axfr_apply::{TransferError, TransferFault};
 use dns_name::Octets;
-use edge_io::{Endpoint, Ids, Order, OrderEnd, SendError, Wake, Wires};
+use edge_io::Ids;
 use ip_prefix::Transport;
 use notify_poll::Notified;
 use policy_publish::StoreName;
 use script_codec::ZoneFault;
+use server_io::{Order, OrderEnd, Peer, SendError, Wake, Wires};
 use std::alloc::AllocError;
 use std::sync::Wait;
 
@@ -111,11 +112,11 @@ impl<N: StoreName> Feeder<N> {
         }
     }
 
-    // Answers a NOTIFY.
+    // Answers a NOTIFY. The primary of a zone is heard whether it may ask or not.
     fn answer_notify<W: Wires>(
         &mut self,
         wires: &mut W,
-        peer: Endpoint,
+        peer: Peer,
         transport: Transport,
         bytes: &[u8],
         now: u32,
@@ -126,9 +127,10 @@ impl<N: StoreName> Feeder<N> {
         ensures count { W.faults wires.old ≤ W.faults wires.new }
         ensures failed { result ≡ Notice.Failed → Rose (W.faults wires.old) (W.faults wires.new) }
     {
+        let may_ask = self.publisher.may_ask(peer.addr);
         match self
             .timers
-            .notify(self.alloc, bytes, peer.addr, now, &self.origins)
+            .notify(self.alloc, may_ask, bytes, peer.addr, now, &self.origins)
         {
             Err(_) => Notice::Memory,
             Ok(Notified::Silent) => Notice::Silent,

@@ -54,7 +54,8 @@ impl Plain<Entry, Entry, u64> for Add {
     ghost state = { λ entry. None };
 }
 
-/// Which store it is: the book of its publications, the settings of its zones, and how many readers it has. Each call of a program picks it.
+/// Which store it is: the book of its publications, the settings of its zones, the networks whose clients may ask, and how many
+/// readers it has. Each call of a program picks it.
 pub trait StoreName {
     ghost use Rattle.policy_publish.specs.Stores.{Store};
 
@@ -67,6 +68,7 @@ impl StoreName for Brand {
     ghost store = { record {
       book = record { number = 0; log_name = 0; cells_name = 0 };
       settings = [];
+      allowed = [];
       readers = 1;
     } };
 }

@@ -1,6 +1,7 @@
 //! A policy that one thread publishes, version by version, and others read without waiting.
 #![tactic(auto)]
 
+mod allowed;
 mod front;
 mod latest;
 mod publication;

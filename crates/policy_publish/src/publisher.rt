@@ -5,6 +5,7 @@ ghost use Rattle.std.specs.Option.{IsSomeAnd};
 ghost use Rattle.std.specs.Arc.{arc_value};
 ghost use Rattle.policy_publish.specs.Shows.{IsOf};
 
+use crate::allowed::Allowed;
 use crate::front::{Front, LogWriter, StoreName};
 use crate::publication::Publication;
 use crate::reader::{PolicyReader, Told};
@@ -16,6 +17,7 @@ use crate::versions::{Prepared, prepare, zone_of};
 use axfr_apply::Wanted;
 use dns_name::Name;
 use dns_record::Soa;
+use ip_prefix::Addr;
 use ixfr_apply::{Marks, wanted};
 use left_right::writer::Writer;
 use policy_snapshot::OldZone;
@@ -33,6 +35,7 @@ pub struct Publisher<N: StoreName> {
     latest: Shown,
     marks: Marks,
     log_writer: LogWriter,
+    allowed: Allowed<N>,
     // Zones that others took the place of, and that readers may still hold. No clause speaks of them.
     replaced: Vec<OldZone>,
     alloc: Global,
@@ -68,6 +71,7 @@ impl<N: StoreName> Publisher<N> {
     ghost use Rattle.ixfr_apply.specs.Offer.{wanted_of};
     ghost use Rattle.policy_snapshot.specs.Policy.{zone_at};
     ghost use Rattle.policy_snapshot.specs.Stands.{StandsFor};
+    ghost use Rattle.allow_list.specs.Allowed.{is_allowed};
     ghost use Rattle.policy_publish.specs.Publishing.{Publishes};
 
     // It publishes the first version once, so that its queue has room from then on.
@@ -77,6 +81,7 @@ impl<N: StoreName> Publisher<N> {
         shown: Shown,
         marks: Marks,
         log_writer: LogWriter,
+        allowed: Allowed<N>,
         readers: usize,
     ) -> Result<Publisher<N>, AllocError>
         requires readers { (0 < readers) × (readers ≤ READER_LIMIT) }
@@ -103,6 +108,7 @@ impl<N: StoreName> Publisher<N> {
             latest: shown,
             marks,
             log_writer,
+            allowed,
             replaced: Vec::new(alloc),
             alloc,
         })
@@ -115,7 +121,8 @@ impl<N: StoreName> Publisher<N> {
         let Some(writer) = &self.writer else {
             return Err(AllocError);
         };
-        Ok(PolicyReader::over(self.alloc, writer.factory().reader()?, front))
+        let reader = writer.factory().reader()?;
+        Ok(PolicyReader::over(self.alloc, reader, front, self.allowed.again()?))
     }
 
     /// Publishes the policy after one more transfer, whole or in steps, of the zone of this number, the first of which is zone 1, and
@@ -229,6 +236,13 @@ impl<N: StoreName> Publisher<N> {
         self.latest.version.zone_count()
     }
 
+    /// Whether a client of this address may ask, by the list of the store. It waits for nobody and takes no memory.
+    pub fn may_ask(&self, addr: Addr) -> bool
+        ensures { result ≡ is_allowed N.store.allowed addr }
+    {
+        self.allowed.allows(addr)
+    }
+
     /// Whether there is a zone of this number; the first is zone 1.
     pub fn has_zone(&self, number: u32) -> bool
         ensures { result ≡ is_some (zone_at self.now.version.zones number) }
@@ -243,6 +257,7 @@ impl<N: StoreName> Publisher<N> {
             latest: _latest,
             marks: _marks,
             log_writer: _log_writer,
+            allowed: _allowed,
             replaced: _replaced,
             alloc: _,
         } = self;

@@ -4,9 +4,11 @@ ghost use Rattle.std.specs.Prelude.{◌≡◌, IfOk, IfSome};
 ghost use Rattle.std.specs.Arc.{arc_value};
 ghost use Rattle.policy_publish.specs.Shows.{IsOf};
 
+use crate::allowed::Allowed;
 use crate::front::{Front, StoreName};
 use crate::rule::OfStore;
 use crate::shown::Shown;
+use ip_prefix::Addr;
 use left_right::reader::Reader;
 use policy_snapshot::Snapshot;
 use std::alloc::{AllocError, Global};
@@ -58,6 +60,7 @@ pub struct PolicyReader<N: StoreName> {
     // The version that stands for what was seen, while no more was told; behind a count of holders of this reader's own: threads that
     // count one another's holders wait for the same word of memory.
     own: Option<Arc<Snapshot, Global>>,
+    allowed: Allowed<N>,
     alloc: Global,
 }
 
@@ -111,6 +114,7 @@ fn enter<N: StoreName>(
 impl<N: StoreName> PolicyReader<N> {
     ghost use Rattle.std.specs.Prelude.{◌≡◌, OnOk, OnErr, IfOk, IsTrue};
     ghost use Rattle.policy_snapshot.specs.Stands.{StandsFor};
+    ghost use Rattle.allow_list.specs.Allowed.{is_allowed};
     ghost use Rattle.policy_publish.specs.Lists.{GoesOn, WasTold, KeepsTold};
 
     // A reader that has seen and was told the entries of the front.
@@ -118,6 +122,7 @@ impl<N: StoreName> PolicyReader<N> {
         alloc: Global,
         reader: Reader<Shown, (), OfStore<N>>,
         front: &Front<N>,
+        allowed: Allowed<N>,
     ) -> PolicyReader<N>
         ensures { (result.seen ≡ front.now) × (result.told ≡ front.now) }
     {
@@ -126,6 +131,7 @@ impl<N: StoreName> PolicyReader<N> {
             seen: front.again(),
             told: front.again(),
             own: None,
+            allowed,
             alloc,
         }
     }
@@ -219,6 +225,13 @@ impl<N: StoreName> PolicyReader<N> {
             Ok(None) => self.own_again(),
             Err(error) => Err(error),
         }
+    }
+
+    /// Whether a client of this address may ask, by the list of the store. It waits for nobody and takes no memory.
+    pub fn may_ask(&self, addr: Addr) -> bool
+        ensures { result ≡ is_allowed N.store.allowed addr }
+    {
+        self.allowed.allows(addr)
     }
 
     /// The list for which the version stands that the reader took last; the empty one where it has taken none. It waits for nobody and

@@ -6,10 +6,12 @@ ghost use Rattle.zone_rows.specs.declared.zone.TheConstants.{ZONE_LIMIT};
 ghost use Rattle.policy_snapshot.specs.Stands.{StandsFor};
 ghost use Rattle.policy_publish.specs.Lists.{IsNew};
 
+use crate::allowed::Allowed;
 use crate::front::{Front, Line, LogWriter, StoreName, open_book};
 use crate::publisher::Publisher;
 use crate::reader::PolicyReader;
 use crate::shown::Shown;
+use allow_list::AllowList;
 use ixfr_apply::Marks;
 use policy_override::{ZoneSet, ZoneSets, origins_of};
 use policy_snapshot::Snapshot;
@@ -20,13 +22,14 @@ use std::sync::{Arc, Wait};
 /// How many readers a store has at most: one for each thread that answers queries.
 pub const READER_LIMIT: usize = 1_024;
 
-/// A store that has no name yet. Contracts see the book of its publications, the origins of its zones with the override of each, and how many
-/// readers it has.
+/// A store that has no name yet. Contracts see the book of its publications, the origins of its zones with the override of each, the
+/// networks whose clients may ask, and how many readers it has.
 #[derive(Drop)]
 pub struct Parts {
     log_writer: LogWriter,
     line: Line,
     settings: ZoneSets,
+    allowed: AllowList,
     readers: usize,
 }
 
@@ -39,23 +42,32 @@ impl Model for Parts {
     ghost Value = { Store };
 
     ghost view = { λ p.
-        record { book = p.log_writer; settings = p.settings; readers = p.readers } };
+        record {
+          book = p.log_writer;
+          settings = p.settings;
+          allowed = p.allowed;
+          readers = p.readers;
+        } };
 
     ghost invariant = { λ p. (p.line.book ≡ p.log_writer) × (p.line.entries ≡ []) ×
         (length p.settings ≤ ZONE_LIMIT) × (0 < p.readers) × (p.readers ≤ READER_LIMIT) };
 }
 
-/// A store with zones of these settings in this order, at most 64, and so many readers, 1 to 1,024. It waits for nobody and takes no memory.
-pub fn start_store(settings: ZoneSets, readers: usize) -> Parts
+/// A store with zones of these settings in this order, at most 64, the networks whose clients may ask, and so many readers, 1 to
+/// 1,024. It waits for nobody and takes no memory.
+pub fn start_store(settings: ZoneSets, allowed: AllowList, readers: usize) -> Parts
     requires settings { length settings ≤ ZONE_LIMIT }
     requires readers { (0 < readers) × (readers ≤ READER_LIMIT) }
-    ensures { (result.settings ≡ settings) × (result.readers ≡ readers) }
+    ensures settings { result.settings ≡ settings }
+    ensures allowed { result.allowed ≡ allowed }
+    ensures readers { result.readers ≡ readers }
 {
     let (log_writer, line) = open_book();
     Parts {
         log_writer,
         line,
         settings,
+        allowed,
         readers,
     }
 }
@@ -85,13 +97,15 @@ impl Parts {
             log_writer,
             line,
             settings,
+            allowed,
             readers,
         } = self;
         let front: Front<N> = Front::over(line.again());
         let origins = origins_of(alloc, settings.as_slice())?;
         let marks = Marks::new(alloc, origins.as_slice())?;
         let shown = first_shown(alloc, settings.as_slice(), line)?;
-        let publisher = Publisher::over(rt, alloc, shown, marks, log_writer, readers)?;
+        let allowed: Allowed<N> = Allowed::new(alloc, allowed)?;
+        let publisher = Publisher::over(rt, alloc, shown, marks, log_writer, allowed, readers)?;
         match all_readers(alloc, &publisher, &front, readers) {
             Ok(all) => Ok((publisher, all)),
             Err(_) => {

@@ -2,6 +2,7 @@
 use Rattle.std.proofs.Common.{ℕ, List, Option, [], ◌∷◌, ◌++◌, subst}
 use Rattle.dns_message.specs.declared.question.Question.{Question}
 use Rattle.ip_prefix.specs.declared.Addr.{Addr}
+use Rattle.ip_prefix.specs.Prefix.{PlainPrefix}
 use Rattle.dns_message.specs.declared.request.Incoming.{Incoming}
 use Rattle.upstream_link.specs.declared.fact.Fact.{Fact}
 use Rattle.upstream_link.specs.declared.fact.Fact.TheVariants.{Broken}
@@ -34,11 +35,11 @@ module _ (said : WhatIsSaidIsKept) where
   said_now : (octets : List ℕ) (id : ℕ) (question : Question) → IsKept (fact_from octets id question)
   said_now octets id question = subst IsKept (new_fact octets id question) (said octets id question 0)
 
-  pub obtained_kept : (settings : List ZoneSet) (primaries : List (Option Addr)) (worker : ℕ) (events : List Event) (policy : PlainPolicy) (incoming : Incoming) (facts : PlainFacts) → AreObtained settings primaries worker events policy incoming facts → AreKept facts
-  obtained_kept settings primaries worker _ _ _ _ (comes events world transport client message facts reached known) = kept_later _ _ _ _ [] facts known tt
-  obtained_kept settings primaries worker _ _ _ _ (given events world message pending facts reached at before asks known) =
-      kept_later _ _ _ _ _ facts known (kept_push pending.facts pending.question (fact_from message pending.id pending.question) (obtained_kept settings primaries worker events pending.policy pending.incoming pending.facts before) (said_now message pending.id pending.question))
-  obtained_kept settings primaries worker _ _ _ _ (failed events world pending facts reached at before asks known) =
-      kept_later _ _ _ _ _ facts known (kept_push pending.facts pending.question (Broken Failed) (obtained_kept settings primaries worker events pending.policy pending.incoming pending.facts before) tt)
-  obtained_kept settings primaries worker _ _ _ _ (waits events event world next pending reached at after still before) =
-      obtained_kept settings primaries worker events pending.policy pending.incoming pending.facts before
+  pub obtained_kept : (settings : List ZoneSet) (primaries : List (Option Addr)) (allowed : List PlainPrefix) (worker : ℕ) (events : List Event) (policy : PlainPolicy) (incoming : Incoming) (facts : PlainFacts) → AreObtained settings primaries allowed worker events policy incoming facts → AreKept facts
+  obtained_kept settings primaries allowed worker _ _ _ _ (comes events world transport client message facts reached known) = kept_later _ _ _ _ [] facts known tt
+  obtained_kept settings primaries allowed worker _ _ _ _ (given events world message pending facts reached at before asks known) =
+      kept_later _ _ _ _ _ facts known (kept_push pending.facts pending.question (fact_from message pending.id pending.question) (obtained_kept settings primaries allowed worker events pending.policy pending.incoming pending.facts before) (said_now message pending.id pending.question))
+  obtained_kept settings primaries allowed worker _ _ _ _ (failed events world pending facts reached at before asks known) =
+      kept_later _ _ _ _ _ facts known (kept_push pending.facts pending.question (Broken Failed) (obtained_kept settings primaries allowed worker events pending.policy pending.incoming pending.facts before) tt)
+  obtained_kept settings primaries allowed worker _ _ _ _ (waits events event world next pending reached at after still before) =
+      obtained_kept settings primaries allowed worker events pending.policy pending.incoming pending.facts before

@@ -11,3 +11,4 @@ pub mod Turns
 pub mod Answered
 pub mod Histories
 pub mod Kept
+pub mod Outside

@@ -3,6 +3,7 @@ use Rattle.std.proofs.Common.{◌≡◌, ℕ, List, Option, Some, None, Result, 
 use Rattle.std.specs.Option.{unwrap_or}
 use Rattle.zone_rows.specs.declared.zone.PlainZone.{PlainZone}
 use Rattle.ip_prefix.specs.declared.Addr.{Addr}
+use Rattle.allow_list.specs.Allowed.{is_allowed}
 use Rattle.notify_poll.specs.Notifying.{answer_to, brought_forward}
 use Rattle.notify_poll.specs.Timers.{due_zone}
 use Rattle.policy_snapshot.specs.Policy.{zone_at}
@@ -38,14 +39,14 @@ pub others_leave : (w next : World) (event : Event) (out : Output) → world_ste
 unfolding world_step
 others_leave w next (Transfer number stream) out e h = absurd h
 others_leave w next (Full number) out e h = full_leaves w next number (zone_at (policy_of w).zones number) out e
-others_leave w next (Query worker transport client message) out e h = sessions_leave w next (take_query w.clock w.sessions (policy_of w) worker transport client message) out e
+others_leave w next (Query worker transport client message) out e h = sessions_leave w next (take_query w.clock w.sessions (policy_of w) (is_allowed w.allowed client) worker transport client message) out e
 others_leave w next (Give worker message) out e h = sessions_leave w next (take_answer w.clock w.sessions worker message) out e
 others_leave w next (Fail worker) out e h = sessions_leave w next (take_failure w.clock w.sessions worker) out e
 others_leave w next (Notify client message) out e h = absurd h
 others_leave w next Due out e h = stay w (w, output.Due (unwrap_or (due_zone w.timers w.clock) 0)) next out refl e
 others_leave w next (Clock seconds) out e h = stay w (clock_step w seconds) next out refl e
 
-pub unnamed_leaves : (w next : World) (client : Addr) (message : List ℕ) (out : Output) → world_step w (Notify client message) ≡ Ok (next, out) → (answer_to message client (origins_in w.settings) w.timers).1 ≡ None → next.timers ≡ w.timers
+pub unnamed_leaves : (w next : World) (client : Addr) (message : List ℕ) (out : Output) → world_step w (Notify client message) ≡ Ok (next, out) → (answer_to (is_allowed w.allowed client) message client (origins_in w.settings) w.timers).1 ≡ None → next.timers ≡ w.timers
 unfolding world_step
 unnamed_leaves w next client message out e none = stay w (notify_step w client message) next out (ap (brought_forward w.clock w.timers) none) e
 

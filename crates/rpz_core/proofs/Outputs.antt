@@ -4,6 +4,7 @@ use Rattle.std.specs.Prelude.{slice_get}
 use Rattle.std.proofs.lemmas.List.{length-set}
 use Rattle.dns_message.specs.declared.request.Incoming.{Incoming}
 use Rattle.dns_message.specs.Request.{incoming_of}
+use Rattle.allow_list.specs.Allowed.{is_allowed}
 use Rattle.zone_rows.specs.declared.zone.PlainZone.{PlainZone}
 use Rattle.upstream_link.specs.declared.fact.Fact.{Fact}
 use Rattle.upstream_link.specs.declared.fact.Fact.TheVariants.{Broken}
@@ -40,9 +41,10 @@ Speaks out = Unit {0}
 silent : (out : Output) → Speaks out → out ≡ output.None → ⊥
 silent out h e = subst Speaks e h
 
--- the zones, the number of marks, of timers and of workers stay
+-- the zones, who may ask, the number of marks, of timers and of workers stay
 pub record Keeps (w next : World) : Type 0 where
   pub settings : next.settings ≡ w.settings
+  pub allowed : next.allowed ≡ w.allowed
   pub marks : length next.marks ≡ length w.marks
   pub timers : length next.timers ≡ length w.timers
   pub workers : length next.sessions.workers ≡ length w.sessions.workers
@@ -67,7 +69,7 @@ refused fault next out e = absurd cc
 transfer_keeps : (w next : World) (number : ℕ) (stream : List ℕ) (zone : Option PlainZone) (out : Output) → transfer_step w number stream zone ≡ Ok (next, out) → Keeps w next
 transfer_keeps w next number stream None out e = absurd (refused _ next out e)
 transfer_keeps w next number stream (Some zone) out e =
-    subst (λ (g : World × Output). Keeps w g.0) (given _ next out e) (record { settings = refl; marks = length-set w.marks (number - 1) _; timers = changed_length _ w.timers (number - 1); workers = refl })
+    subst (λ (g : World × Output). Keeps w g.0) (given _ next out e) (record { settings = refl; allowed = refl; marks = length-set w.marks (number - 1) _; timers = changed_length _ w.timers (number - 1); workers = refl })
 
 transfer_speaks : (w next : World) (number : ℕ) (stream : List ℕ) (zone : Option PlainZone) (out : Output) → transfer_step w number stream zone ≡ Ok (next, out) → Speaks out
 transfer_speaks w next number stream None out e = absurd (refused _ next out e)
@@ -76,8 +78,8 @@ transfer_speaks w next number stream (Some zone) out e = subst (λ (g : World ×
 full_is : (w next : World) (number : ℕ) (zone : Option PlainZone) (out : Output) → full_step w number zone ≡ Ok (next, out) → Keeps w next × (out ≡ output.None)
 full_is w next number None out e = absurd (refused _ next out e)
 full_is w next number (Some zone) out e =
-    let same = given (record { settings = w.settings; accepted = w.accepted; marks = with_mark w.marks number true; timers = w.timers; sessions = w.sessions; clock = w.clock }, output.None) next out e in (
-      subst (λ (g : World × Output). Keeps w g.0) same (record { settings = refl; marks = length-set w.marks (number - 1) true; timers = refl; workers = refl }),
+    let same = given (record { settings = w.settings; allowed = w.allowed; accepted = w.accepted; marks = with_mark w.marks number true; timers = w.timers; sessions = w.sessions; clock = w.clock }, output.None) next out e in (
+      subst (λ (g : World × Output). Keeps w g.0) same (record { settings = refl; allowed = refl; marks = length-set w.marks (number - 1) true; timers = refl; workers = refl }),
       sym (ap (λ (g : World × Output). g.1) same),
     )
 
@@ -97,7 +99,7 @@ turn_does : (w next : World) (s : SessionsState) (worker : ℕ) (policy : PlainP
     → with_sessions w (Ok (resolved_step s worker policy incoming r)) ≡ Ok (next, out) → Keeps w next × Speaks out
 turn_does w next s worker policy incoming r out many e =
     let same = given _ next out e in (
-      subst (λ (g : World × Output). Keeps w g.0) same (record { settings = refl; marks = refl; timers = refl; workers = turn_length (with_cached s r.cached) worker policy incoming r.facts r.turn ∙ many }),
+      subst (λ (g : World × Output). Keeps w g.0) same (record { settings = refl; allowed = refl; marks = refl; timers = refl; workers = turn_length (with_cached s r.cached) worker policy incoming r.facts r.turn ∙ many }),
       subst (λ (g : World × Output). Speaks g.1) same (turn_speaks (with_cached s r.cached) worker policy incoming r.facts r.turn),
     )
 
@@ -128,13 +130,13 @@ pub step_keeps : (w next : World) (e : Event) (out : Output) → world_step w e 
 unfolding world_step
 step_keeps w next (Transfer number stream) out is = transfer_keeps w next number stream (zone_at (policy_of w).zones number) out is
 step_keeps w next (Full number) out is = (full_is w next number (zone_at (policy_of w).zones number) out is).0
-step_keeps w next (Query worker transport client message) out is = (query_does w next (policy_of w) worker (incoming_of message client transport) (slice_get w.sessions.workers worker) out is).0
+step_keeps w next (Query worker transport client message) out is = (query_does w next (policy_of w) worker (incoming_of (is_allowed w.allowed client) message client transport) (slice_get w.sessions.workers worker) out is).0
 step_keeps w next (Give worker message) out is = (answer_does w next worker message (slice_get w.sessions.workers worker) out is).0
 step_keeps w next (Fail worker) out is = (failure_does w next worker (slice_get w.sessions.workers worker) out is).0
 step_keeps w next (Notify client message) out is =
-    subst (λ (g : World × Output). Keeps w g.0) (given (notify_step w client message) next out is) (record { settings = refl; marks = refl; timers = brought_length w.clock w.timers _; workers = refl })
-step_keeps w next Due out is = subst (λ (g : World × Output). Keeps w g.0) (given (w, output.Due _) next out is) (record { settings = refl; marks = refl; timers = refl; workers = refl })
-step_keeps w next (Clock seconds) out is = subst (λ (g : World × Output). Keeps w g.0) (given (clock_step w seconds) next out is) (record { settings = refl; marks = refl; timers = refl; workers = refl })
+    subst (λ (g : World × Output). Keeps w g.0) (given (notify_step w client message) next out is) (record { settings = refl; allowed = refl; marks = refl; timers = brought_length w.clock w.timers _; workers = refl })
+step_keeps w next Due out is = subst (λ (g : World × Output). Keeps w g.0) (given (w, output.Due _) next out is) (record { settings = refl; allowed = refl; marks = refl; timers = refl; workers = refl })
+step_keeps w next (Clock seconds) out is = subst (λ (g : World × Output). Keeps w g.0) (given (clock_step w seconds) next out is) (record { settings = refl; allowed = refl; marks = refl; timers = refl; workers = refl })
 
 notified_speaks : (n : Notified) → Speaks (notified_output n)
 notified_speaks (notified.Reply octets) = tt
@@ -147,10 +149,10 @@ pub step_outputs : (w next : World) (e : Event) (out : Output) → world_step w 
 unfolding world_step
 step_outputs w next (Transfer number stream) out is = loud out (transfer_speaks w next number stream (zone_at (policy_of w).zones number) out is)
 step_outputs w next (Full number) out is = (λ _. tt, λ _. (full_is w next number (zone_at (policy_of w).zones number) out is).1)
-step_outputs w next (Query worker transport client message) out is = loud out (query_does w next (policy_of w) worker (incoming_of message client transport) (slice_get w.sessions.workers worker) out is).1
+step_outputs w next (Query worker transport client message) out is = loud out (query_does w next (policy_of w) worker (incoming_of (is_allowed w.allowed client) message client transport) (slice_get w.sessions.workers worker) out is).1
 step_outputs w next (Give worker message) out is = loud out (answer_does w next worker message (slice_get w.sessions.workers worker) out is).1
 step_outputs w next (Fail worker) out is = loud out (failure_does w next worker (slice_get w.sessions.workers worker) out is).1
 step_outputs w next (Notify client message) out is =
-    loud out (subst (λ (g : World × Output). Speaks g.1) (given (notify_step w client message) next out is) (notified_speaks (as_notified (answer_to message client (origins_in w.settings) w.timers).0)))
+    loud out (subst (λ (g : World × Output). Speaks g.1) (given (notify_step w client message) next out is) (notified_speaks (as_notified (answer_to (is_allowed w.allowed client) message client (origins_in w.settings) w.timers).0)))
 step_outputs w next Due out is = loud out (subst (λ (g : World × Output). Speaks g.1) (given (w, output.Due _) next out is) tt)
 step_outputs w next (Clock seconds) out is = (λ _. tt, λ _. sym (ap (λ (g : World × Output). g.1) (given (clock_step w seconds) next out is)))

@@ -3,6 +3,7 @@ use Rattle.std.proofs.Common.{◌≡◌, ℕ, ◌↔◌, List, Option, Some, Non
 use Rattle.std.specs.Prelude.{slice_get}
 use Rattle.dns_message.specs.declared.request.Incoming.{Incoming}
 use Rattle.dns_message.specs.Request.{incoming_of}
+use Rattle.allow_list.specs.Allowed.{is_allowed}
 use Rattle.zone_rows.specs.declared.zone.PlainZone.{PlainZone}
 use Rattle.upstream_link.specs.declared.fact.Fact.TheVariants.{Broken}
 use Rattle.upstream_link.specs.declared.fact.AnswerFault.TheVariants.{Failed}
@@ -37,7 +38,7 @@ pub refused_by_state : (w : World) (e : Event) (f : CoreFault) → (world_step w
 unfolding world_step
 refused_by_state w (Transfer number stream) f = by_transfer w number stream (zone_at (policy_of w).zones number) f
 refused_by_state w (Full number) f = by_full w number (zone_at (policy_of w).zones number) f
-refused_by_state w (Query worker transport client message) f = by_query w (policy_of w) worker (incoming_of message client transport) (slice_get w.sessions.workers worker) f
+refused_by_state w (Query worker transport client message) f = by_query w (policy_of w) worker (incoming_of (is_allowed w.allowed client) message client transport) (slice_get w.sessions.workers worker) f
 refused_by_state w (Give worker message) f = by_pending w (answered_step w.clock w.sessions worker message) (slice_get w.sessions.workers worker) f
 refused_by_state w (Fail worker) f = by_pending w (λ pending. resumed_step w.clock w.sessions worker pending (Broken Failed)) (slice_get w.sessions.workers worker) f
 refused_by_state w (Notify client message) f = (λ e. absurd cc, λ e. absurd cc)

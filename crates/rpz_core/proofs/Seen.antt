@@ -8,6 +8,8 @@ use Rattle.zone_rows.specs.Zone.{apply_outcome}
 use Rattle.axfr_apply.specs.declared.taken.Taken.TheVariants as taken
 use Rattle.axfr_apply.specs.Reading.{TransferOutcome}
 use Rattle.ixfr_apply.specs.Stream.{reading}
+use Rattle.ip_prefix.specs.Prefix.{PlainPrefix}
+use Rattle.allow_list.specs.Allowed.{is_allowed}
 use Rattle.policy_override.specs.declared.zone_set.ZoneSet.{ZoneSet}
 use Rattle.policy_override.specs.ZoneSet.{origins_in, overrides_in}
 use Rattle.policy_snapshot.specs.declared.entry.Entry.{Entry}
@@ -29,9 +31,9 @@ use Rattle.rpz_core.specs.State as core
 use Rattle.rpz_core.specs.State.{CoreState, state_of, as_core_outcome, core_after_offer}
 use Rattle.rpz_core.specs.World.{World, policy_of, world_after_offer, transfer_step, full_step, with_sessions, world_step}
 
-state_with : List ZoneSet → List Bool → List Timer → SessionsState → ℕ → Output → PlainZones → ℕ → CoreState × Output
-state_with settings marks timers sessions now out zones accepted =
-    (record { origins = origins_in settings; policy = record { zones = zones; overrides = overrides_in settings; accepted = accepted }; marks = marks; timers = timers; sessions = sessions; clock = now }, out)
+state_with : List ZoneSet → List PlainPrefix → List Bool → List Timer → SessionsState → ℕ → Output → PlainZones → ℕ → CoreState × Output
+state_with settings allowed marks timers sessions now out zones accepted =
+    (record { origins = origins_in settings; allowed = allowed; policy = record { zones = zones; overrides = overrides_in settings; accepted = accepted }; marks = marks; timers = timers; sessions = sessions; clock = now }, out)
 
 -- the marks after an offer
 abbrev marks_after : World → ℕ → PlainZone → Offer → List Bool
@@ -53,7 +55,7 @@ offer_seen w number zone stream (takes transfer next) at takes_it =
     let entry : Entry = record { zone = number; transfer = transfer } in
     let zones : slice_set (policy_of w).zones (number - 1) next ≡ zones_behind (origins_in w.settings) (w.accepted ++ entry ∷ []) = sym (policy_next (origins_in w.settings) w.accepted number transfer zone next at is) in
     let count : next_count (count_of (length w.accepted)) ≡ count_of (length (w.accepted ++ entry ∷ [])) = count_after (length w.accepted) ∙ ap count_of (sym (length-append w.accepted (entry ∷ []))) in
-    λ i. state_with w.settings (marks_after w number zone (takes transfer next)) (timers_after w number zone (takes transfer next)) w.sessions w.clock (content_taken number next.content) (zones i) (count i)
+    λ i. state_with w.settings w.allowed (marks_after w number zone (takes transfer next)) (timers_after w number zone (takes transfer next)) w.sessions w.clock (content_taken number next.content) (zones i) (count i)
 
 -- what is taken is what the zone can take
 outcome_takes : (zone : PlainZone) (t : transfers.Transfer) (r : Result PlainZone ApplyFault) → apply_outcome zone t ≡ r → (transfer : transfers.Transfer) (next : PlainZone) → offer_by_outcome t r ≡ takes transfer next
@@ -87,7 +89,7 @@ pub step_seen : (w : World) (e : Event) → core.core_step (state_of w) e ≡ as
 unfolding core.core_step world_step
 step_seen w (Transfer number stream) = transfer_seen w number stream (zone_at (policy_of w).zones number) refl
 step_seen w (Full number) = full_seen w number (zone_at (policy_of w).zones number)
-step_seen w (Query worker transport client message) = sessions_seen w (take_query w.clock w.sessions (policy_of w) worker transport client message)
+step_seen w (Query worker transport client message) = sessions_seen w (take_query w.clock w.sessions (policy_of w) (is_allowed w.allowed client) worker transport client message)
 step_seen w (Give worker message) = sessions_seen w (take_answer w.clock w.sessions worker message)
 step_seen w (Fail worker) = sessions_seen w (take_failure w.clock w.sessions worker)
 step_seen w (Notify client message) = refl

@@ -34,6 +34,7 @@ abbrev after : CoreState → ℕ → Bool → Wanted → PlainZone → Offer →
 after core number marked wanted zone o = (
   record {
     origins = core.origins;
+    allowed = core.allowed;
     policy = policy_by_offer core.policy number o;
     marks = with_mark core.marks number (mark_after marked wanted o);
     timers = changed_at (after_poll (polling_of zone o) core.clock) core.timers (number - 1);
@@ -48,6 +49,7 @@ abbrev with_all : CoreState → ℕ → PlainSnapshot → Bool → Polling → C
 with_all core number policy mark polling =
     record {
       origins = core.origins;
+      allowed = core.allowed;
       policy = policy;
       marks = with_mark core.marks number mark;
       timers = changed_at (after_poll polling core.clock) core.timers (number - 1);

@@ -57,6 +57,7 @@ abbrev pub core_by_offered : CoreState → ℕ → Bool → Polling → Offered 
 core_by_offered core number mark polling offered = (
   record {
     origins = core.origins;
+    allowed = core.allowed;
     policy = policy_by_offered core.policy offered;
     marks = with_mark core.marks number mark;
     timers = changed_at (after_poll polling core.clock) core.timers (number - 1);

@@ -1,5 +1,5 @@
 -- The workers with their pending queries, and what events do to them.
-use Rattle.std.specs.Prelude.{ℕ, ◌+◌, ◌%◌, [], ◌∷◌, ◌++◌, List, replicate, Option, Some, None, Result, Ok, Err, slice_get, slice_set}
+use Rattle.std.specs.Prelude.{ℕ, ◌+◌, ◌%◌, Bool, [], ◌∷◌, ◌++◌, List, replicate, Option, Some, None, Result, Ok, Err, slice_get, slice_set}
 use Rattle.dns_message.specs.declared.question.Question.{Question}
 use Rattle.dns_message.specs.declared.request.Incoming.{Incoming}
 use Rattle.dns_message.specs.Request.{incoming_of}
@@ -137,11 +137,11 @@ answered_step now sessions worker message pending =
     let entry = learned_by pending message now in
     resumed_step now (with_learned sessions entry) worker pending (fact_at now entry)
 
--- a message of a client comes to a worker at this second, under a policy
-abbrev pub take_query : ℕ → SessionsState → PlainPolicy → ℕ → Transport → Addr → List ℕ →
+-- a message of a client, which may ask or may not, comes to a worker at this second, under a policy
+abbrev pub take_query : ℕ → SessionsState → PlainPolicy → Bool → ℕ → Transport → Addr → List ℕ →
     Result (SessionsState × Output) CoreFault
-take_query now sessions policy worker transport client message =
-    query_step now sessions policy worker (incoming_of message client transport)
+take_query now sessions policy may_ask worker transport client message =
+    query_step now sessions policy worker (incoming_of may_ask message client transport)
     (slice_get sessions.workers worker)
 
 -- these bytes come at this second for the question that a worker asked

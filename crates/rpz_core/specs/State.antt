@@ -4,6 +4,8 @@ use Rattle.std.specs.Option.{unwrap_or}
 use Rattle.std.specs.declared.alloc.AllocError.{AllocError}
 use Rattle.dns_name.specs.Labels.{Name}
 use Rattle.ip_prefix.specs.declared.Addr.{Addr}
+use Rattle.ip_prefix.specs.Prefix.{PlainPrefix}
+use Rattle.allow_list.specs.Allowed.{is_allowed}
 use Rattle.policy_override.specs.declared.zone_set.ZoneSet.{ZoneSet}
 use Rattle.policy_override.specs.ZoneSet.{origins_in, overrides_in}
 use Rattle.zone_rows.specs.declared.zone.PlainZone.{PlainZone}
@@ -28,16 +30,18 @@ use Rattle.rpz_core.specs.World.{World, notified_output, policy_of}
 
 pub record CoreState : Type 0 where
   pub origins : List Name
+  pub allowed : List PlainPrefix
   pub policy : PlainSnapshot
   pub marks : List Bool
   pub timers : List Timer
   pub sessions : SessionsState
   pub clock : ℕ
 
-abbrev pub new_core : List ZoneSet → List (Option Addr) → CoreState
-new_core settings primaries =
+abbrev pub new_core : List ZoneSet → List (Option Addr) → List PlainPrefix → CoreState
+new_core settings primaries allowed =
     record {
       origins = origins_in settings;
+      allowed = allowed;
       policy = new_snapshot settings;
       marks = no_marks (origins_in settings);
       timers = first_timers primaries 0;
@@ -50,6 +54,7 @@ abbrev pub state_of : World → CoreState
 state_of world =
     record {
       origins = origins_in world.settings;
+      allowed = world.allowed;
       policy =
           record {
             zones = (policy_of world).zones;
@@ -81,6 +86,7 @@ core_after_offer core number zone offered =
     let marked = mark_at core.marks number in (
       record {
         origins = core.origins;
+        allowed = core.allowed;
         policy = policy_by_offer core.policy number offered;
         marks = with_mark core.marks number (mark_after marked (wanted_of marked zone.content)
             offered);
@@ -104,6 +110,7 @@ full_step core number (Some zone) =
     Ok (
       record {
         origins = core.origins;
+        allowed = core.allowed;
         policy = core.policy;
         marks = with_mark core.marks number true;
         timers = core.timers;
@@ -119,6 +126,7 @@ with_sessions core (Ok next) =
     Ok (
       record {
         origins = core.origins;
+        allowed = core.allowed;
         policy = core.policy;
         marks = core.marks;
         timers = core.timers;
@@ -133,6 +141,7 @@ abbrev pub clock_step : CoreState → ℕ → CoreState × Output
 clock_step core seconds = (
   record {
     origins = core.origins;
+    allowed = core.allowed;
     policy = core.policy;
     marks = core.marks;
     timers = core.timers;
@@ -144,9 +153,11 @@ clock_step core seconds = (
 
 abbrev pub notify_step : CoreState → Addr → List ℕ → CoreState × Output
 notify_step core client message =
-    let answer = answer_to message client core.origins core.timers in (
+    let may_ask = is_allowed core.allowed client in
+    let answer = answer_to may_ask message client core.origins core.timers in (
       record {
         origins = core.origins;
+        allowed = core.allowed;
         policy = core.policy;
         marks = core.marks;
         timers = brought_forward core.clock core.timers answer.1;
@@ -162,7 +173,8 @@ core_step core (event.Transfer number stream) =
 core_step core (event.Full number) = full_step core number (zone_at core.policy.zones number)
 core_step core (event.Query worker transport client message) =
     with_sessions core
-    (take_query core.clock core.sessions (policy_in core.policy) worker transport client message)
+    (take_query core.clock core.sessions (policy_in core.policy) (is_allowed core.allowed client)
+    worker transport client message)
 core_step core (event.Give worker message) =
     with_sessions core (take_answer core.clock core.sessions worker message)
 core_step core (event.Fail worker) =
@@ -177,6 +189,7 @@ abbrev pub uncached_core : CoreState → CoreState
 uncached_core core =
     record {
       origins = core.origins;
+      allowed = core.allowed;
       policy = core.policy;
       marks = core.marks;
       timers = core.timers;

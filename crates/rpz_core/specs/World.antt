@@ -2,6 +2,8 @@
 use Rattle.std.specs.Prelude.{ℕ, ◌-◌, Bool, true, List, [], ◌∷◌, ◌++◌, Option, Some, None, Result, Ok, Err}
 use Rattle.std.specs.Option.{unwrap_or}
 use Rattle.ip_prefix.specs.declared.Addr.{Addr}
+use Rattle.ip_prefix.specs.Prefix.{PlainPrefix}
+use Rattle.allow_list.specs.Allowed.{is_allowed}
 use Rattle.policy_override.specs.declared.zone_set.ZoneSet.{ZoneSet}
 use Rattle.policy_override.specs.ZoneSet.{origins_in}
 use Rattle.zone_rows.specs.declared.zone.PlainZone.{PlainZone}
@@ -23,21 +25,25 @@ use Rattle.notify_poll.specs.Timers.{after_poll, due_zone, first_timers}
 use Rattle.rpz_core.specs.Offer.{offer_output, polling_of}
 use Rattle.rpz_core.specs.Sessions.{SessionsState, no_sessions, take_query, take_answer, take_failure}
 
--- the origins of the policy's zones with the override of each, the accepted transfers in order, which zones are marked, so that all of them is asked for
--- next, the timer of each zone, the workers with their pending queries, what is cached, and the clock in seconds
+-- the origins of the policy's zones with the override of each, the networks whose clients may ask, the accepted transfers in
+-- order, which zones are marked, so that all of them is asked for next, the timer of each zone, the workers with their pending
+-- queries, what is cached, and the clock in seconds
 pub record World : Type 0 where
   pub settings : List ZoneSet
+  pub allowed : List PlainPrefix
   pub accepted : List Entry
   pub marks : List Bool
   pub timers : List Timer
   pub sessions : SessionsState
   pub clock : ℕ
 
--- zones of these settings with these primaries, nothing of which is loaded; all of them are due
-abbrev pub new_world : List ZoneSet → List (Option Addr) → World
-new_world settings primaries =
+-- zones of these settings with these primaries, nothing of which is loaded, and the networks whose clients may ask; all zones
+-- are due
+abbrev pub new_world : List ZoneSet → List (Option Addr) → List PlainPrefix → World
+new_world settings primaries allowed =
     record {
       settings = settings;
+      allowed = allowed;
       accepted = [];
       marks = no_marks (origins_in settings);
       timers = first_timers primaries 0;
@@ -62,6 +68,7 @@ world_after_offer world number zone offered =
     let marked = mark_at world.marks number in (
       record {
         settings = world.settings;
+        allowed = world.allowed;
         accepted = accepted_after world.accepted number offered;
         marks = with_mark world.marks number (mark_after marked (wanted_of marked zone.content)
             offered);
@@ -85,6 +92,7 @@ full_step world number (Some zone) =
     Ok (
       record {
         settings = world.settings;
+        allowed = world.allowed;
         accepted = world.accepted;
         marks = with_mark world.marks number true;
         timers = world.timers;
@@ -100,6 +108,7 @@ with_sessions world (Ok next) =
     Ok (
       record {
         settings = world.settings;
+        allowed = world.allowed;
         accepted = world.accepted;
         marks = world.marks;
         timers = world.timers;
@@ -115,6 +124,7 @@ abbrev pub clock_step : World → ℕ → World × Output
 clock_step world seconds = (
   record {
     settings = world.settings;
+    allowed = world.allowed;
     accepted = world.accepted;
     marks = world.marks;
     timers = world.timers;
@@ -129,6 +139,7 @@ abbrev pub with_timers : World → List Timer → World
 with_timers world timers =
     record {
       settings = world.settings;
+      allowed = world.allowed;
       accepted = world.accepted;
       marks = world.marks;
       timers = timers;
@@ -144,15 +155,16 @@ notified_output notified.Silent = output.Hush
 -- A message that comes as a NOTIFY changes the timer alone of the zone that it brings forward, if it names one.
 abbrev pub notify_step : World → Addr → List ℕ → World × Output
 notify_step world client message =
-    let answer = answer_to message client (origins_in world.settings) world.timers in (
+    let may_ask = is_allowed world.allowed client in
+    let answer = answer_to may_ask message client (origins_in world.settings) world.timers in (
       with_timers world (brought_forward world.clock world.timers answer.1),
       notified_output (as_notified answer.0),
     )
 
 -- The world after an event, and what it outputs; or why it is refused. A stream is a transfer that is taken, or names its
--- fault and changes nothing but the zone's mark and its timer. A query is answered by the policy after the transfers accepted so
--- far, which it keeps while it is pending; live entries of the cache answer before the upstream is asked, and what it answers is
--- cached. Full marks its zone. Notify is answered, and may bring a zone forward. Due names the first zone that is due, or 0. Clock
+-- fault and changes nothing but the zone's mark and its timer. A query of a client that may not ask is refused. Another one is
+-- answered by the policy after the transfers accepted so far, which it keeps while it is pending; live entries of the cache answer
+-- before the upstream is asked, and what it answers is cached. Full marks its zone. Notify is answered, and may bring a zone forward. Due names the first zone that is due, or 0. Clock
 -- tells the second.
 unfoldable pub world_step : World → Event → Result (World × Output) CoreFault
 world_step world (Transfer number stream) =
@@ -160,7 +172,8 @@ world_step world (Transfer number stream) =
 world_step world (Full number) = full_step world number (zone_at (policy_of world).zones number)
 world_step world (Query worker transport client message) =
     with_sessions world
-    (take_query world.clock world.sessions (policy_of world) worker transport client message)
+    (take_query world.clock world.sessions (policy_of world) (is_allowed world.allowed client)
+    worker transport client message)
 world_step world (Give worker message) =
     with_sessions world (take_answer world.clock world.sessions worker message)
 world_step world (Fail worker) =

@@ -1,17 +1,20 @@
 //! Laws of the world and its steps. Each function is its clauses, and does nothing.
 
-ghost use Rattle.std.specs.Prelude.{◌≡◌, ◌≢◌, ◌↔◌, ◌-◌, ℕ, List, ◌∷◌, Contains, length, slice_get, Option, Some, None, Ok, Err};
+ghost use Rattle.std.specs.Prelude.{◌≡◌, ◌≢◌, ◌↔◌, ◌-◌, ℕ, false, List, ◌∷◌, Contains, length, slice_get, Option, Some, None, Ok, Err};
 ghost use Rattle.answer_cache.specs.Recent.{AreApart, HaveSameEntries, live_entry};
 ghost use Rattle.dns_message.specs.declared.question.Question.{Question};
 ghost use Rattle.dns_message.specs.declared.request.Incoming.{Incoming};
 ghost use Rattle.ip_prefix.specs.declared.Addr.{Addr};
-ghost use Rattle.notify_poll.specs.Notifying.{answer_to, changed_at};
+ghost use Rattle.ip_prefix.specs.declared.Transport.{Transport};
+ghost use Rattle.ip_prefix.specs.Prefix.{PlainPrefix};
+ghost use Rattle.allow_list.specs.Allowed.{is_allowed};
+ghost use Rattle.notify_poll.specs.Notifying.{answer_to, changed_at, is_of_primary};
 ghost use Rattle.notify_poll.specs.Timers.{after_poll};
 ghost use Rattle.notify_poll.specs.declared.timer.Polling.TheVariants.{Faulty};
 ghost use Rattle.policy_override.specs.declared.zone_set.ZoneSet.{ZoneSet};
 ghost use Rattle.policy_override.specs.ZoneSet.{origins_in};
 ghost use Rattle.policy_snapshot.specs.Policy.{AreAccepted, PlainPolicy};
-ghost use Rattle.query_session.specs.Session.{turn_by};
+ghost use Rattle.query_session.specs.Session.{said_outside, turn_by};
 ghost use Rattle.reply_build.specs.declared.said.Said.{Said};
 ghost use Rattle.reply_build.specs.declared.turn.Turn.TheVariants.{Ask};
 ghost use Rattle.rpz_core.specs.Answered.{AreAnswered};
@@ -20,7 +23,7 @@ ghost use Rattle.upstream_link.specs.Facts.{AreKept, PlainFacts};
 ghost use Rattle.upstream_link.specs.Vouched.{PlainLearned};
 ghost use Rattle.rpz_core.specs.declared.event.CoreFault.{CoreFault};
 ghost use Rattle.rpz_core.specs.declared.event.Event.{Event};
-ghost use Rattle.rpz_core.specs.declared.event.Event.TheVariants.{Due, Notify, Transfer};
+ghost use Rattle.rpz_core.specs.declared.event.Event.TheVariants.{Due, Notify, Query, Transfer};
 ghost use Rattle.rpz_core.specs.declared.event.Output.{Output};
 ghost use Rattle.rpz_core.specs.declared.event.Output.TheVariants as output;
 ghost use Rattle.ixfr_apply.specs.declared.refusal.Refusal.{Refusal};
@@ -32,7 +35,9 @@ ghost use Rattle.rpz_core.specs.State.{CoreState, core_step, as_core_outcome, st
 ghost use Rattle.rpz_core.specs.World.{World, with_timers, world_step};
 
 use policy_snapshot::laws::a_policy_takes_transfers_one_by_one;
-use query_session::laws::what_is_obtained_is_kept;
+use query_session::laws::{
+    a_client_outside_is_answered_whatever_the_policy, what_is_obtained_is_kept,
+};
 
 /// Whatever happens: each reply, or silence, is what the policy answers under which its query came, by the facts that were
 /// obtained for it. Each of these facts is of a question that this policy asked, by the facts before it: it is what the bytes say
@@ -41,36 +46,46 @@ use query_session::laws::what_is_obtained_is_kept;
 /// took as those before it left the policy.
 pub fn each_reply_is_the_policys_answer()
     ensures settings { (settings : List ZoneSet) (primaries : List (Option Addr))
-        (events : List Event) (world : World) → Reaches settings primaries events world →
-        world.settings ≡ settings }
+        (allowed : List PlainPrefix) (events : List Event) (world : World) →
+        Reaches settings primaries allowed events world → world.settings ≡ settings }
+    ensures allowed { (settings : List ZoneSet) (primaries : List (Option Addr))
+        (allowed : List PlainPrefix) (events : List Event) (world : World) →
+        Reaches settings primaries allowed events world → world.allowed ≡ allowed }
     ensures accepted { (settings : List ZoneSet) (primaries : List (Option Addr))
-        (events : List Event) (world : World) → Reaches settings primaries events world →
+        (allowed : List PlainPrefix) (events : List Event) (world : World) →
+        Reaches settings primaries allowed events world →
         AreAccepted (origins_in world.settings) world.accepted }
     ensures pending { (settings : List ZoneSet) (primaries : List (Option Addr))
-        (events : List Event) (world : World) (worker : ℕ) (pending : PendingQuery) →
-        Reaches settings primaries events world → IsPendingAt world worker pending →
-        IsPendingAs settings primaries events world worker pending }
+        (allowed : List PlainPrefix) (events : List Event) (world : World)
+        (worker : ℕ) (pending : PendingQuery) →
+        Reaches settings primaries allowed events world → IsPendingAt world worker pending →
+        IsPendingAs settings primaries allowed events world worker pending }
     ensures cached { (settings : List ZoneSet) (primaries : List (Option Addr))
-        (events : List Event) (world : World) (entry : PlainLearned) →
-        Reaches settings primaries events world → Contains world.sessions.cached entry →
-        IsLearned settings primaries events entry }
+        (allowed : List PlainPrefix) (events : List Event) (world : World)
+        (entry : PlainLearned) → Reaches settings primaries allowed events world →
+        Contains world.sessions.cached entry →
+        IsLearned settings primaries allowed events entry }
     ensures apart { (settings : List ZoneSet) (primaries : List (Option Addr))
-        (events : List Event) (world : World) → Reaches settings primaries events world →
+        (allowed : List PlainPrefix) (events : List Event) (world : World) →
+        Reaches settings primaries allowed events world →
         AreApart world.sessions.cached }
-    ensures kept { (settings : List ZoneSet) (primaries : List (Option Addr)) (worker : ℕ)
-        (events : List Event) (policy : PlainPolicy) (incoming : Incoming)
-        (facts : PlainFacts) →
-        AreObtained settings primaries worker events policy incoming facts → AreKept facts }
+    ensures kept { (settings : List ZoneSet) (primaries : List (Option Addr))
+        (allowed : List PlainPrefix) (worker : ℕ) (events : List Event)
+        (policy : PlainPolicy) (incoming : Incoming) (facts : PlainFacts) →
+        AreObtained settings primaries allowed worker events policy incoming facts →
+        AreKept facts }
     ensures asks { (settings : List ZoneSet) (primaries : List (Option Addr))
-        (events : List Event) (event : Event) (world next : World) (worker : ℕ)
-        (message : List ℕ) → Reaches settings primaries events world →
+        (allowed : List PlainPrefix) (events : List Event) (event : Event)
+        (world next : World) (worker : ℕ) (message : List ℕ) →
+        Reaches settings primaries allowed events world →
         world_step world event ≡ Ok (next, output.Ask worker message) →
         IsAskedAs next worker message }
     ensures replies { (settings : List ZoneSet) (primaries : List (Option Addr))
-        (events : List Event) (event : Event) (world next : World) (worker : ℕ)
-        (said : Said) → Reaches settings primaries events world →
+        (allowed : List PlainPrefix) (events : List Event) (event : Event)
+        (world next : World) (worker : ℕ) (said : Said) →
+        Reaches settings primaries allowed events world →
         world_step world event ≡ Ok (next, said_output worker said) →
-        IsAnsweredAs settings primaries (event ∷ events) next worker said }
+        IsAnsweredAs settings primaries allowed (event ∷ events) next worker said }
 {
     a_policy_takes_transfers_one_by_one();
     what_is_obtained_is_kept();
@@ -96,11 +111,14 @@ pub fn the_core_does_what_the_world_does()
         core_step (state_of world) event ≡ as_core_outcome (world_step world event) }
 {}
 
-/// No event opens a zone, changes the override of one, or changes the number of marks, of timers or of workers.
+/// No event opens a zone, changes the override of one or who may ask, or changes the number of marks, of timers or of workers.
 pub fn an_event_keeps_the_zones_and_the_workers()
     ensures settings { (world next : World) (event : Event) (out : Output) →
         world_step world event ≡ Ok (next, out) →
         next.settings ≡ world.settings }
+    ensures allowed { (world next : World) (event : Event) (out : Output) →
+        world_step world event ≡ Ok (next, out) →
+        next.allowed ≡ world.allowed }
     ensures marks { (world next : World) (event : Event) (out : Output) →
         world_step world event ≡ Ok (next, out) →
         length next.marks ≡ length world.marks }
@@ -147,7 +165,8 @@ pub fn only_a_transfer_or_a_notify_moves_a_timer()
         next.timers ≡ world.timers }
     ensures unnamed { (world next : World) (client : Addr) (message : List ℕ) (out : Output) →
         world_step world (Notify client message) ≡ Ok (next, out) →
-        (answer_to message client (origins_in world.settings) world.timers).1 ≡ None →
+        (answer_to (is_allowed world.allowed client) message client
+        (origins_in world.settings) world.timers).1 ≡ None →
         next.timers ≡ world.timers }
     ensures notify { (world next : World) (client : Addr) (message : List ℕ) (out : Output) →
         world_step world (Notify client message) ≡ Ok (next, out) →
@@ -176,3 +195,19 @@ pub fn the_cache_answers_before_the_upstream()
         (cached : List PlainLearned) (facts : PlainFacts) →
         HaveSameEntries (resolve now policy incoming cached facts).cached cached }
 {}
+
+/// A client that may not ask changes nothing. Its query is refused, or met with silence, as its message alone says: no ID is used, no
+/// look-up moves an entry of the cache, and no query is pending afterwards. A NOTIFY from it changes nothing either, unless it is the
+/// primary of some zone.
+pub fn a_client_outside_changes_nothing()
+    ensures query { (world : World) (worker : ℕ) (transport : Transport) (client : Addr)
+        (message : List ℕ) → is_allowed world.allowed client ≡ false →
+        slice_get world.sessions.workers worker ≡ Some None →
+        world_step world (Query worker transport client message)
+        ≡ Ok (world, said_output worker (said_outside message)) }
+    ensures notify { (world next : World) (client : Addr) (message : List ℕ) (out : Output) →
+        is_allowed world.allowed client ≡ false → is_of_primary world.timers client ≡ false →
+        world_step world (Notify client message) ≡ Ok (next, out) → next ≡ world }
+{
+    a_client_outside_is_answered_whatever_the_policy();
+}

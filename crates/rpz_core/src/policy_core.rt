@@ -13,6 +13,7 @@ use crate::event::{CoreError, CoreFault, Event, Output};
 use crate::laws::the_core_does_what_the_world_does;
 use crate::offer::{Offered, read_offer};
 use crate::sessions::{Sessions, WORKERS};
+use allow_list::AllowList;
 use dns_name::{Name, Octets};
 use ip_prefix::Addr;
 use ixfr_apply::{Marks, wanted};
@@ -25,12 +26,13 @@ use std::marker::Model;
 use std::sync::Arc;
 
 /// The policy as it is, which of its zones are asked for whole next, when each is polled, the workers with their pending queries,
-/// one cache for all of them, and the clock. Contracts see these, and the origins of the zones; a pending query holds the policy that
-/// it came under, which stays as it is when a transfer is taken.
+/// one cache for all of them, the networks whose clients may ask, and the clock. Contracts see these, and the origins of the zones; a
+/// pending query holds the policy that it came under, which stays as it is when a transfer is taken.
 #[derive(Drop)]
 pub struct Core {
     alloc: Global,
     origins: Vec<Name>,
+    allowed: AllowList,
     policy: Arc<Snapshot, Global>,
     marks: Marks,
     timers: PollCore,
@@ -46,6 +48,7 @@ impl Model for Core {
 
     ghost view = { λ c. record {
       origins = c.origins.items;
+      allowed = c.allowed;
       policy = c.policy.value;
       marks = c.marks;
       timers = c.timers;
@@ -57,18 +60,19 @@ impl Model for Core {
 }
 
 impl Core {
-    /// Zones of these settings in this order, at most 64, with nothing loaded, each of which has its primary or none. All of them are
-    /// due, and no query is pending.
+    /// Zones of these settings in this order, at most 64, with nothing loaded, each of which has its primary or none, and the networks
+    /// whose clients may ask. All zones are due, and no query is pending.
     pub fn start(
         alloc: Global,
         settings: &[ZoneSet],
         primaries: &[Option<Addr>],
+        allowed: AllowList,
     ) -> Result<Self, AllocError>
         requires limit { length settings.now ≤ ZONE_LIMIT }
         requires primaries { length primaries.now ≡ length settings.now }
-        ensures core { IfOk result (λ core. core ≡ new_core settings.now primaries.now) }
+        ensures core { IfOk result (λ core. core ≡ new_core settings.now primaries.now allowed) }
         ensures world { IfOk result
-            (λ core. core ≡ state_of (new_world settings.now primaries.now)) }
+            (λ core. core ≡ state_of (new_world settings.now primaries.now allowed)) }
     {
         a_policy_takes_transfers_one_by_one();
         let origins = origins_of(alloc, settings)?;
@@ -79,6 +83,7 @@ impl Core {
         Ok(Core {
             alloc,
             origins,
+            allowed,
             policy,
             marks,
             timers,
@@ -139,15 +144,19 @@ impl Core {
                 transport,
                 client,
                 message,
-            } => self.sessions.take_query(
-                self.alloc,
-                self.clock,
-                &self.policy,
-                worker,
-                transport,
-                client,
-                message.as_slice(),
-            ),
+            } => {
+                let may_ask = self.allowed.allows(client);
+                self.sessions.take_query(
+                    self.alloc,
+                    self.clock,
+                    &self.policy,
+                    may_ask,
+                    worker,
+                    transport,
+                    client,
+                    message.as_slice(),
+                )
+            }
             Event::Give { worker, message } => {
                 self.sessions
                     .take_answer(self.alloc, self.clock, worker, message)
@@ -234,8 +243,10 @@ impl Core {
         ensures { StepsBare uncached_core (Ok (notify_step self.old client message.now)) result
             self.old self.new }
     {
+        let may_ask = self.allowed.allows(client);
         let notified = self.timers.notify(
             self.alloc,
+            may_ask,
             message,
             client,
             self.clock,

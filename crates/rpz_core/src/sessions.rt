@@ -86,27 +86,30 @@ impl Sessions {
         self.cache.clear();
     }
 
-    /// A message of a client comes to a worker at a second, under this policy.
+    /// A message of a client, which may ask or may not, comes to a worker at a second, under this policy.
     pub(crate) fn take_query(
         &mut self,
         alloc: Global,
         now: u32,
         policy: &Arc<Snapshot, Global>,
+        may_ask: bool,
         worker: u32,
         transport: Transport,
         client: Addr,
         message: &[u8],
     ) -> Result<Output, CoreError>
         ensures { StepsBare uncached
-            (take_query now self.old (policy_in policy.now.value) worker transport client message.now)
-            result self.old self.new }
+            (take_query now self.old (policy_in policy.now.value) may_ask worker transport client
+            message.now) result self.old self.new }
     {
         match self.workers.get(worker as usize) {
             None => Err(CoreError::Fault(CoreFault::NoWorker)),
             Some(Some(_)) => Err(CoreError::Fault(CoreFault::Pending)),
             Some(None) => {
                 let policy = Arc::try_clone(policy)?;
-                let session = Session::start(alloc, KNOWN_KEY, policy, message, client, transport)?;
+                let session = Session::start(
+                    alloc, KNOWN_KEY, policy, may_ask, message, client, transport,
+                )?;
                 Ok(self.begin(alloc, now, worker, session)?)
             }
         }

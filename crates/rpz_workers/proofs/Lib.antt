@@ -4,3 +4,4 @@ pub mod Settled
 pub mod LiveEntries
 pub mod Served
 pub mod Worked
+pub mod Outside

@@ -1,7 +1,7 @@
 -- What becomes of a message, by what its query came to.
 use Rattle.std.proofs.Common.{◌≡◌, ℕ, Bool, List, Option, Result, Ok, Err, sym, ap, ◌∙◌}
 use Rattle.std.specs.declared.alloc.AllocError.{AllocError}
-use Rattle.policy_override.specs.declared.zone_set.ZoneSet.{ZoneSet}
+use Rattle.policy_publish.specs.Stores.{Store}
 use Rattle.dns_message.specs.declared.question.Question.{Question}
 use Rattle.reply_build.specs.declared.said.Said.{Said}
 use Rattle.rpz_workers.specs.declared.answered.Answered.{Answered}
@@ -13,10 +13,10 @@ use Rattle.rpz_workers.specs.Answering.{Answers, PlainWorker}
 use Rattle.rpz_workers.specs.Passed.{PlainPassed}
 use Rattle.rpz_workers.specs.Passing.{PassesOnAs, Settles, outcome_by, passed_after}
 
-module _ {L : Type 0} (settings : List ZoneSet) (gave : List ℕ → List ℕ → ℕ → Type 0) (passes_on : Bool) (job : Job) (now : ℕ) (came_to : Result Answered AllocError) (old new : PlainWorker L) where
+module _ {L : Type 0} (store : Store) (gave : List ℕ → List ℕ → ℕ → Type 0) (passes_on : Bool) (job : Job) (now : ℕ) (came_to : Result Answered AllocError) (old new : PlainWorker L) where
   -- it is answered
-  pub said_settles : (said : Said) (passed : Option (List PlainPassed)) → came_to ≡ Ok (answered.Said said) → Answers settings gave passes_on job now came_to old new
-      → Settles settings gave passes_on job now (outcome.Said said) old new passed passed
+  pub said_settles : (said : Said) (passed : Option (List PlainPassed)) → came_to ≡ Ok (answered.Said said) → Answers store gave passes_on job now came_to old new
+      → Settles store gave passes_on job now (outcome.Said said) old new passed passed
   said_settles said passed is answers =
       record {
         came_to = came_to;
@@ -27,9 +27,9 @@ module _ {L : Type 0} (settings : List ZoneSet) (gave : List ℕ → List ℕ �
       }
 
   -- it needs the upstream
-  pub needs_settles : (question : Question) (what : Outcome) (passed passed_then : Option (List PlainPassed)) → came_to ≡ Ok (answered.Needs question) → Answers settings gave passes_on job now came_to old new
+  pub needs_settles : (question : Question) (what : Outcome) (passed passed_then : Option (List PlainPassed)) → came_to ≡ Ok (answered.Needs question) → Answers store gave passes_on job now came_to old new
       → PassesOnAs passed job question now new.known.seen what passed_then
-      → Settles settings gave passes_on job now what old new passed passed_then
+      → Settles store gave passes_on job now what old new passed passed_then
   needs_settles question what passed passed_then is answers passes =
       record {
         came_to = came_to;
@@ -40,8 +40,8 @@ module _ {L : Type 0} (settings : List ZoneSet) (gave : List ℕ → List ℕ �
       }
 
   -- memory ran out
-  pub none_settles : (error : AllocError) (passed : Option (List PlainPassed)) → came_to ≡ Err error → Answers settings gave passes_on job now came_to old new
-      → Settles settings gave passes_on job now outcome.NoMemory old new passed passed
+  pub none_settles : (error : AllocError) (passed : Option (List PlainPassed)) → came_to ≡ Err error → Answers store gave passes_on job now came_to old new
+      → Settles store gave passes_on job now outcome.NoMemory old new passed passed
   none_settles error passed is answers =
       record {
         came_to = came_to;

@@ -1,9 +1,11 @@
 -- The answer of one query by a worker.
 use Rattle.std.specs.Prelude.{◌≡◌, ◌≤◌, ◌⊎◌, ℕ, Bool, true, List, [], ◌∷◌, ◌++◌, Option, None, Result, Ok, Err}
-use Rattle.policy_override.specs.declared.zone_set.ZoneSet.{ZoneSet}
+use Rattle.policy_publish.specs.Stores.{Store}
 use mathlib.Core.List.{IsPrefix}
 use Rattle.edge_io.specs.Chain.{Chain, Stage}
+use Rattle.allow_list.specs.Allowed.{is_allowed}
 use Rattle.dns_message.specs.Request.{incoming_of}
+use Rattle.dns_message.specs.declared.request.Incoming.{Incoming}
 use Rattle.dns_message.specs.declared.question.Question.{Question}
 use Rattle.answer_cache.specs.Keeps.{IsFound, emptied, looked_up}
 use Rattle.answer_cache.specs.Recent.{Recent}
@@ -44,18 +46,23 @@ abbrev pub obtained_in : {L : Type 0} → List (Stage Inquiry (Obtained L)) → 
 obtained_in [] = []
 obtained_in (stage ∷ stages) = obtained_in stages ++ stage.turn ∷ []
 
+-- What is done with the message of a job: its client may ask where the list of the store allows it.
+abbrev pub incoming_for : Store → Job → Incoming
+incoming_for store job =
+    incoming_of (is_allowed store.allowed job.peer.addr) job.message job.peer.addr job.transport
+
 -- The message is answered by the policy after the list of transfers that is then seen, which begins with the one that was seen
 -- before and with each that the worker was told, and by the facts that the query obtained, one after another, each for the question
 -- that comes next; after the last nothing is asked, and this is said.
-pub record IsAnswer {L : Type 0} (settings : List ZoneSet)
+pub record IsAnswer {L : Type 0} (store : Store)
     (gave : List ℕ → List ℕ → ℕ → Type 0) (passes_on : Bool) (job : Job) (now : ℕ) (said : Said)
     (old new : PlainWorker L) : Type 0 where
   pub stages : List (Stage Inquiry (Obtained L))
   pub last : Inquiry
-  pub obtains : Chain (Obtains gave passes_on now (policy_after settings new.known.seen)
-      (incoming_of job.message job.peer.addr job.transport)) (beginning old) stages last
-  pub says : turn_by (policy_after settings new.known.seen)
-      (incoming_of job.message job.peer.addr job.transport) last.facts ≡ turn.Said said
+  pub obtains : Chain (Obtains gave passes_on now (policy_after store.settings new.known.seen)
+      (incoming_for store job)) (beginning old) stages last
+  pub says : turn_by (policy_after store.settings new.known.seen)
+      (incoming_for store job) last.facts ≡ turn.Said said
   pub obtained : new.obtained ≡ obtained_in stages
   pub goes_on : GoesOn old.known new.known.seen
   pub told : new.known.told ≡ old.known.told
@@ -66,15 +73,15 @@ pub record IsAnswer {L : Type 0} (settings : List ZoneSet)
 
 -- The message needs the upstream: by the same policy, and by what live entries of the cache gave, one after another, this question
 -- comes next. No live entry of the cache is about it, where the cache tells its entries, and the worker asks nobody.
-pub record NeedsUpstream {L : Type 0} (settings : List ZoneSet)
+pub record NeedsUpstream {L : Type 0} (store : Store)
     (gave : List ℕ → List ℕ → ℕ → Type 0) (passes_on : Bool) (job : Job) (now : ℕ)
     (question : Question) (old new : PlainWorker L) : Type 0 where
   pub stages : List (Stage Inquiry (Obtained L))
   pub last : Inquiry
-  pub obtains : Chain (Obtains gave passes_on now (policy_after settings new.known.seen)
-      (incoming_of job.message job.peer.addr job.transport)) (beginning old) stages last
-  pub asks : turn_by (policy_after settings new.known.seen)
-      (incoming_of job.message job.peer.addr job.transport) last.facts ≡ turn.Ask question
+  pub obtains : Chain (Obtains gave passes_on now (policy_after store.settings new.known.seen)
+      (incoming_for store job)) (beginning old) stages last
+  pub asks : turn_by (policy_after store.settings new.known.seen)
+      (incoming_for store job) last.facts ≡ turn.Ask question
   pub not_found : IsFound question now None last.cached
   pub asks_nobody : passes_on ≡ true
   pub obtained : new.obtained ≡ obtained_in stages
@@ -95,13 +102,13 @@ pub record IsNoAnswer {L : Type 0} (old new : PlainWorker L) : Type 0 where
   pub obtained : new.obtained ≡ []
 
 -- what the query of a message came to, or that memory ran out
-abbrev pub Answers : {L E : Type 0} → List ZoneSet → (List ℕ → List ℕ → ℕ → Type 0) → Bool → Job →
-    ℕ → Result Answered E → PlainWorker L → PlainWorker L → Type 0
-Answers settings gave passes_on job now (Ok (answered.Said said)) old new =
-    IsAnswer settings gave passes_on job now said old new
-Answers settings gave passes_on job now (Ok (answered.Needs question)) old new =
-    NeedsUpstream settings gave passes_on job now question old new
-Answers settings gave passes_on job now (Err e) old new = IsNoAnswer old new
+abbrev pub Answers : {L E : Type 0} → Store → (List ℕ → List ℕ → ℕ → Type 0) → Bool → Job → ℕ →
+    Result Answered E → PlainWorker L → PlainWorker L → Type 0
+Answers store gave passes_on job now (Ok (answered.Said said)) old new =
+    IsAnswer store gave passes_on job now said old new
+Answers store gave passes_on job now (Ok (answered.Needs question)) old new =
+    NeedsUpstream store gave passes_on job now question old new
+Answers store gave passes_on job now (Err e) old new = IsNoAnswer old new
 
 -- what is said fits into a message; a question that is to be asked is none
 abbrev pub IsShortAnswer : Answered → Type 0

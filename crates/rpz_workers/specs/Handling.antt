@@ -1,13 +1,14 @@
 -- What a worker does with its items.
 use Rattle.std.specs.Prelude.{◌≡◌, ◌≤◌, ℕ, Bool, List, Option, Some, None, Result, Ok, Err}
-use Rattle.policy_override.specs.declared.zone_set.ZoneSet.{ZoneSet}
+use Rattle.policy_publish.specs.Stores.{Store}
 use Rattle.ip_prefix.specs.declared.Transport.{Transport}
 use Rattle.ip_prefix.specs.declared.Transport.TheVariants as transport
 use Rattle.edge_io.specs.Edge.{Rose}
-use Rattle.edge_io.specs.Told.{Closings, ComesNext, Ended, PlainReply, closed_more, more_if_ok}
-use Rattle.edge_io.specs.declared.endpoint.Endpoint.{Endpoint}
-use Rattle.edge_io.specs.declared.replies.SendError.{SendError}
-use Rattle.edge_io.specs.declared.replies.SendError.TheVariants as send_error
+use Rattle.edge_io.specs.Told.{ComesNext, more_if_ok}
+use Rattle.server_io.specs.declared.peer.Peer.{Peer}
+use Rattle.server_io.specs.Told.{Closings, Ended, PlainReply, closed_more}
+use Rattle.server_io.specs.declared.replies.SendError.{SendError}
+use Rattle.server_io.specs.declared.replies.SendError.TheVariants as send_error
 use Rattle.policy_snapshot.specs.declared.entry.Entry.{Entry}
 use Rattle.policy_publish.specs.Lists.{KeepsTold, WasTold}
 use Rattle.reply_build.specs.declared.said.Said.TheVariants as said
@@ -60,7 +61,7 @@ stream_views left source_faults held sink_faults =
     record { left = left; source_faults = source_faults; held = held; sink_faults = sink_faults }
 
 -- what was sent after a try to send this
-abbrev pub sent_after : Option (List PlainReply) → Endpoint → Transport → Option (List ℕ) →
+abbrev pub sent_after : Option (List PlainReply) → Peer → Transport → Option (List ℕ) →
     Result (Unit {0}) SendError → Option (List PlainReply)
 sent_after sent peer transport None tried = sent
 sent_after sent peer transport (Some bytes) tried =
@@ -88,7 +89,7 @@ took_over transport.Tcp took.PassedOn = took.PassedOn
 took_over transport.Tcp _ = took.Framed
 
 -- How a reply went out over this transport, and what that makes of the message.
-pub record Sends (peer : Endpoint) (transport : Transport) (message : List ℕ) (what : Outcome)
+pub record Sends (peer : Peer) (transport : Transport) (message : List ℕ) (what : Outcome)
     (t : Took) (sent sent_then : Option (List PlainReply)) : Type 0 where
   pub tried : Result (Unit {0}) SendError
   pub sent_is : sent_then ≡ sent_after sent peer transport (to_send message what) tried
@@ -96,14 +97,14 @@ pub record Sends (peer : Endpoint) (transport : Transport) (message : List ℕ) 
 
 -- A job is answered at the second that the clock gives next, and the reply is sent to its peer over its transport; or it is passed
 -- on. Over either transport a send that fails raises the count of send faults.
-pub record HandlesJob {L S K : Type 0} (settings : List ZoneSet)
+pub record HandlesJob {L S K : Type 0} (store : Store)
     (gave : List ℕ → List ℕ → ℕ → Type 0) (passes_on : Bool) (job : Job)
     (before : WorkerState L S K) (t : Took) (after : WorkerState L S K) : Type 0 where
   pub now : ℕ
   pub what : Outcome
   pub became : Took
   pub second : ComesNext before.moments now after.moments
-  pub settles : Settles settings gave passes_on job now what before.worker after.worker
+  pub settles : Settles store gave passes_on job now what before.worker after.worker
       before.passed after.passed
   pub sends : Sends job.peer job.transport job.message what became before.sent after.sent
   pub took_is : t ≡ took_over job.transport became
@@ -112,11 +113,11 @@ pub record HandlesJob {L S K : Type 0} (settings : List ZoneSet)
   pub failed : became ≡ took.Failed → Rose before.send_faults after.send_faults
 
 -- A connection is served, and closed with what it ended by.
-pub record HandlesConnection {L S K : Type 0} (settings : List ZoneSet)
+pub record HandlesConnection {L S K : Type 0} (store : Store)
     (gave : List ℕ → List ℕ → ℕ → Type 0) (passes_on : Bool) (views : StreamViews S K)
-    (source : S) (sink : K) (client : Endpoint) (before after : WorkerState L S K) : Type 0 where
+    (source : S) (sink : K) (client : Peer) (before after : WorkerState L S K) : Type 0 where
   pub ended : Ended S K
-  pub serves : ServesConnection settings gave passes_on client
+  pub serves : ServesConnection store gave passes_on client
       (fault_counts (views.source_faults source) (views.source_faults ended.source)
       (views.sink_faults sink) (views.sink_faults ended.sink))
       (connection_state before.worker before.moments before.passed (views.left source)
@@ -137,13 +138,13 @@ pub record HandlesTold {L S K : Type 0} (list : List Entry)
   pub same : after ≡ record before { worker = record before.worker { known = after.worker.known } }
 
 -- what a worker does with an item
-abbrev pub Handles : {L N S K : Type 0} → List ZoneSet → (List ℕ → List ℕ → ℕ → Type 0) → Bool →
+abbrev pub Handles : {L N S K : Type 0} → Store → (List ℕ → List ℕ → ℕ → Type 0) → Bool →
     StreamViews S K → WorkerState L S K → Item N S K → Took → WorkerState L S K → Type 0
-Handles settings gave passes_on views before (item.Job job) t after =
-    HandlesJob settings gave passes_on job before t after
-Handles settings gave passes_on views before (item.Connection source sink client) t after =
+Handles store gave passes_on views before (item.Job job) t after =
+    HandlesJob store gave passes_on job before t after
+Handles store gave passes_on views before (item.Connection source sink client) t after =
     (t ≡ took.Closed)
-    × HandlesConnection settings gave passes_on views source sink client before after
-Handles settings gave passes_on views before (item.Told list) t after =
+    × HandlesConnection store gave passes_on views source sink client before after
+Handles store gave passes_on views before (item.Told list) t after =
     (t ≡ took.Learnt) × HandlesTold list before after
-Handles settings gave passes_on views before item.Stop t after = (t ≡ took.Stop) × (after ≡ before)
+Handles store gave passes_on views before item.Stop t after = (t ≡ took.Stop) × (after ≡ before)

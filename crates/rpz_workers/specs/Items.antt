@@ -1,8 +1,8 @@
 -- The items that a worker takes.
 use Rattle.std.specs.Prelude.{◌≡◌, Option, Some, None, List, [], ◌∷◌}
 use Rattle.ip_prefix.specs.declared.Transport.TheVariants.{Udp}
-use Rattle.edge_io.specs.declared.arrival.Arrival.{Arrival}
-use Rattle.edge_io.specs.declared.arrival.Arrival.TheVariants as arrival
+use Rattle.server_io.specs.declared.arrival.Arrival.{Arrival}
+use Rattle.server_io.specs.declared.arrival.Arrival.TheVariants as arrival
 use Rattle.rpz_workers.specs.declared.item.Item.{Item}
 use Rattle.rpz_workers.specs.declared.item.Item.TheVariants as item
 

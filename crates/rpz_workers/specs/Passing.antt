@@ -1,7 +1,7 @@
 -- What a worker passes on, and what becomes of a message.
 use Rattle.std.specs.Prelude.{◌≡◌, ℕ, Bool, List, Option, Result, Ok, Err}
 use Rattle.std.specs.declared.alloc.AllocError.{AllocError}
-use Rattle.policy_override.specs.declared.zone_set.ZoneSet.{ZoneSet}
+use Rattle.policy_publish.specs.Stores.{Store}
 use Rattle.edge_io.specs.Told.{more_if_ok}
 use Rattle.dns_message.specs.declared.question.Question.{Question}
 use Rattle.policy_snapshot.specs.declared.entry.Entry.{Entry}
@@ -36,13 +36,13 @@ passed_after passed (Err e) tried job now seen = passed
 
 -- The query of a message is answered; or it needs the upstream, and the message is passed on with the list of transfers that the
 -- worker has then seen, if there is room for it; or memory runs out.
-pub record Settles {L : Type 0} (settings : List ZoneSet)
+pub record Settles {L : Type 0} (store : Store)
     (gave : List ℕ → List ℕ → ℕ → Type 0) (passes_on : Bool) (job : Job) (now : ℕ) (what : Outcome)
     (worker worker_then : PlainWorker L) (passed passed_then : Option (List PlainPassed)) : Type
     0 where
   pub came_to : Result Answered AllocError
   pub tried : Tried
-  pub answers : Answers settings gave passes_on job now came_to worker worker_then
+  pub answers : Answers store gave passes_on job now came_to worker worker_then
   pub what_is : what ≡ outcome_by came_to tried
   pub passed_is : passed_then
       ≡ passed_after passed came_to tried job now worker_then.known.seen

@@ -1,6 +1,6 @@
 -- A worker's run over its items.
 use Rattle.std.specs.Prelude.{◌≡◌, ◌≢◌, ℕ, Bool, List, [], ◌∷◌, Option}
-use Rattle.policy_override.specs.declared.zone_set.ZoneSet.{ZoneSet}
+use Rattle.policy_publish.specs.Stores.{Store}
 use Rattle.edge_io.specs.Chain.{Chain, Stage}
 use Rattle.rpz_workers.specs.declared.item.Item.{Item}
 use Rattle.rpz_workers.specs.declared.item.Item.TheVariants as item
@@ -25,11 +25,11 @@ pub record Handled (N S K : Type 0) : Type 0 where
   pub took : Took
 
 -- The next item is taken and handled, and it isn't Stop.
-pub record TakesItem {L N S K : Type 0} (settings : List ZoneSet)
+pub record TakesItem {L N S K : Type 0} (store : Store)
     (gave : List ℕ → List ℕ → ℕ → Type 0) (passes_on : Bool) (views : StreamViews S K)
     (before : RunState L N S K) (handled : Handled N S K) (after : RunState L N S K) : Type 0 where
   pub next : NextItem before.coming handled.item after.coming
-  pub handles : Handles settings gave passes_on views before.state handled.item handled.took
+  pub handles : Handles store gave passes_on views before.state handled.item handled.took
       after.state
   pub goes_on : handled.took ≢ took.Stop
 
@@ -39,19 +39,19 @@ tally [] = no_counts
 tally (stage ∷ stages) = counted (tally stages) stage.turn.took
 
 -- One item after another is taken and handled, up to the Stop that ends the run, and these are its numbers.
-pub record Works {L N S K : Type 0} (settings : List ZoneSet)
+pub record Works {L N S K : Type 0} (store : Store)
     (gave : List ℕ → List ℕ → ℕ → Type 0) (passes_on : Bool) (views : StreamViews S K)
     (before : RunState L N S K) (counts : Counts) (after : RunState L N S K) : Type 0 where
   pub stages : List (Stage (RunState L N S K) (Handled N S K))
   pub last : RunState L N S K
-  pub chain : Chain (TakesItem settings gave passes_on views) before stages last
+  pub chain : Chain (TakesItem store gave passes_on views) before stages last
   pub stops : NextItem last.coming item.Stop after.coming
   pub state : after.state ≡ last.state
   pub counts_are : counts ≡ tally stages
 
 -- A run from here ended with these numbers.
-pub record EndsRun {L N S K : Type 0} (settings : List ZoneSet)
+pub record EndsRun {L N S K : Type 0} (store : Store)
     (gave : List ℕ → List ℕ → ℕ → Type 0) (passes_on : Bool) (views : StreamViews S K)
     (before : RunState L N S K) (counts : Counts) : Type 0 where
   pub after : RunState L N S K
-  pub works : Works settings gave passes_on views before counts after
+  pub works : Works store gave passes_on views before counts after

@@ -15,12 +15,13 @@ use crate::worker::Worker;
 use answer_cache::Keeps;
 use dns_name::Octets;
 use edge_io::{
-    CONNECTION_MESSAGES, Clock, Endpoint, FrameError, FrameFault, Link, Sink, SinkError, Source,
-    StreamEnd, read_frame, write_frame,
+    CONNECTION_MESSAGES, Clock, FrameError, FrameFault, Link, Sink, SinkError, Source, read_frame,
+    write_frame,
 };
 use ip_prefix::Transport;
 use policy_publish::StoreName;
 use reply_build::Said;
+use server_io::{Peer, StreamEnd};
 
 /// How many messages of a connection are answered. Behind them it ends.
 pub const FRAME_LIMIT: u32 = CONNECTION_MESSAGES;
@@ -52,17 +53,17 @@ impl<N: StoreName, L: Link + Drop, A: Keeps<L> + Drop, B: Asks<L> + Drop> Worker
     fn answer_message<K: Sink, C: Clock, O: Onward<N>>(
         &mut self,
         message: Octets,
-        client: Endpoint,
+        client: Peer,
         sink: &mut K,
         clock: &mut C,
         onward: &mut O,
     ) -> Result<(), SinkError>
         ensures ok { OnOk result
-            (WritesReply N.store.settings L.gave B.passes_on client message self.old self.new
+            (WritesReply N.store L.gave B.passes_on client message self.old self.new
             (C.moments clock.old) (C.moments clock.new) (O.passed onward.old)
             (O.passed onward.new) (K.held sink.old) (K.held sink.new)) }
         ensures err { OnErr result
-            (CutsReply N.store.settings L.gave B.passes_on client message self.old self.new
+            (CutsReply N.store L.gave B.passes_on client message self.old self.new
             (C.moments clock.old) (C.moments clock.new) (O.passed onward.old)
             (O.passed onward.new) (K.held sink.old) (K.held sink.new)) }
         ensures count { K.faults sink.old ≤ K.faults sink.new }
@@ -86,11 +87,11 @@ impl<N: StoreName, L: Link + Drop, A: Keeps<L> + Drop, B: Asks<L> + Drop> Worker
         &mut self,
         source: &mut S,
         sink: &mut K,
-        client: Endpoint,
+        client: Peer,
         clock: &mut C,
         onward: &mut O,
     ) -> StreamEnd
-        ensures { ServesConnection N.store.settings L.gave B.passes_on client
+        ensures { ServesConnection N.store L.gave B.passes_on client
             (fault_counts (S.faults source.old) (S.faults source.new)
             (K.faults sink.old) (K.faults sink.new))
             (connection_state self.old (C.moments clock.old) (O.passed onward.old)

@@ -16,16 +16,17 @@ use crate::report::Report;
 use crate::took::Took;
 use crate::worker::Worker;
 use answer_cache::Keeps;
-use edge_io::{Clock, Endpoint, Link, Replies, SendError, Sink, Source};
+use edge_io::{Clock, Link, Sink, Source};
 use ip_prefix::Transport;
 use policy_publish::StoreName;
 use reply_build::Said;
+use server_io::{Peer, Replies, SendError};
 use std::sync::Wait;
 
 // Sends the reply to a message over its transport, where there is one here, and says what became of the message.
 fn send_reply<S: Source, K: Sink, P: Replies<S, K>>(
     replies: &mut P,
-    peer: Endpoint,
+    peer: Peer,
     transport: Transport,
     message: &[u8],
     what: &Outcome,
@@ -78,7 +79,7 @@ impl<N: StoreName, L: Link + Drop, A: Keeps<L> + Drop, B: Asks<L> + Drop> Worker
         clock: &mut C,
         onward: &mut O,
     ) -> Took
-        ensures { HandlesJob N.store.settings L.gave B.passes_on job.now
+        ensures { HandlesJob N.store L.gave B.passes_on job.now
             (worker_state self.old (C.moments clock.old) (O.passed onward.old)
             (P.sent replies.old) (P.closings replies.old) (P.faults replies.old))
             result
@@ -106,7 +107,7 @@ impl<N: StoreName, L: Link + Drop, A: Keeps<L> + Drop, B: Asks<L> + Drop> Worker
         clock: &mut C,
         onward: &mut O,
     ) -> Took
-        ensures { Handles N.store.settings L.gave B.passes_on
+        ensures { Handles N.store L.gave B.passes_on
             (stream_views S.left S.faults K.held K.faults)
             (worker_state self.old (C.moments clock.old) (O.passed onward.old)
             (P.sent replies.old) (P.closings replies.old) (P.faults replies.old))
@@ -143,7 +144,7 @@ impl<N: StoreName, L: Link + Drop, A: Keeps<L> + Drop, B: Asks<L> + Drop> Worker
         O: Onward<N>,
         R: Wait,
     >(&mut self, rt: &R, items: &mut Q, replies: &mut P, clock: &mut C, onward: &mut O) -> Report
-        ensures works { Works N.store.settings L.gave B.passes_on
+        ensures works { Works N.store L.gave B.passes_on
             (stream_views S.left S.faults K.held K.faults)
             (run_state (Q.coming items.old)
             (worker_state self.old (C.moments clock.old) (O.passed onward.old)

@@ -4,9 +4,10 @@ ghost use Rattle.std.specs.Prelude.{◌≡◌, None};
 ghost use Rattle.rpz_workers.specs.Items.{item_of_arrival};
 
 use crate::item::{Item, Items, Job};
-use edge_io::{Arrival, Inlet, Received, Sink, Source};
+use edge_io::{Sink, Source};
 use ip_prefix::Transport;
 use policy_publish::{Latest, StoreName};
+use server_io::{Arrival, Inlet, Received};
 use std::sync::Wait;
 
 /// What comes to a server, out of an inlet, of which contracts know nothing, and what was published. Before an item comes the list that

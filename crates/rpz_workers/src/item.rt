@@ -5,14 +5,15 @@ ghost use Rattle.rpz_workers.specs.Items.{NextItem};
 ghost use Rattle.rpz_workers.specs.declared.item.Item as items;
 
 use dns_name::Octets;
-use edge_io::{Endpoint, Sink, Source};
+use edge_io::{Sink, Source};
 use ip_prefix::Transport;
 use policy_publish::{StoreName, Told};
+use server_io::Peer;
 
 /// A message of a client: where it came from, over which transport, and its bytes.
 #[derive(Debug, Drop)]
 pub struct Job {
-    pub peer: Endpoint,
+    pub peer: Peer,
     pub transport: Transport,
     pub message: Octets,
 }
@@ -23,11 +24,7 @@ pub enum Item<N: StoreName, S: Source + Drop, K: Sink + Drop> {
     /// A message, whose reply goes out over the transport over which it came.
     Job(Job),
     /// A connection of a client, with its messages.
-    Connection {
-        source: S,
-        sink: K,
-        client: Endpoint,
-    },
+    Connection { source: S, sink: K, client: Peer },
     /// A list of transfers that was published.
     Told(Told<N>),
     /// The end of the run.

@@ -208,11 +208,12 @@ impl<L: Link + Drop, A: Keeps<L> + Drop, B: Asks<L> + Drop> Sources<L, A, B> {
         Ok(Answered::Said(last_turn(session)?))
     }
 
-    // What a message comes to under this version of the policy.
+    // What a message, whose client may ask or may not, comes to under this version of the policy.
     pub(crate) fn answer_by(
         &mut self,
         alloc: Global,
         policy: Arc<Snapshot, Global>,
+        may_ask: bool,
         job: &Job,
         now: u32,
         obtained: &mut Vec<Obtained<L>>,
@@ -220,7 +221,7 @@ impl<L: Link + Drop, A: Keeps<L> + Drop, B: Asks<L> + Drop> Sources<L, A, B> {
         requires { obtained.old.items ≡ [] }
         ensures comes_to { IfOk result (λ answered. ComesTo L.gave B.passes_on now
             (policy_in policy.value)
-            (incoming_of job.now.message job.now.peer.addr job.now.transport)
+            (incoming_of may_ask job.now.message job.now.peer.addr job.now.transport)
             (inquiry [] (A.entries self.old.cache)
             (B.ids self.old.asks) (B.faults self.old.asks))
             answered obtained.new.items (A.entries self.new.cache)
@@ -233,6 +234,7 @@ impl<L: Link + Drop, A: Keeps<L> + Drop, B: Asks<L> + Drop> Sources<L, A, B> {
             alloc,
             self.key,
             policy,
+            may_ask,
             job.message.as_slice(),
             job.peer.addr,
             job.transport,

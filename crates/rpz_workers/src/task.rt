@@ -6,8 +6,9 @@ use crate::onward::Onward;
 use crate::report::Report;
 use crate::worker::Worker;
 use answer_cache::Keeps;
-use edge_io::{Clock, Link, Replies, Sink, Source, Task};
+use edge_io::{Clock, Link, Sink, Source, Task};
 use policy_publish::StoreName;
+use server_io::Replies;
 use std::marker::PhantomData;
 use std::sync::Wait;
 
@@ -86,7 +87,7 @@ impl<
     ghost use Rattle.rpz_workers.specs.Reports.{counts_of};
     ghost use Rattle.rpz_workers.specs.Working.{EndsRun, run_state};
 
-    ghost ends = { λ task report. EndsRun N.store.settings L.gave B.passes_on
+    ghost ends = { λ task report. EndsRun N.store L.gave B.passes_on
         (stream_views S.left S.faults K.held K.faults)
         (run_state (Q.coming task.items)
         (worker_state task.worker (C.moments task.clock) (O.passed task.onward)

@@ -131,21 +131,23 @@ impl<N: StoreName, L: Link + Drop, A: Keeps<L> + Drop, B: Asks<L> + Drop> Worker
         self.reader.learn(told);
     }
 
-    /// Answers a message that came at this second, in seconds, by the version of the policy that is published now. A question is
-    /// asked over the link only where no live entry of the cache answers it; what can't be cached, since an allocation failed, is
-    /// used all the same. A worker without a link gives back the first question that needs the upstream. Over a cache that is
-    /// shared it takes a lock for a look-up and for a keep, and for nothing else; over one of its own it takes none. Out of memory a
-    /// cache of the worker's own is emptied, which gives memory back; one that is shared stays.
+    /// Answers a message that came at this second, in seconds, by the version of the policy that is published now. The one of a
+    /// client that may not ask is refused: nothing is looked up or asked for it. A question is asked over the link only where no live
+    /// entry of the cache answers it; what can't be cached, since an allocation failed, is used all the same. A worker without a link
+    /// gives back the first question that needs the upstream. Over a cache that is shared it takes a lock for a look-up and for a keep,
+    /// and for nothing else; over one of its own it takes none. Out of memory a cache of the worker's own is emptied, which gives
+    /// memory back; one that is shared stays.
     pub fn answer(&mut self, job: &Job, now: u32) -> Result<Answered, AllocError>
-        ensures answers { Answers N.store.settings L.gave B.passes_on job.now now result
+        ensures answers { Answers N.store L.gave B.passes_on job.now now result
             self.old self.new }
         ensures short { IfOk result IsShortAnswer }
     {
         self.obtained.clear();
         let policy = self.reader.pin()?;
+        let may_ask = self.reader.may_ask(job.peer.addr);
         let answered = self
             .sources
-            .answer_by(self.alloc, policy, job, now, &mut self.obtained);
+            .answer_by(self.alloc, policy, may_ask, job, now, &mut self.obtained);
         match answered {
             Ok(answered) => Ok(answered),
             Err(error) => {
@@ -176,7 +178,7 @@ impl<N: StoreName, L: Link + Drop, A: Keeps<L> + Drop, B: Asks<L> + Drop> Worker
     /// Answers a message that came at this second, in seconds, as [`answer`](Worker::answer) does, or passes it on, with the list
     /// of transfers that was then seen. Where there is no room to pass it on, that counts as memory that ran out.
     pub(crate) fn settle<O: Onward<N>>(&mut self, job: &Job, now: u32, onward: &mut O) -> Outcome
-        ensures settles { Settles N.store.settings L.gave B.passes_on job.now now result
+        ensures settles { Settles N.store L.gave B.passes_on job.now now result
             self.old self.new (O.passed onward.old) (O.passed onward.new) }
         ensures short { IsShortOutcome result }
     {

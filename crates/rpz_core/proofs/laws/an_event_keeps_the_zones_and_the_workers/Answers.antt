@@ -4,6 +4,9 @@ use Rattle.rpz_core.proofs.laws.an_event_keeps_the_zones_and_the_workers.Goals a
 pub returns-clause-settings : goal.returns-clause-settings
 returns-clause-settings c = λ w next e out is. (step_keeps w next e out is).settings
 
+pub returns-clause-allowed : goal.returns-clause-allowed
+returns-clause-allowed c = λ w next e out is. (step_keeps w next e out is).allowed
+
 pub returns-clause-workers : goal.returns-clause-workers
 returns-clause-workers c = λ w next e out is. (step_keeps w next e out is).workers
 

@@ -10,7 +10,7 @@ use Rattle.policy_feed.proofs.feeder.Feeder.order_zone.Goals as goal
 
 pub returns-clause-orders : goal.returns-clause-orders
 returns-clause-orders g c =
-    let f : PlainFeeder = record { zones = record { origins = c.self.inside.origins.items; primaries = c.self.inside.primaries.items }; published = c.self.inside.publisher; timers = c.self.inside.timers; polls = c.self.inside.polls.items } in
+    let f : PlainFeeder = record { allowed = g.N.StoreName.store.allowed; zones = record { origins = c.self.inside.origins.items; primaries = c.self.inside.primaries.items }; published = c.self.inside.publisher; timers = c.self.inside.timers; polls = c.self.inside.polls.items } in
     let there = zone_in c.args.number f c.args.self.now c.self.view_is c.self.invariant c.requires.low c.requires.high in
     let high = subst (λ (x : PlainFeeder). c.args.number ≤ length x.timers) (sym c.self.view_is) c.requires.high in
     let low = c.requires.low in

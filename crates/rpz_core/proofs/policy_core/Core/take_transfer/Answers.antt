@@ -28,6 +28,7 @@ pub returns : goal.returns
 returns c =
     let core : CoreState = record {
       origins = c.self.inside.origins.items;
+      allowed = c.self.inside.allowed;
       policy = arc_value c.self.inside.policy;
       marks = c.self.inside.marks;
       timers = c.self.inside.timers;
