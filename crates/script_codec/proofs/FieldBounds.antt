@@ -5,6 +5,8 @@ use Rattle.std.proofs.lemmas.Bool.{cond_both, eqb-false, ltb-false, leb-true, le
 use Rattle.dns_name.specs.Labels.{IsLabel, IsName, name_octets}
 use Rattle.dns_name.specs.Text.{has_label_lengths, has_text_bytes, text_labels, text_name, without_last_dot}
 use Rattle.dns_name.specs.declared.limits.TheConstants.{LABEL_LIMIT, NAME_LIMIT}
+use Rattle.ip_prefix.specs.Prefix.{PlainPrefix}
+use Rattle.allow_list.specs.declared.list.TheConstants.{NETWORK_LIMIT}
 use Rattle.zone_rows.specs.declared.zone.TheConstants.{ZONE_LIMIT}
 use Rattle.dns_name.specs.declared.fault.TextFault.{TextFault}
 use Rattle.script_codec.specs.declared.field.TheConstants.{MESSAGE_BYTES}
@@ -12,8 +14,8 @@ use Rattle.script_codec.specs.declared.state.TheConstants.{WORKERS}
 use Rattle.script_codec.specs.declared.line_fault.LineFault.TheVariants as why
 use Rattle.script_codec.specs.Field.{or_refused, name_field, number_field, zone_field, worker_field, bytes_field, message_field}
 use Rattle.script_codec.specs.Outcome.{refuse_if}
-use Rattle.script_codec.specs.State.{PlainState, opening, running, opens, takes_primary}
-use Rattle.script_codec.specs.Within.{IsWorker, IsMessage, MayOpen, MayHavePrimary}
+use Rattle.script_codec.specs.State.{PlainState, opening, running, opens, takes_network, takes_primary}
+use Rattle.script_codec.specs.Within.{IsWorker, IsMessage, MayAllow, MayOpen, MayHavePrimary}
 use Rattle.script_codec.proofs.Binding.{bind_ok, not_refused, ok_is}
 
 -- zones
@@ -51,7 +53,7 @@ message_bounds text message e =
 
 pub may_open : (state : PlainState) (origin : List (List ℕ)) (u : Unit {0}) → opens state origin ≡ Ok u → MayOpen state origin
 unfolding opens
-may_open (opening origins primaries) origin u e =
+may_open (opening origins primaries allowed) origin u e =
     let a = bind_ok (refuse_if (leb ZONE_LIMIT (length origins)) why.Many) _ u e in
     (leb-false ZONE_LIMIT (length origins) (not_refused _ why.Many a.0 a.1), not_refused _ why.Repeated u a.2)
 may_open (running zones pending) origin u e = absurd cc
@@ -60,8 +62,17 @@ may_open (running zones pending) origin u e = absurd cc
 
 pub may_have_primary : (state : PlainState) (zone : ℕ) (u : Unit {0}) → takes_primary state zone ≡ Ok u → MayHavePrimary state zone
 unfolding takes_primary
-may_have_primary (opening origins primaries) zone u e = not_refused _ why.Repeated u e
+may_have_primary (opening origins primaries allowed) zone u e = not_refused _ why.Repeated u e
 may_have_primary (running zones pending) zone u e = absurd cc
+
+-- networks that may be allowed
+
+pub may_allow : (state : PlainState) (network : PlainPrefix) (u : Unit {0}) → takes_network state network ≡ Ok u → MayAllow state network
+unfolding takes_network
+may_allow (opening origins primaries allowed) network u e =
+    let a = bind_ok (refuse_if (leb NETWORK_LIMIT (length allowed)) why.Many) _ u e in
+    (leb-false NETWORK_LIMIT (length allowed) (not_refused _ why.Many a.0 a.1), not_refused _ why.Repeated u a.2)
+may_allow (running zones pending) network u e = absurd cc
 
 -- names
 

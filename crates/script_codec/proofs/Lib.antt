@@ -1,4 +1,5 @@
 pub mod Cuts
 pub mod Binding
 pub mod FieldBounds
+pub mod NetworkBounds
 pub mod LineBounds

@@ -7,15 +7,16 @@ use Rattle.script_codec.specs.declared.line.Line.{Line}
 use Rattle.script_codec.specs.declared.line.Line.TheVariants as line
 use Rattle.script_codec.specs.declared.line_fault.LineFault.{LineFault}
 use Rattle.script_codec.specs.declared.line_fault.LineFault.TheVariants as why
-use Rattle.script_codec.specs.Field.{name_field, number_field, zone_field, worker_field, transport_field, address_field, bytes_field, message_field}
+use Rattle.script_codec.specs.Field.{name_field, number_field, zone_field, worker_field, transport_field, address_field, network_field, bytes_field, message_field}
 use Rattle.script_codec.specs.Fields.{fields_of, first_field, no_more_fields, one_field, two_fields, four_fields}
-use Rattle.script_codec.specs.Line.{zone_line, primary_line, transfer_line, full_line, query_line, give_line, fail_line, notify_line, due_line, clock_line, kind_line, worded_line, is_skipped, is_text_byte, unnumbered_line}
+use Rattle.script_codec.specs.Line.{zone_line, primary_line, allow_line, transfer_line, full_line, query_line, give_line, fail_line, notify_line, due_line, clock_line, kind_line, worded_line, is_skipped, is_text_byte, unnumbered_line}
 use Rattle.script_codec.specs.Outcome.{refuse_if}
 use Rattle.script_codec.specs.Overriding.{override_field, override_text}
-use Rattle.script_codec.specs.State.{PlainState, zone_count, is_pending, opens, takes_primary}
+use Rattle.script_codec.specs.State.{PlainState, zone_count, is_pending, opens, takes_network, takes_primary}
 use Rattle.script_codec.specs.Within.{IsWithin}
 use Rattle.script_codec.proofs.Binding.{bind_ok, not_refused, ok_is}
-use Rattle.script_codec.proofs.FieldBounds.{zone_bounds, worker_bounds, message_bounds, may_open, may_have_primary, name_bounds}
+use Rattle.script_codec.proofs.FieldBounds.{zone_bounds, worker_bounds, message_bounds, may_allow, may_open, may_have_primary, name_bounds}
+use Rattle.script_codec.proofs.NetworkBounds.{network_bounds}
 
 -- from the line that the fields give to the line that is read
 read_is : (state : PlainState) (given says : Line) → (let r : Result Line LineFault = Ok given in r ≡ Ok says) → IsWithin state given → IsWithin state says
@@ -43,6 +44,16 @@ primary_within state fields says e =
     let c = bind_ok (address_field a.0.1) _ says b.2 in
     let d = bind_ok (takes_primary state b.0) _ says c.2 in
     read_is state (line.Primary b.0 c.0) says d.2 (zone_bounds (zone_count state) a.0.0 b.0 b.1, may_have_primary state b.0 d.0 d.1)
+
+-- `allow PREFIX`
+
+allow_within : (state : PlainState) (fields : List (List ℕ)) (says : Line) → allow_line state fields ≡ Ok says → IsWithin state says
+unfolding allow_line
+allow_within state fields says e =
+    let a = bind_ok (one_field fields) _ says e in
+    let b = bind_ok (network_field a.0) _ says a.2 in
+    let c = bind_ok (takes_network state b.0) _ says b.2 in
+    read_is state (line.Allow b.0) says c.2 (network_bounds a.0 b.0 b.1, may_allow state b.0 c.0 c.1)
 
 -- `xfer Z HEX`
 
@@ -134,6 +145,7 @@ unfolding kind_line
 kind_within state word fields says =
     cond_both (bytes_eq word (codes "zone")) _ _ (ReadsWithin state says) (λ t. zone_within state fields says) (λ t.
     cond_both (bytes_eq word (codes "primary")) _ _ (ReadsWithin state says) (λ t. primary_within state fields says) (λ t.
+    cond_both (bytes_eq word (codes "allow")) _ _ (ReadsWithin state says) (λ t. allow_within state fields says) (λ t.
     cond_both (bytes_eq word (codes "xfer")) _ _ (ReadsWithin state says) (λ t. transfer_within state fields says) (λ t.
     cond_both (bytes_eq word (codes "full")) _ _ (ReadsWithin state says) (λ t. full_within state fields says) (λ t.
     cond_both (bytes_eq word (codes "query")) _ _ (ReadsWithin state says) (λ t. query_within state fields says) (λ t.
@@ -141,7 +153,7 @@ kind_within state word fields says =
     cond_both (bytes_eq word (codes "fail")) _ _ (ReadsWithin state says) (λ t. fail_within state fields says) (λ t.
     cond_both (bytes_eq word (codes "notify")) _ _ (ReadsWithin state says) (λ t. notify_within state fields says) (λ t.
     cond_both (bytes_eq word (codes "due")) _ _ (ReadsWithin state says) (λ t. due_within state fields says) (λ t.
-    cond_both (bytes_eq word (codes "clock")) _ _ (ReadsWithin state says) (λ t. clock_within state fields says) (λ t e. absurd cc))))))))))
+    cond_both (bytes_eq word (codes "clock")) _ _ (ReadsWithin state says) (λ t. clock_within state fields says) (λ t e. absurd cc)))))))))))
 
 worded_within : (state : PlainState) (fields : List (List ℕ)) (says : Line) → worded_line state fields ≡ Ok says → IsWithin state says
 worded_within state [] says e = absurd cc

@@ -9,9 +9,9 @@ use Rattle.script_codec.specs.declared.line_fault.LineFault.{LineFault}
 use Rattle.script_codec.specs.declared.line_fault.LineFault.TheVariants as why
 use Rattle.script_codec.specs.Outcome.{◌>>=◌, refuse_if}
 use Rattle.script_codec.specs.Fields.{fields_of, first_field, no_more_fields, one_field, two_fields, four_fields}
-use Rattle.script_codec.specs.Field.{name_field, number_field, zone_field, worker_field, transport_field, address_field, bytes_field, message_field}
+use Rattle.script_codec.specs.Field.{name_field, number_field, zone_field, worker_field, transport_field, address_field, network_field, bytes_field, message_field}
 use Rattle.script_codec.specs.Overriding.{override_field, override_text}
-use Rattle.script_codec.specs.State.{PlainState, zone_count, is_pending, opens, takes_primary}
+use Rattle.script_codec.specs.State.{PlainState, zone_count, is_pending, opens, takes_primary, takes_network}
 
 -- `zone NAME`, `zone NAME WORD` or `zone NAME cname TARGET`
 unfoldable pub zone_line : PlainState → List (List ℕ) → Result Line LineFault
@@ -31,6 +31,14 @@ primary_line state fields = do
   address ← address_field source
   _ ← takes_primary state zone
   Ok (line.Primary zone address)
+
+-- `allow PREFIX`
+unfoldable pub allow_line : PlainState → List (List ℕ) → Result Line LineFault
+allow_line state fields = do
+  text ← one_field fields
+  network ← network_field text
+  _ ← takes_network state network
+  Ok (line.Allow network)
 
 -- `xfer Z HEX`
 unfoldable pub transfer_line : PlainState → List (List ℕ) → Result Line LineFault
@@ -101,6 +109,7 @@ unfoldable pub kind_line : PlainState → List ℕ → List (List ℕ) → Resul
 kind_line state word fields =
     if bytes_eq word (codes "zone") then zone_line state fields
     else (if bytes_eq word (codes "primary") then primary_line state fields
+    else (if bytes_eq word (codes "allow") then allow_line state fields
     else (if bytes_eq word (codes "xfer") then transfer_line state fields
     else (if bytes_eq word (codes "full") then full_line state fields
     else (if bytes_eq word (codes "query") then query_line state fields
@@ -109,7 +118,7 @@ kind_line state word fields =
     else (if bytes_eq word (codes "notify") then notify_line fields
     else (if bytes_eq word (codes "due") then due_line fields
     else (if bytes_eq word (codes "clock") then clock_line fields
-    else Err why.Word)))))))))
+    else Err why.Word))))))))))
 
 -- a line that begins with its first word
 abbrev pub worded_line : PlainState → List (List ℕ) → Result Line LineFault

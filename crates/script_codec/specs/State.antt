@@ -2,6 +2,9 @@
 use Rattle.std.specs.Prelude.{ℕ, ◌-◌, nat_le, Bool, false, List, length, Option, None, is_some, slice_index_or, Result, Err}
 use Rattle.dns_name.specs.Labels.{Name}
 use Rattle.ip_prefix.specs.declared.Addr.{Addr}
+use Rattle.ip_prefix.specs.Prefix.{PlainPrefix}
+use Rattle.allow_list.specs.declared.list.TheConstants.{NETWORK_LIMIT}
+use Rattle.allow_list.specs.Allowed.{has_network}
 use Rattle.script_codec.specs.declared.state.ScriptState.{ScriptState}
 use Rattle.script_codec.specs.declared.state.ScriptState.TheVariants.{Opening, Running}
 use Rattle.zone_rows.specs.declared.zone.TheConstants.{ZONE_LIMIT}
@@ -10,31 +13,32 @@ use Rattle.script_codec.specs.declared.line_fault.LineFault.TheVariants as why
 use Rattle.policy_override.specs.ZoneSet.{has_zone_name, origins_in}
 use Rattle.script_codec.specs.Outcome.{◌>>=◌, refuse_if}
 
--- All lines so far were zone lines, which opened zones of these origins, zone 1 first, and primary lines, by which each of these
--- zones has a primary or none; or there were others, and there are so many zones, and the list says of each worker, worker 0
--- first, whether it has a pending query.
+-- All lines so far were zone lines, which opened zones of these origins, zone 1 first, primary lines, by which each of these zones
+-- has a primary or none, and allow lines, which named these networks; or there were others, and there are so many zones, and the
+-- list says of each worker, worker 0 first, whether it has a pending query.
 pub data PlainState : Type 0 where
-  opening : List Name → List (Option Addr) → PlainState
+  opening : List Name → List (Option Addr) → List PlainPrefix → PlainState
   running : ℕ → List Bool → PlainState
 
 -- what the code holds by reference
 abbrev pub state_of : ScriptState → PlainState
-state_of (Opening zones primaries) = opening (origins_in zones.now) primaries.now
+state_of (Opening zones primaries allowed) =
+    opening (origins_in zones.now) primaries.now allowed.now
 state_of (Running zones pending) = running zones pending
 
 -- how many zones there are
 abbrev pub zone_count : PlainState → ℕ
-zone_count (opening origins primaries) = length origins
+zone_count (opening origins primaries allowed) = length origins
 zone_count (running zones pending) = zones
 
 -- whether the worker has a pending query
 abbrev pub is_pending : PlainState → ℕ → Bool
-is_pending (opening origins primaries) worker = false
+is_pending (opening origins primaries allowed) worker = false
 is_pending (running zones pending) worker = slice_index_or pending worker false
 
 -- whether a zone of this origin may be opened
 unfoldable pub opens : PlainState → Name → Result (Unit {0}) LineFault
-opens (opening origins primaries) origin = do
+opens (opening origins primaries allowed) origin = do
   _ ← refuse_if (nat_le ZONE_LIMIT (length origins)) why.Many
   refuse_if (has_zone_name origins origin) why.Repeated
 opens (running zones pending) origin = Err why.Late
@@ -45,6 +49,13 @@ has_primary primaries zone = is_some (slice_index_or primaries (zone - 1) None)
 
 -- whether the zone of this number may be given a primary
 unfoldable pub takes_primary : PlainState → ℕ → Result (Unit {0}) LineFault
-takes_primary (opening origins primaries) zone =
+takes_primary (opening origins primaries allowed) zone =
     refuse_if (has_primary primaries zone) why.Repeated
 takes_primary (running zones pending) zone = Err why.Late
+
+-- whether this network may be one whose clients may ask
+unfoldable pub takes_network : PlainState → PlainPrefix → Result (Unit {0}) LineFault
+takes_network (opening origins primaries allowed) network = do
+  _ ← refuse_if (nat_le NETWORK_LIMIT (length allowed)) why.Many
+  refuse_if (has_network allowed network) why.Repeated
+takes_network (running zones pending) network = Err why.Late

@@ -1,20 +1,26 @@
 //! What a field says.
 
-ghost use Rattle.std.specs.Prelude.{◌≡◌, ◌≤◌, ◌<◌, ◌^◌, true, length, position, IfOk, IfSome};
-ghost use Rattle.std.specs.Char.{is_ascii_digit};
-ghost use Rattle.std.specs.List.{list_all, before_first, after_first};
+ghost use Rattle.std.specs.Prelude.{◌≡◌, ◌≤◌, IfOk};
 ghost use Rattle.dns_name.specs.Labels.{IsName};
+ghost use Rattle.allow_list.specs.Network.{IsNetwork};
 ghost use Rattle.script_codec.specs.Outcome.{Gives};
 ghost use Rattle.script_codec.specs.Within.{IsWorker, IsMessage};
-ghost use Rattle.dns_name.specs.Text.{is_dot};
-ghost use Rattle.script_codec.specs.Field.{value_of, name_field, number_field, zone_field, worker_field, transport_field, octet_field, v4_field, v6_field, address_field, bytes_field, message_field};
+ghost use Rattle.script_codec.specs.Field.{name_field, number_field, zone_field, worker_field, transport_field, v4_field, v6_field, address_field, network_field, bytes_field, message_field};
 
 use crate::line_fault::{LineFault, UnnumberedError};
 use crate::state::WORKERS;
+use address_text::{read_decimal, read_network, read_v4};
+use allow_list::Network;
 use dns_name::{Name, Octets, TextError};
 use hex::{FromHex, FromHexError};
 use ip_prefix::{Addr, Transport};
 use std::alloc::Global;
+
+/// The most digits of a number.
+const NUMBER_DIGITS: usize = 10;
+
+/// All numbers are below this one.
+const NUMBER_BOUND: u64 = 4_294_967_296;
 
 /// The most bytes of a message (RFC 1035, section 4.2.2).
 const MESSAGE_BYTES: usize = 65_535;
@@ -37,10 +43,7 @@ pub fn name(alloc: Global, text: &[u8]) -> Result<Name, UnnumberedError>
 pub fn number(digits: &[u8]) -> Result<u32, LineFault>
     ensures { result ≡ number_field digits.now }
 {
-    if digits.is_empty() || digits.len() > 10 || !are_digits(digits) {
-        return Err(LineFault::Number);
-    }
-    u32::try_from(value(digits)).map_err(|_| LineFault::Number)
+    read_decimal(digits, NUMBER_DIGITS, NUMBER_BOUND).ok_or(LineFault::Number)
 }
 
 /// The number of a zone, of so many that there are. Zone 1 is the first.
@@ -100,14 +103,10 @@ pub fn address(text: &[u8]) -> Result<Addr, LineFault>
 pub fn address_4(text: &[u8]) -> Result<Addr, LineFault>
     ensures { result ≡ v4_field text.now }
 {
-    let (first, rest) = split_dot(text);
-    let (second, rest) = split_dot(rest);
-    let (third, fourth) = split_dot(rest);
-    let first = octet(first)?;
-    let second = octet(second)?;
-    let third = octet(third)?;
-    let fourth = octet(fourth)?;
-    Ok(Addr::V4(((first * 256 + second) * 256 + third) * 256 + fourth))
+    match read_v4(text) {
+        Some(number) => Ok(Addr::V4(number)),
+        None => Err(LineFault::Address),
+    }
 }
 
 // An address of IP version 6: 32 hexadecimal digits.
@@ -121,59 +120,16 @@ fn address_6(text: &[u8]) -> Result<Addr, LineFault>
     }
 }
 
-// What stands before the first dot, and after it.
-fn split_dot(text: &[u8]) -> (&[u8], &[u8])
-    ensures first { result.0.now ≡ before_first is_dot text.now }
-    ensures rest { result.1.now ≡ after_first is_dot text.now }
+/// The network that `ADDRESS/LENGTH` writes. Anything else is `LineFault::Prefix`.
+#[tactic(auto, using(crate::proofs::NetworkBounds::network_bounds))]
+pub fn network(text: &[u8]) -> Result<Network, LineFault>
+    ensures exact { result ≡ network_field text.now }
+    ensures within { IfOk result IsNetwork }
 {
-    match dot_at(text) {
-        Some(at) => (&text[..at], &text[at + 1..]),
-        None => (text, &[]),
+    match read_network(text) {
+        Ok(network) => Ok(network),
+        Err(_) => Err(LineFault::Prefix),
     }
-}
-
-// Where the first dot stands.
-fn dot_at(text: &[u8]) -> Option<usize>
-    ensures value { result ≡ position is_dot text.now }
-    ensures bound { IfSome result (λ at. at < length text.now) }
-{
-    text.iter().position(|b| *b == b'.')
-}
-
-// The octet that 1 to 3 decimal digits write.
-#[tactic(auto, unfolding(crate::specs::Field::octet_field))]
-fn octet(digits: &[u8]) -> Result<u32, LineFault>
-    ensures value { result ≡ octet_field digits.now }
-    ensures fits { IfOk result (λ octet. octet < 256) }
-{
-    if digits.is_empty() || digits.len() > 3 || !are_digits(digits) {
-        return Err(LineFault::Address);
-    }
-    let value = value(digits);
-    if value < 256 {
-        Ok(value as u32)
-    } else {
-        Err(LineFault::Address)
-    }
-}
-
-fn are_digits(bytes: &[u8]) -> bool
-    ensures { result ≡ list_all is_ascii_digit bytes.now }
-{
-    bytes.iter().all(|b| b.is_ascii_digit())
-}
-
-// The value of at most 10 digits.
-fn value(digits: &[u8]) -> u64
-    requires few { length digits.now ≤ 10 }
-    requires digits { list_all is_ascii_digit digits.now ≡ true }
-    ensures { result ≡ value_of digits.now }
-{
-    let mut value = 0;
-    for digit in digits {
-        value = value * 10 + u64::from(*digit - b'0');
-    }
-    value
 }
 
 /// The bytes that `-` or an even number of hexadecimal digits write.

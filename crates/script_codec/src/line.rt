@@ -1,5 +1,6 @@
 //! What a line of a script says.
 
+use allow_list::Network;
 use dns_name::{Name, Octets};
 use ip_prefix::{Addr, Transport};
 use policy_override::Override;
@@ -17,6 +18,8 @@ pub enum Line {
         zone: u32,
         address: Addr,
     },
+    /// The clients of this network may ask, beside those of other such lines; where there is no such line, everyone may.
+    Allow(Network),
     /// A transfer of the zone of this number, as it came: each message behind its length in two bytes.
     Transfer {
         zone: u32,

@@ -25,11 +25,11 @@ pub enum LineFault {
     Name,
     /// The word behind the name of a zone is no override.
     Override,
-    /// A zone is opened, or given a primary, after a line of another kind than these two.
+    /// A zone is opened or given a primary, or a network is allowed, after a line of another kind than these three.
     Late,
-    /// As many zones are open as may be: 64.
+    /// As many zones are open as may be, or as many networks are allowed: 64 of each.
     Many,
-    /// The zone is open already, or has a primary already.
+    /// The zone is open already, or has a primary already, or the network is allowed already.
     Repeated,
     /// The field is not a number of 1 to 10 decimal digits that is at most 4,294,967,295.
     Number,
@@ -41,6 +41,9 @@ pub enum LineFault {
     Transport,
     /// The field is neither four decimals nor 32 hexadecimal digits.
     Address,
+    /// The field is no network: an address of four decimals, or of groups of hexadecimal digits with colons, a `/`, and a length in
+    /// its bounds, behind which no bit of the address is 1.
+    Prefix,
     /// The field is neither `-` nor an even number of hexadecimal digits.
     Hex,
     /// The message has over 65,535 bytes.
@@ -71,6 +74,7 @@ impl fmt::Display for LineFault {
             LineFault::NoWorker => "NoWorker",
             LineFault::Transport => "Transport",
             LineFault::Address => "Address",
+            LineFault::Prefix => "Prefix",
             LineFault::Hex => "Hex",
             LineFault::Long => "Long",
             LineFault::Busy => "Busy",

@@ -5,11 +5,11 @@ ghost use Rattle.std.specs.List.{list_all};
 ghost use Rattle.script_codec.specs.Outcome.{Gives, LineGives};
 ghost use Rattle.script_codec.specs.Fields.{fields_of, fields_left};
 ghost use Rattle.script_codec.specs.Line as line_form;
-ghost use Rattle.script_codec.specs.Line.{zone_line, primary_line, transfer_line, full_line, query_line, give_line, fail_line, notify_line, due_line, clock_line, worded_line, unnumbered_line, line_of, is_text_byte};
+ghost use Rattle.script_codec.specs.Line.{zone_line, primary_line, allow_line, transfer_line, full_line, query_line, give_line, fail_line, notify_line, due_line, clock_line, worded_line, unnumbered_line, line_of, is_text_byte};
 ghost use Rattle.script_codec.specs.State.{PlainState, state_of};
 ghost use Rattle.script_codec.specs.Within.{IsWithin, SaysWithin};
 
-use crate::field::{address, bytes, message, name, number, transport, worker, zone};
+use crate::field::{address, bytes, message, name, network, number, transport, worker, zone};
 use crate::fields::{
     Left, first_field, four_fields, no_fields, one_field, split_field, two_fields,
 };
@@ -109,6 +109,9 @@ fn read_worded(alloc: Global, text: &[u8], state: &ScriptState<'_>) -> Result<Li
     if word == b"primary".as_slice() {
         return read_primary(fields, state);
     }
+    if word == b"allow".as_slice() {
+        return read_allow(fields, state);
+    }
     if word == b"xfer".as_slice() {
         return read_transfer(alloc, fields, state);
     }
@@ -165,6 +168,18 @@ fn read_primary(fields: Left<'_>, state: &ScriptState<'_>) -> Result<Line, Unnum
     let address = address(source)?;
     state.takes_primary(zone)?;
     Ok(Line::Primary { zone, address })
+}
+
+// The field of `allow PREFIX`.
+#[tactic(auto, unfolding(crate::specs::Line::allow_line))]
+fn read_allow(fields: Left<'_>, state: &ScriptState<'_>) -> Result<Line, UnnumberedError>
+    ensures exact { Gives result (allow_line (state_of state.now) (fields_left fields.entry)) }
+    ensures within { IfOk result (IsWithin (state_of state.now)) }
+{
+    let text = one_field(fields)?;
+    let network = network(text)?;
+    state.takes_network(&network)?;
+    Ok(Line::Allow(network))
 }
 
 // The fields of `xfer Z HEX`.

@@ -2,11 +2,13 @@
 
 ghost use Rattle.std.specs.Prelude.{◌≡◌, ◌≤◌, false, List, Option, slice_index_or, IfOk};
 ghost use Rattle.ip_prefix.specs.declared.Addr.{Addr};
+ghost use Rattle.ip_prefix.specs.Prefix.{PlainPrefix};
 ghost use Rattle.policy_override.specs.ZoneSet.{origins_in};
-ghost use Rattle.script_codec.specs.State.{opening, state_of, zone_count as zones_in, is_pending as is_pending_in, opens as opens_in, has_primary as has_primary_in, takes_primary as takes_primary_in};
-ghost use Rattle.script_codec.specs.Within.{MayHavePrimary, MayOpen};
+ghost use Rattle.script_codec.specs.State.{opening, state_of, zone_count as zones_in, is_pending as is_pending_in, opens as opens_in, has_primary as has_primary_in, takes_network as takes_network_in, takes_primary as takes_primary_in};
+ghost use Rattle.script_codec.specs.Within.{MayAllow, MayHavePrimary, MayOpen};
 
 use crate::line_fault::LineFault;
+use allow_list::{AllowList, NETWORK_LIMIT, Network};
 use dns_name::Name;
 use edge_io::WORKER_LIMIT;
 use ip_prefix::Addr;
@@ -19,12 +21,14 @@ pub const WORKERS: usize = WORKER_LIMIT;
 /// What a line of a script is read by. Empty lines and comments do not count.
 #[derive(Clone, Copy, Debug)]
 pub enum ScriptState<'a> {
-    /// Only zone lines and primary lines so far.
+    /// Only zone lines, primary lines and allow lines so far.
     Opening {
         /// The zones that were opened, the first of them zone 1.
         zones: &'a ZoneSets,
         /// The primary of each of these zones, or none.
         primaries: &'a [Option<Addr>],
+        /// The networks whose clients may ask.
+        allowed: &'a AllowList,
     },
     /// There were other lines.
     Running {
@@ -83,15 +87,33 @@ impl ScriptState<'_> {
         }
         Ok(())
     }
+
+    // Whether this network may be one whose clients may ask.
+    #[tactic(auto, unfolding(crate::specs::State::takes_network))]
+    pub(crate) fn takes_network(&self, network: &Network) -> Result<(), LineFault>
+        ensures exact { result ≡ takes_network_in (state_of self.now) network.now }
+        ensures within { IfOk result (λ _. MayAllow (state_of self.now) network.now) }
+    {
+        let ScriptState::Opening { allowed, .. } = self else {
+            return Err(LineFault::Late);
+        };
+        if allowed.len() >= NETWORK_LIMIT {
+            return Err(LineFault::Many);
+        }
+        if allowed.contains(network) {
+            return Err(LineFault::Repeated);
+        }
+        Ok(())
+    }
 }
 
 // Whether a zone of this origin may be opened beside these.
 #[tactic(auto, unfolding(crate::specs::State::opens))]
 fn admits(zones: &ZoneSets, origin: &Name) -> Result<(), LineFault>
-    ensures exact { (primaries : List (Option Addr)) →
-        result ≡ opens_in (opening (origins_in zones.now) primaries) origin.now }
-    ensures within { (primaries : List (Option Addr)) →
-        IfOk result (λ _. MayOpen (opening (origins_in zones.now) primaries) origin.now) }
+    ensures exact { (primaries : List (Option Addr)) (allowed : List PlainPrefix) →
+        result ≡ opens_in (opening (origins_in zones.now) primaries allowed) origin.now }
+    ensures within { (primaries : List (Option Addr)) (allowed : List PlainPrefix) →
+        IfOk result (λ _. MayOpen (opening (origins_in zones.now) primaries allowed) origin.now) }
 {
     if zones.len() >= ZONE_LIMIT {
         return Err(LineFault::Many);
