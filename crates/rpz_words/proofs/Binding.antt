@@ -1,22 +1,28 @@
--- Values that follow one another, taken apart.
-use Rattle.std.proofs.Common.{◌≡◌, Bool, true, false, Option, Some, None, refl}
-use Rattle.rpz_words.specs.Outcome.{◌>>=◌, none_if}
+-- Results that follow one another, taken apart.
+use Rattle.std.proofs.Common.{◌≡◌, Bool, true, false, Option, Some, None, Result, Ok, Err, refl}
+use Rattle.std.specs.Option.{ok_or}
+use Rattle.rpz_words.specs.Outcome.{◌>>=◌, cause_if, or_said}
 
 -- where the whole has a value, its first part has one, and what follows
-pub bind_some : {A B : Type 0} (o : Option A) (f : A → Option B) (y : B) → o >>= f ≡ Some y → (x : A) × (o ≡ Some x) × (f x ≡ Some y)
-bind_some (Some x) f y e = (x, refl, e)
-bind_some None f y e = absurd cc
+pub bind_ok : {A B E : Type 0} (o : Result A E) (f : A → Result B E) (y : B) → o >>= f ≡ Ok y → (x : A) × (o ≡ Ok x) × (f x ≡ Ok y)
+bind_ok (Ok x) f y e = (x, refl, e)
+bind_ok (Err fault) f y e = absurd cc
 
--- there is something only where the test doesn't hold
-pub not_held : (test : Bool) (u : Unit {0}) → none_if test ≡ Some u → test ≡ false
-not_held true u e = absurd cc
-not_held false u e = refl
+-- there is no fault only where the test doesn't hold
+pub no_fault_of : {E : Type 0} (test : Bool) (fault : E) (u : Unit {0}) → cause_if test fault ≡ Ok u → test ≡ false
+no_fault_of true fault u e = absurd cc
+no_fault_of false fault u e = refl
 
--- an option has one value
-pub some_is : {A : Type 0} (x y : A) → (let o : Option A = Some x in o ≡ Some y) → x ≡ y
-some_is x y e = cc
+-- a value that may be missing is there
+pub is_there : {A E : Type 0} (o : Option A) (fault : E) (x : A) → ok_or o fault ≡ Ok x → o ≡ Some x
+is_there (Some y) fault x e = cc
+is_there None fault x e = absurd cc
 
--- nothing follows where nothing is
-pub bind_none : {A B : Type 0} (o : Option A) → (o >>= λ _. (let n : Option B = None in n)) ≡ None
-bind_none (Some x) = refl
-bind_none None = refl
+-- what is said of a fault takes nothing from a value
+pub unsaid : {A E F : Type 0} (say : E → F) (r : Result A E) (x : A) → or_said say r ≡ Ok x → r ≡ Ok x
+unsaid say (Ok y) x e = cc
+unsaid say (Err fault) x e = absurd cc
+
+-- a result has one value
+pub ok_is : {A E : Type 0} (x y : A) → (let o : Result A E = Ok x in o ≡ Ok y) → x ≡ y
+ok_is x y e = cc

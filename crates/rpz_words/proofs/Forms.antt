@@ -1,19 +1,24 @@
 -- Forms of values.
-use Rattle.std.proofs.Common.{◌≡◌, ℕ, ◌^◌, ◌≤◌, Bool, false, ◌||◌, if◌then◌else◌, List, [], ◌∷◌, length, Some, None, ltb, refl, ap, arith, subst, drop_of_length-le}
+use Rattle.std.proofs.Common.{◌≡◌, ℕ, ◌^◌, ◌≤◌, Bool, true, false, ◌||◌, if◌then◌else◌, List, [], ◌∷◌, length, Some, None, Ok, ltb, refl, subst}
 use Rattle.std.specs.Char.{is_ascii_digit}
-use Rattle.std.specs.List.{list_any, position_or_len, before_first, after_first}
+use Rattle.std.specs.List.{before_first, after_first}
+use Rattle.std.specs.Option.{ok_or}
 use Rattle.std.specs.Result.{result_ok}
 use Rattle.std.proofs.lemmas.Bool.{and_left, and_right, or_parts, ltb-false}
-use Rattle.std.proofs.lemmas.List.Folds.{list_any_none}
-use Rattle.std.proofs.lemmas.List.Sums.{fails_before_first}
+use Rattle.address_text.specs.Dotted.{v4_number}
+use Rattle.address_text.specs.Mapped.{is_mapped_number}
+use Rattle.address_text.specs.Optional.{none_if}
+use Rattle.address_text.specs.V6.{is_colon, v6_number}
 use Rattle.edge_io.specs.declared.endpoint.Endpoint.{Endpoint}
-use Rattle.policy_override.specs.Override.{named_override}
-use Rattle.policy_override.specs.declared.overrides.Override.TheVariants.{Given}
-use Rattle.script_codec.specs.Field.{is_number, number_field, v4_field}
-use Rattle.rpz_words.specs.declared.values.TheConstants.{PORT_DIGITS, PORT_LIMIT}
-use Rattle.rpz_words.specs.Outcome.{none_if}
-use Rattle.rpz_words.specs.Values.{cname_override, count_to, number_between, port_of, endpoint_of, origin_of, override_behind, override_of, zone_setting_of, is_colon, is_at_sign, is_equals_sign}
-use Rattle.rpz_words.proofs.Binding.{bind_none, bind_some, not_held, some_is}
+use Rattle.address_text.specs.Decimal.{is_number}
+use Rattle.script_codec.specs.Field.{number_field}
+use Rattle.rpz_words.specs.declared.endpoint_text.TheConstants.{PORT_DIGITS, PORT_LIMIT}
+use Rattle.rpz_words.specs.declared.usage_cause.EndpointFault.TheVariants.{Address, Mapped, Port}
+use Rattle.rpz_words.specs.Endpoint.{behind_colon, endpoint_of, is_bracket, is_end_bracket, v4_endpoint, v6_endpoint}
+use Rattle.rpz_words.specs.Outcome.{cause_if}
+use Rattle.rpz_words.specs.Values.{count_to, number_between, port_of}
+use Rattle.rpz_words.proofs.Binding.{bind_ok, is_there, ok_is}
+use Rattle.rpz_words.proofs.OptionBinding.{bind_some, not_held, some_is}
 
 -- numbers
 
@@ -50,49 +55,27 @@ port_within digits port e =
     let a = bind_some (none_if (ltb PORT_DIGITS (length digits))) _ port e in
     (number_within 1 PORT_LIMIT digits port a.2).0
 
+v4_port : (text : List ℕ) (endpoint : Endpoint) → v4_endpoint text ≡ Ok endpoint → 1 ≤ endpoint.port
+unfolding v4_endpoint
+v4_port text endpoint e =
+    let a = bind_ok (ok_or (v4_number (before_first is_colon text)) Address) _ endpoint e in
+    let b = bind_ok (ok_or (port_of (after_first is_colon text)) Port) _ endpoint a.2 in
+    subst (λ (x : Endpoint). 1 ≤ x.port) (ok_is _ endpoint b.2) (port_within (after_first is_colon text) b.0 (is_there (port_of (after_first is_colon text)) Port b.0 b.1))
+
+v6_port : (text : List ℕ) (endpoint : Endpoint) → v6_endpoint text ≡ Ok endpoint → 1 ≤ endpoint.port
+unfolding v6_endpoint
+v6_port text endpoint e =
+    let a = bind_ok (ok_or (v6_number (before_first is_end_bracket text)) Address) _ endpoint e in
+    let b = bind_ok (cause_if (is_mapped_number a.0) Mapped) _ endpoint a.2 in
+    let c = bind_ok (behind_colon (after_first is_end_bracket text)) _ endpoint b.2 in
+    let d = bind_ok (ok_or (port_of c.0) Port) _ endpoint c.2 in
+    subst (λ (x : Endpoint). 1 ≤ x.port) (ok_is _ endpoint d.2) (port_within c.0 d.0 (is_there (port_of c.0) Port d.0 d.1))
+
+by_bracket : (bracket : Bool) (text rest : List ℕ) (endpoint : Endpoint) → (if bracket then v6_endpoint rest else v4_endpoint text) ≡ Ok endpoint → 1 ≤ endpoint.port
+by_bracket true text rest endpoint e = v6_port rest endpoint e
+by_bracket false text rest endpoint e = v4_port text endpoint e
+
 -- an endpoint has a port
-pub endpoint_port : (text : List ℕ) (endpoint : Endpoint) → endpoint_of text ≡ Some endpoint → 1 ≤ endpoint.port
-unfolding endpoint_of
-endpoint_port text endpoint e =
-    let a = bind_some (result_ok (v4_field (before_first is_colon text))) _ endpoint e in
-    let b = bind_some (port_of (after_first is_colon text)) _ endpoint a.2 in
-    subst (λ (x : Endpoint). 1 ≤ x.port) (some_is _ endpoint b.2) (port_within _ b.0 b.1)
-
-no_port : port_of [] ≡ None
-unfolding port_of number_between number_field
-no_port = refl
-
-nothing_behind : (p : ℕ → Bool) (text : List ℕ) → position_or_len p text ≡ length text → after_first p text ≡ []
-nothing_behind p text whole = drop_of_length-le text (omega arith)
-
--- without a colon there is no endpoint
-pub no_endpoint : (text : List ℕ) → position_or_len is_colon text ≡ length text → endpoint_of text ≡ None
-unfolding endpoint_of
-no_endpoint text whole =
-    rw (nothing_behind is_colon text whole, no_port) (bind_none (result_ok (v4_field (before_first is_colon text))))
-
--- nothing before an equals sign is none either
-empty_primary : endpoint_of (before_first is_equals_sign []) ≡ None
-empty_primary = no_endpoint [] refl
-
--- without an `@` there is no zone
-pub no_zone : (text : List ℕ) → position_or_len is_at_sign text ≡ length text → zone_setting_of text ≡ None
-unfolding zone_setting_of
-no_zone text whole =
-    rw (nothing_behind is_at_sign text whole, empty_primary) (bind_none (origin_of (before_first is_at_sign text)))
-
--- overrides
-
--- no byte passes where the first such place is the text's end
-is_absent : (p : ℕ → Bool) (text : List ℕ) → position_or_len p text ≡ length text → list_any p text ≡ false
-is_absent p text whole = list_any_none p text (λ k d lt. fails_before_first p text k d (omega (arith, whole)))
-
--- without an equals sign nothing is set over the zone
-pub none_set : (text : List ℕ) → position_or_len is_equals_sign text ≡ length text → override_behind text ≡ Some Given
-none_set text whole =
-    ap (λ (found : Bool). if found then override_of (after_first is_equals_sign text) else Some Given) (is_absent is_equals_sign text whole)
-
--- without a colon an override is a word
-pub word_alone : (text : List ℕ) → position_or_len is_colon text ≡ length text → override_of text ≡ named_override text
-word_alone text whole =
-    ap (λ (found : Bool). if found then cname_override (before_first is_colon text) (after_first is_colon text) else named_override text) (is_absent is_colon text whole)
+pub endpoint_port : (text : List ℕ) (endpoint : Endpoint) → endpoint_of text ≡ Ok endpoint → 1 ≤ endpoint.port
+endpoint_port [] endpoint e = v4_port [] endpoint e
+endpoint_port (b ∷ rest) endpoint e = by_bracket (is_bracket b) (b ∷ rest) rest endpoint e

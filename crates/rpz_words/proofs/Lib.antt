@@ -1,6 +1,9 @@
 pub mod Binding
+pub mod EachLemmas
+pub mod EndpointLemmas
 pub mod Forms
 pub mod Limits
+pub mod OptionBinding
+pub mod PartLemmas
 pub mod Shown
 pub mod Taken
-pub mod ZoneLists

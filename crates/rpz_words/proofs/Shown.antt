@@ -1,5 +1,5 @@
 -- Which page words ask for, and that one is shown only where they do.
-use Rattle.std.proofs.Common.{◌≡◌, ap, refl, ◌∙◌, Bool, true, false, if◌then◌else◌, ◌||◌, List, [], ◌∷◌, Option, Some, None, codes, map, string_bytes}
+use Rattle.std.proofs.Common.{◌≡◌, ap, refl, ◌∙◌, Bool, true, false, if◌then◌else◌, ◌||◌, List, [], ◌∷◌, Option, Some, None, Result, Ok, Err, codes, map, string_bytes}
 use Rattle.std.specs.List.{list_any}
 use Rattle.std.specs.Prelude.{String}
 use Rattle.std.specs.Str.{bytes_eq}
@@ -13,21 +13,23 @@ use Rattle.rpz_words.specs.declared.pages.Page.{Page}
 use Rattle.rpz_words.specs.declared.pages.Page.TheVariants.{Commands, Version}
 use Rattle.rpz_words.specs.declared.settings.LoadSettings.{LoadSettings}
 use Rattle.rpz_words.specs.declared.settings.Settings.{Settings}
+use Rattle.rpz_words.specs.declared.usage_cause.UsageCause.{UsageCause}
+use Rattle.rpz_words.specs.declared.usage_cause.UsageCause.TheVariants.{Words}
 
-by_name : (replay serve load : Bool) (settings : Option Settings) (loads : Option LoadSettings) (page : Page)
-    → (if replay then Some Replay else (if serve then (settings >>= λ s. Some (Serve s)) else (if load then (loads >>= λ s. Some (Load s)) else None))) ≡ Some (Show page) → ⊥
+by_name : (replay serve load : Bool) (settings : Result Settings UsageCause) (loads : Result LoadSettings UsageCause) (page : Page)
+    → (if replay then Ok Replay else (if serve then (settings >>= λ s. Ok (Serve s)) else (if load then (loads >>= λ s. Ok (Load s)) else Err Words))) ≡ Ok (Show page) → ⊥
 by_name true serve load settings loads page e = cc
-by_name false true load None loads page e = cc
-by_name false true load (Some s) loads page e = cc
-by_name false false true settings None page e = cc
-by_name false false true settings (Some s) page e = cc
+by_name false true load (Err cause) loads page e = cc
+by_name false true load (Ok s) loads page e = cc
+by_name false false true settings (Err cause) page e = cc
+by_name false false true settings (Ok s) page e = cc
 by_name false false false settings loads page e = cc
 
-by_command : (found : Option (Text × List Row)) (page : Page) → command_of found ≡ Some (Show page) → ⊥
+by_command : (found : Option (Text × List Row)) (page : Page) → command_of found ≡ Ok (Show page) → ⊥
 by_command None page e = cc
 by_command (Some (name, rows)) page e = by_name (bytes_eq name (codes "replay")) (bytes_eq name (codes "serve")) (bytes_eq name (codes "load")) (settings_of rows) (load_settings_of rows) page e
 
-pub asked_page : (asked : Option Page) (words : List (String Global)) (page : Page) → command_by asked words ≡ Some (Show page) → asked ≡ Some page
+pub asked_page : (asked : Option Page) (words : List (String Global)) (page : Page) → command_by asked words ≡ Ok (Show page) → asked ≡ Some page
 asked_page (Some other) words page e = cc
 asked_page None words page e = absurd (by_command (subcommand_of rpz_app (argv words)) page e)
 

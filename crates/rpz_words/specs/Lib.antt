@@ -1,6 +1,10 @@
+pub mod Cause
 pub mod Outcome
 pub mod Zones
 pub mod Values
+pub mod Endpoint
+pub mod Lists
+pub mod ZoneWords
 pub mod Pages
 pub mod Words
 pub mod Limits

@@ -1,5 +1,7 @@
 -- What holds of what words ask for.
-use Rattle.std.specs.Prelude.{◌≤◌, length, IfSome}
+use Rattle.std.specs.Prelude.{◌≤◌, ◌≢◌, length, AllPairs, IfSome}
+use Rattle.allow_list.specs.declared.list.TheConstants.{NETWORK_LIMIT}
+use Rattle.edge_io.specs.declared.limits.TheConstants.{LISTEN_LIMIT}
 use Rattle.zone_rows.specs.declared.zone.TheConstants.{ZONE_LIMIT}
 use Rattle.rpz_words.specs.declared.command.Command.{Command}
 use Rattle.rpz_words.specs.declared.command.Command.TheVariants.{Load, Replay, Serve, Show}
@@ -10,6 +12,9 @@ use Rattle.rpz_words.specs.Zones.{HasDistinctOrigins}
 
 -- what a server is to do is within its limits
 pub record IsServable (settings : Settings) : Type 0 where
+  pub some_endpoints : 1 ≤ length settings.listen
+  pub few_endpoints : length settings.listen ≤ LISTEN_LIMIT
+  pub other_endpoints : AllPairs (λ one other. one ≢ other) settings.listen
   pub some_turns : IfSome settings.turns (λ turns. 1 ≤ turns)
   pub some_workers : 1 ≤ settings.workers
   pub few_workers : settings.workers ≤ WORKER_LIMIT
@@ -21,6 +26,8 @@ pub record IsServable (settings : Settings) : Type 0 where
   pub few_connections : settings.connections.all ≤ CONNECTION_LIMIT
   pub some_of_client : 1 ≤ settings.connections.of_client
   pub few_of_client : settings.connections.of_client ≤ CONNECTION_LIMIT
+  pub few_networks : length settings.allowed ≤ NETWORK_LIMIT
+  pub other_networks : AllPairs (λ one other. one ≢ other) settings.allowed
   pub some_zones : 1 ≤ length settings.zones
   pub few_zones : length settings.zones ≤ ZONE_LIMIT
   pub distinct : HasDistinctOrigins settings.zones

@@ -50,7 +50,9 @@ fn serve_options<'a>(alloc: Global) -> Result<Command<'a>, AllocError>
     let with_clients = with_hold.arg(clients)?;
     let each = option_arg(alloc, "tcp-per-client", "EACH");
     let with_each = with_clients.arg(each)?;
-    Ok(with_each)
+    let allow = option_arg(alloc, "allow", "PREFIX");
+    let with_allow = with_each.arg(allow)?;
+    Ok(with_allow)
 }
 
 // `serve [OPTION]... LISTEN UPSTREAM TURNS WORKERS ZONE@PRIMARY...`

@@ -36,12 +36,15 @@ usage: rpz serve [OPTION]... LISTEN UPSTREAM TURNS WORKERS ZONE@PRIMARY...
 Answers clients over UDP and TCP by the rules of policy zones, and forwards
 what the rules don't decide.
 
-  LISTEN            where clients are answered: A.B.C.D:PORT
-  UPSTREAM          the recursive resolver, asked over TCP: A.B.C.D:PORT
+  LISTEN            where clients are answered: A.B.C.D:PORT or [V6]:PORT;
+                    up to 16, with commas between
+  UPSTREAM          the recursive resolver, asked over TCP: A.B.C.D:PORT or
+                    [V6]:PORT
   TURNS             after how many arrivals it ends, 1 to 4294967295; or `forever`
-  WORKERS           how many threads answer datagrams: 1 to 16
+  WORKERS           how many threads answer datagrams at each LISTEN: 1 to 16
   ZONE@PRIMARY      a policy zone, and the primary that it is transferred from,
-                    A.B.C.D:PORT; 1 to 64 zones, in order of precedence
+                    A.B.C.D:PORT or [V6]:PORT; 1 to 64 zones, in order of
+                    precedence
 
 What stands behind a ZONE@PRIMARY takes the place of what its rules do:
   =given            nothing else: they do what the zone says, as without it
@@ -66,9 +69,15 @@ Options, anywhere behind `serve`:
                     1 to 65535, and 1000 if it isn't given
   --tcp-per-client EACH
                     the same of one client: 1 to 65535, and 100 if it isn't given
+  --allow PREFIX,...
+                    who may ask: ADDRESS/LENGTH, of both versions, up to 64;
+                    everyone if it isn't given. Others get REFUSED, but for the
+                    NOTIFYs of primaries
 
-Example:
+Examples:
   rpz serve 192.0.2.53:53 127.0.0.1:5353 forever 4 rpz.example@127.0.0.1:5301
+  rpz serve '192.0.2.53:53,[2001:db8::53]:53' '[::1]:5353' forever 4 \\
+      --allow 192.0.2.0/24,2001:db8::/32,127.0.0.1/32 'rpz.example@[::1]:5301'
 ";
 
 const REPLAY_PAGE: &str = "\

@@ -1,6 +1,8 @@
 //! What a server is to do, and a load run.
 
+use crate::endpoints::Endpoints;
 use crate::zones::Zones;
+use allow_list::AllowList;
 use edge_io::{ConnectionLimits, Endpoint, LOAD_QUERY_LIMIT, LOAD_RULE_LIMIT};
 
 /// The most workers of a server.
@@ -51,13 +53,13 @@ pub(crate) const HOLD_LIMIT: u32 = u32::MAX;
 /// What a server is to do.
 #[derive(Debug, Drop)]
 pub struct Settings {
-    /// Where queries arrive.
-    pub listen: Endpoint,
+    /// Where queries arrive: 1 to 16 endpoints, none twice.
+    pub listen: Endpoints,
     /// The upstream, which is asked for what the policy doesn't decide.
     pub upstream: Endpoint,
     /// How many arrivals are taken, 1 to 4,294,967,295; `None` where there is no limit.
     pub turns: Option<u32>,
-    /// How many workers answer datagrams by the rules and the cache: 1 to 16.
+    /// How many workers answer datagrams by the rules and the cache, at each endpoint: 1 to 16.
     pub workers: usize,
     /// How many workers ask the upstream for what those pass on: 1 to 512.
     pub askers: usize,
@@ -68,8 +70,22 @@ pub struct Settings {
     pub hold: Option<u32>,
     /// How many connections of clients are open at most, in all and of one client: 1 to 65,535 each.
     pub connections: ConnectionLimits,
+    /// The networks whose clients may ask: at most 64, none twice; where there is none, everyone may.
+    pub allowed: AllowList,
     /// The policy zones in order, 1 to 64, of distinct names: rules of earlier ones go before those of later ones.
     pub zones: Zones,
+}
+
+/// What the arguments and options of a server say that are one number, word or endpoint each.
+#[derive(Clone, Copy, Debug)]
+pub(crate) struct PlainSettings {
+    pub(crate) upstream: Endpoint,
+    pub(crate) turns: Option<u32>,
+    pub(crate) workers: u32,
+    pub(crate) askers: u32,
+    pub(crate) cache: u32,
+    pub(crate) hold: Option<u32>,
+    pub(crate) connections: ConnectionLimits,
 }
 
 /// What a load run is to do.

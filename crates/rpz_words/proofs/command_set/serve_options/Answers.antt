@@ -8,4 +8,5 @@ returns-clause-app c =
     let cache = c.in_ok-with_cache.ensures.shape c.option_arg-cache.ensures.local ∙ ap₂ with_rule askers c.option_arg-cache.ensures.rule in
     let hold = c.in_ok-with_hold.ensures.shape c.option_arg-hold.ensures.local ∙ ap₂ with_rule cache c.option_arg-hold.ensures.rule in
     let clients = c.in_ok-with_clients.ensures.shape c.option_arg-clients.ensures.local ∙ ap₂ with_rule hold c.option_arg-clients.ensures.rule in
-    c.in_ok-with_each.ensures.shape c.option_arg-each.ensures.local ∙ ap₂ with_rule clients c.option_arg-each.ensures.rule
+    let each = c.in_ok-with_each.ensures.shape c.option_arg-each.ensures.local ∙ ap₂ with_rule clients c.option_arg-each.ensures.rule in
+    c.in_ok-with_allow.ensures.shape c.option_arg-allow.ensures.local ∙ ap₂ with_rule each c.option_arg-allow.ensures.rule

@@ -6,7 +6,8 @@ pub returns : goal.returns
 returns c = record {
   ok = tt;
   taken = tt;
-  usage = λ e h. c.in_default.not-OutOfMemory (c.kind.ensures ∙ c.in-Err.ensures.passes (takes_same _ _ _ c.in_ok-command.ensures h));
+  usage = λ cause e h. c.in_default.not-OutOfMemory (c.kind.ensures ∙ c.in-Err.ensures.passes (takes_same _ _ _ c.in_ok-command.ensures h));
+  words = λ cause e. cc;
 }
 
 pub returns-in-Ok-clause-taken : goal.returns-in-Ok-clause-taken
