@@ -4,8 +4,11 @@ use libc::RLIMIT_NOFILE;
 use libc::types::rlimit;
 use rpz_net::limits::{NEW_CONNECTIONS, ORDERS_MOST, UPSTREAM_ALL_CONNECTIONS};
 
-// Standard input, output and error, the sockets of LISTEN, and what waits for the connections of clients.
-const OWN: u64 = 16;
+// Standard input, output and error, and what waits for the connections of clients.
+const OWN: u64 = 14;
+
+// The two sockets of an endpoint.
+const OF_LISTENER: u64 = 2;
 
 /// How many descriptors the system allows this process (RLIMIT_NOFILE); `None` where it doesn't say.
 pub fn allowed_descriptors() -> Option<u64> {
@@ -19,9 +22,10 @@ pub fn allowed_descriptors() -> Option<u64> {
     }
 }
 
-/// How many descriptors a server has at most that admits so many connections of clients: one for each and for those that are new, for
-/// each connection to the upstream and for each transfer under way, and its own.
-pub fn wanted_descriptors(clients: u32) -> u64 {
+/// How many descriptors a server has at most that admits so many connections of clients at so many endpoints: one for each and for those
+/// that are new, two for each endpoint, one for each connection to the upstream and for each transfer under way, and its own.
+pub fn wanted_descriptors(clients: u32, listeners: usize) -> u64 {
     let of_clients = u64::from(clients) + u64::from(NEW_CONNECTIONS);
-    of_clients + UPSTREAM_ALL_CONNECTIONS + ORDERS_MOST + OWN
+    let of_listeners = (listeners as u64).saturating_mul(OF_LISTENER);
+    of_listeners.saturating_add(of_clients + UPSTREAM_ALL_CONNECTIONS + ORDERS_MOST + OWN)
 }

@@ -5,12 +5,13 @@ mod descriptors;
 mod output;
 
 use descriptors::{allowed_descriptors, wanted_descriptors};
-use edge_io::{LineSink, ReaderSource, TaskSpawner, WriterSink};
+use edge_io::{Endpoint, LineSink, ReaderSource, TaskSpawner, WriterSink};
+use ip_prefix::Addr;
 use output::{Output, Way};
 use rpz_net::{NetWires, RandomIds, SystemClock};
 use rpz_program::run::run;
 use rpz_program::status::Status;
-use rpz_words::{Command, Settings, read_words};
+use rpz_words::{Command, EndpointText, Settings, UsageCause, read_words};
 use rpz_workers::Report;
 use std::alloc::Global;
 use std::hash::RandomState;
@@ -36,11 +37,43 @@ fn server_of(alloc: Global, words: &Option<Vec<String>>) -> Option<Settings> {
 
 // Says so where the system allows fewer descriptors than this server may want: it then closes connections of clients early.
 fn tell_of_descriptors(rt: &HostRuntime, settings: &Settings) -> io::Result<()> {
-    let wanted = wanted_descriptors(settings.connections.all);
+    let wanted = wanted_descriptors(settings.connections.all, settings.listen.len());
     match allowed_descriptors() {
         Some(allowed) if allowed < wanted => eprintln!(rt;
             "rpz: {allowed} descriptors are allowed, and {wanted} may be wanted (ulimit -n)"
         ),
+        _ => Ok(()),
+    }
+}
+
+// Says so where an endpoint is all addresses of this host: a datagram then leaves from the address that the system chooses.
+fn tell_of_wildcards(rt: &HostRuntime, settings: &Settings) -> io::Result<()> {
+    for endpoint in settings.listen.as_slice() {
+        if is_wildcard(endpoint.addr) {
+            let shown = EndpointText(*endpoint);
+            eprintln!(rt;
+                "rpz: {shown} is all addresses of this host: a reply over UDP leaves from the one that the system chooses"
+            )?;
+        }
+    }
+    Ok(())
+}
+
+// Whether the address is 0.0.0.0 or ::.
+fn is_wildcard(addr: Addr) -> bool {
+    match addr {
+        Addr::V4(number) => number == 0,
+        Addr::V6(number) => number == 0,
+    }
+}
+
+// Says which endpoint could not be bound, where the status is for want of one.
+fn tell_of_refused(rt: &HostRuntime, refused: Option<Endpoint>, status: Status) -> io::Result<()> {
+    match refused {
+        Some(endpoint) if status == Status::SocketFault => {
+            let shown = EndpointText(endpoint);
+            eprintln!(rt; "rpz: {shown} could not be bound")
+        }
         _ => Ok(()),
     }
 }
@@ -60,6 +93,7 @@ fn main(rt: HostRuntime) -> io::Result<ExitCode> {
     let server = server_of(alloc, &words);
     if let Some(settings) = &server {
         let _ = tell_of_descriptors(&rt, settings);
+        let _ = tell_of_wildcards(&rt, settings);
     }
     let hashers = RandomState::new(&rt)?;
     // the lines of a server are written by a thread, so that it waits for no reader of them
@@ -93,8 +127,11 @@ fn main(rt: HostRuntime) -> io::Result<ExitCode> {
             &mut ids,
             hashers,
         ),
-        None => Status::Usage,
+        None => Status::Usage {
+            cause: UsageCause::Words,
+        },
     };
+    let _ = tell_of_refused(&rt, wires.refused(), status);
     let status = if !out.end() && status == Status::Done {
         Status::WriteFault
     } else {

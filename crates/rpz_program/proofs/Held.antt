@@ -4,7 +4,7 @@ use Rattle.std.specs.Prelude.{◌⊎◌, IfOk, IsSome, OnErr, is_none}
 use Rattle.std.proofs.lemmas.List.{append-nil}
 use Rattle.edge_io.specs.Chain.{Stage}
 use Rattle.edge_io.specs.Edge.{WritesPrefix}
-use Rattle.edge_io.specs.Wired.{PlainWires}
+use Rattle.server_io.specs.Wired.{PlainWires}
 use Rattle.policy_feed.specs.Feed.{PlainFeeder}
 use Rattle.policy_feed.specs.Hastening.{IsLoaded}
 use Rattle.rpz_program.specs.Serving.{Wrote}

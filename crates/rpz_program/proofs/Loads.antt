@@ -10,17 +10,18 @@ use Rattle.rpz_words.specs.declared.command.Command.{Command}
 use Rattle.rpz_words.specs.declared.command.Command.TheVariants.{Load, Show}
 use Rattle.rpz_words.specs.declared.pages.Page.{Page}
 use Rattle.rpz_words.specs.declared.settings.LoadSettings.{LoadSettings}
+use Rattle.rpz_words.specs.declared.usage_cause.UsageCause.{UsageCause}
 use Rattle.rpz_program.specs.Loading.{EndsLoad}
 use Rattle.rpz_program.specs.Run.{EndsPage}
 use Rattle.rpz_program.specs.Status.{status_of_written}
 use Rattle.rpz_program.specs.declared.status.Status.TheVariants as status
 
 -- words ask for one load run
-pub same_load : (asked : Option Command) (one other : LoadSettings) → asked ≡ Some (Load one) → asked ≡ Some (Load other) → one ≡ other
+pub same_load : (asked : Result Command UsageCause) (one other : LoadSettings) → asked ≡ Ok (Load one) → asked ≡ Ok (Load other) → one ≡ other
 same_load asked one other first second = cc
 
 -- words ask for one page
-pub same_page : (asked : Option Command) (one other : Page) → asked ≡ Some (Show one) → asked ≡ Some (Show other) → one ≡ other
+pub same_page : (asked : Result Command UsageCause) (one other : Page) → asked ≡ Ok (Show one) → asked ≡ Ok (Show other) → one ≡ other
 same_page asked one other first second = cc
 
 pub written_if : (ended : Result (Unit {0}) SinkError) (Q : Type 0) → OnOk ended Q → status_of_written ended ≡ status.Done → Q

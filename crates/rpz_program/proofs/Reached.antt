@@ -6,12 +6,15 @@ use Rattle.std.proofs.lemmas.List.{length-map}
 use Rattle.policy_override.specs.declared.zone_set.ZoneSet.{ZoneSet}
 use Rattle.policy_override.specs.ZoneSet.{origins_in}
 use Rattle.ip_prefix.specs.declared.Addr.{Addr}
+use Rattle.ip_prefix.specs.Prefix.{PlainPrefix}
+use Rattle.ip_prefix.specs.declared.Transport.{Transport}
+use Rattle.allow_list.specs.Allowed.{is_allowed}
 use Rattle.script_codec.specs.declared.line.Line.{Line}
-use Rattle.script_codec.specs.declared.line.Line.TheVariants.{Zone, Primary, Transfer, Full, Query, Give, Fail, Notify, Due, Clock}
+use Rattle.script_codec.specs.declared.line.Line.TheVariants.{Zone, Primary, Allow, Transfer, Full, Query, Give, Fail, Notify, Due, Clock}
 use Rattle.script_codec.specs.declared.line_fault.LineFault.{LineFault}
 use Rattle.script_codec.specs.Line.{unnumbered_line}
 use Rattle.script_codec.specs.State.{zone_count, is_pending}
-use Rattle.script_codec.specs.Within.{IsWithin, IsZone, MayHavePrimary, MayOpen}
+use Rattle.script_codec.specs.Within.{IsWithin, IsZone, MayAllow, MayHavePrimary, MayOpen}
 use Rattle.script_codec.proofs.LineBounds.{line_within}
 use Rattle.script_loop.specs.Abstraction.{outcome_along}
 use Rattle.script_loop.specs.declared.limits.TheConstants.{LINE_BYTES, LINES}
@@ -26,23 +29,24 @@ use Rattle.rpz_core.specs.declared.event.Output.{Output}
 use Rattle.rpz_core.specs.declared.sessions.TheConstants.{WORKERS}
 use Rattle.rpz_core.specs.History.{Reaches, begins, goes_on}
 use Rattle.rpz_core.specs.Faults.{zone_fault, query_fault, fact_fault, fault_of}
-use Rattle.rpz_core.specs.Sessions.{PendingQuery}
+use Rattle.query_session.specs.Session.{said_outside}
+use Rattle.rpz_core.specs.Sessions.{PendingQuery, said_output}
 use Rattle.rpz_core.specs.World.{World, policy_of, world_step}
 use Rattle.rpz_core.proofs.Outputs.{step_keeps}
 use Rattle.rpz_core.proofs.Refusals.{refused_by_state}
-use Rattle.rpz_program.specs.Opened.{OpenZones, with_primary, with_open_zone}
-use Rattle.rpz_program.specs.Script.{ScriptWorld, opened, answering, IsReached, at_start, after_line, event_of, event_read, state_in, with_event, world_in, zones_opened, shown_outcome, event_outcome, zone_outcome, primary_outcome, world_after_line, step, text_outcome, too_long, too_many}
+use Rattle.rpz_program.specs.Opened.{OpenZones, with_network, with_primary, with_open_zone}
+use Rattle.rpz_program.specs.Script.{ScriptWorld, opened, answering, IsReached, at_start, after_line, event_of, event_read, line_outside, state_in, with_event, world_in, zones_opened, shown_outcome, event_outcome, zone_outcome, network_outcome, primary_outcome, world_after_line, step, text_outcome, too_long, too_many}
 
 -- ---- events lead to a world that is reached, and it has its workers
 
 abbrev IsLed : OpenZones → List Event → ScriptWorld → Type 0
 IsLed zones events (opened these) = (these ≡ zones) × (events ≡ [])
-IsLed zones events (answering world) = Reaches zones.settings zones.primaries events world
+IsLed zones events (answering world) = Reaches zones.settings zones.primaries zones.allowed events world
 
-events_in : (zones : OpenZones) (events : List Event) (w : ScriptWorld) → IsLed zones events w → Reaches zones.settings zones.primaries events (world_in w)
+events_in : (zones : OpenZones) (events : List Event) (w : ScriptWorld) → IsLed zones events w → Reaches zones.settings zones.primaries zones.allowed events (world_in w)
 events_in zones events (opened these) h =
-    subst (λ (es : List Event). Reaches zones.settings zones.primaries es (world_in (opened these))) (sym h.1)
-    (subst (λ (zs : OpenZones). Reaches zs.settings zs.primaries [] (world_in (opened these))) h.0 begins)
+    subst (λ (es : List Event). Reaches zones.settings zones.primaries zones.allowed es (world_in (opened these))) (sym h.1)
+    (subst (λ (zs : OpenZones). Reaches zs.settings zs.primaries zs.allowed [] (world_in (opened these))) h.0 begins)
 events_in zones events (answering world) h = h
 
 -- a line that is no event
@@ -50,12 +54,12 @@ stays : (zones : OpenZones) (events : List Event) (w : ScriptWorld) → IsLed zo
 stays zones events (opened these) h = (refl, h.1)
 stays zones events (answering world) h = h
 
-worker_count : (settings : List ZoneSet) (primaries : List (Option Addr)) (events : List Event) (world : World) → Reaches settings primaries events world → length world.sessions.workers ≡ WORKERS
-worker_count settings primaries _ _ begins = refl
-worker_count settings primaries _ _ (goes_on events e world next out before is) = (step_keeps world next e out is).workers ∙ worker_count settings primaries events world before
+worker_count : (settings : List ZoneSet) (primaries : List (Option Addr)) (allowed : List PlainPrefix) (events : List Event) (world : World) → Reaches settings primaries allowed events world → length world.sessions.workers ≡ WORKERS
+worker_count settings primaries allowed _ _ begins = refl
+worker_count settings primaries allowed _ _ (goes_on events e world next out before is) = (step_keeps world next e out is).workers ∙ worker_count settings primaries allowed events world before
 
 workers_in : (zones : OpenZones) (events : List Event) (w : ScriptWorld) → IsLed zones events w → length (world_in w).sessions.workers ≡ WORKERS
-workers_in zones events w h = worker_count zones.settings zones.primaries events (world_in w) (events_in zones events w h)
+workers_in zones events w h = worker_count zones.settings zones.primaries zones.allowed events (world_in w) (events_in zones events w h)
 
 abbrev Outcome : Type 0
 Outcome = Result (ScriptWorld × List ℕ) LineFault
@@ -80,7 +84,7 @@ module _ (zones : OpenZones) where
   given_goes : (events : List Event) (given next : ScriptWorld) (octets : List ℕ) → IsLed (zones_opened given zones) events given → Goes events next (Ok (given, octets))
   given_goes events given next octets h out is = subst (λ (w : ScriptWorld). IsLed (zones_opened w zones) events w) (done_is given next octets out is) h
 
-  event_if : (events : List Event) (world : World) (next : ScriptWorld) (e : Event) (r : Result (World × Output) CoreFault) → Reaches zones.settings zones.primaries events world → world_step world e ≡ r → Goes (e ∷ events) next (outcome_along answering (shown_outcome r))
+  event_if : (events : List Event) (world : World) (next : ScriptWorld) (e : Event) (r : Result (World × Output) CoreFault) → Reaches zones.settings zones.primaries zones.allowed events world → world_step world e ≡ r → Goes (e ∷ events) next (outcome_along answering (shown_outcome r))
   event_if events world next e (Ok given) h is = given_goes (e ∷ events) (answering given.0) next _ (goes_on events e world given.0 given.1 h is)
   event_if events world next e (Err fault) h is = λ out same. absurd cc
 
@@ -95,10 +99,15 @@ module _ (zones : OpenZones) where
   primary_goes events (opened these) next zone address h = given_goes events (opened (with_primary these zone address)) next [] (refl, h.1)
   primary_goes events (answering world) next zone address h = λ out is. absurd cc
 
+  network_goes : (events : List Event) (w next : ScriptWorld) (network : PlainPrefix) → IsLed zones events w → Goes events next (network_outcome w network)
+  network_goes events (opened these) next network h = given_goes events (opened (with_network these network)) next [] (refl, h.1)
+  network_goes events (answering world) next network h = λ out is. absurd cc
+
   line_goes : (events : List Event) (w next : ScriptWorld) (line : Line) → IsLed zones events w → Goes (with_event (event_of line) events) next (world_after_line w line)
   unfolding world_after_line
   line_goes events w next (Zone origin over) h = zone_goes events w next (record { origin = origin; over = over }) h
   line_goes events w next (Primary zone address) h = primary_goes events w next zone address h
+  line_goes events w next (Allow network) h = network_goes events w next network h
   line_goes events w next (Transfer zone stream) h = event_goes events w next (event.Transfer zone stream) h
   line_goes events w next (Full zone) h = event_goes events w next (event.Full zone) h
   line_goes events w next (Query worker transport client message) h = event_goes events w next (event.Query worker transport client message) h
@@ -120,7 +129,7 @@ reached_led _ _ _ _ (after_line lines more zones after events all world next tex
     (subst (λ (zs : OpenZones). IsLed zs (with_event (event_read (unnumbered_line text (state_in world))) events) next) (sym zones_are)
     (text_goes zones events world next (unnumbered_line text (state_in world)) (reached_led lines zones events world before) out is))
 
-pub reached_events : (lines : List (List ℕ)) (zones : OpenZones) (events : List Event) (w : ScriptWorld) → IsReached lines zones events w → Reaches zones.settings zones.primaries events (world_in w)
+pub reached_events : (lines : List (List ℕ)) (zones : OpenZones) (events : List Event) (w : ScriptWorld) → IsReached lines zones events w → Reaches zones.settings zones.primaries zones.allowed events (world_in w)
 reached_events lines zones events w reached = events_in zones events w (reached_led lines zones events w reached)
 
 -- ---- the world after lines is reached
@@ -234,10 +243,15 @@ primary_done : (w : ScriptWorld) (zone : ℕ) (address : Addr) → MayHavePrimar
 primary_done (opened zones) zone address h = refl
 primary_done (answering world) zone address h = absurd h
 
+network_done : (w : ScriptWorld) (network : PlainPrefix) → MayAllow (state_in w) network → IsOk (network_outcome w network)
+network_done (opened zones) network h = refl
+network_done (answering world) network h = absurd h
+
 within_done : (w : ScriptWorld) (line : Line) → HasWorkers w → IsWithin (state_in w) line → IsOk (world_after_line w line)
 unfolding world_after_line
 within_done w (Zone origin over) has h = zone_done w (record { origin = origin; over = over }) h.1
 within_done w (Primary zone address) has h = primary_done w zone address h.1
+within_done w (Allow network) has h = network_done w network h.1
 within_done w (Transfer zone stream) has h = event_done w (event.Transfer zone stream) (zone_found w zone h)
 within_done w (Full zone) has h = event_done w (event.Full zone) (zone_found w zone h)
 within_done w (Query worker transport client message) has h = event_done w (event.Query worker transport client message) (query_found w worker has h.0 h.2)
@@ -250,3 +264,33 @@ within_done w (Clock seconds) has h = event_done w (event.Clock seconds) refl
 -- A line of the grammar is done in every world that is reached.
 pub line_done : (lines : List (List ℕ)) (zones : OpenZones) (events : List Event) (w : ScriptWorld) (text : List ℕ) (line : Line) → IsReached lines zones events w → unnumbered_line text (state_in w) ≡ Ok (Some line) → IsOk (world_after_line w line)
 line_done lines zones events w text line reached is = within_done w line (workers_in zones events w (reached_led lines zones events w reached)) (line_within text (state_in w) line is)
+
+-- ---- a query of a client that may not ask
+
+who_may_ask : (settings : List ZoneSet) (primaries : List (Option Addr)) (allowed : List PlainPrefix) (events : List Event) (world : World) → Reaches settings primaries allowed events world → world.allowed ≡ allowed
+who_may_ask settings primaries allowed _ _ begins = refl
+who_may_ask settings primaries allowed _ _ (goes_on events e world next out before is) = (step_keeps world next e out is).allowed ∙ who_may_ask settings primaries allowed events world before
+
+slot_free : (workers : List (Option PendingQuery)) (k : ℕ) → k < length workers → slice_index_or (map is_some workers) k false ≡ false → slice_get workers k ≡ Some None
+slot_free [] k h free = absurd (omega (arith, h))
+slot_free (None ∷ workers) zero h free = refl
+slot_free (Some pending ∷ workers) zero h free = absurd cc
+slot_free (worker ∷ workers) (suc k) h free = slot_free workers k (omega (arith, h)) free
+
+-- what the law of the core says
+abbrev pub ChangesNothing : Type 0
+ChangesNothing = (world : World) (worker : ℕ) (transport : Transport) (client : Addr) (message : List ℕ) → is_allowed world.allowed client ≡ false → slice_get world.sessions.workers worker ≡ Some None
+    → world_step world (event.Query worker transport client message) ≡ Ok (world, said_output worker (said_outside message))
+
+-- a line of such a query is done, leaves the world, and writes what the message alone says
+pub query_outside : ChangesNothing → (lines : List (List ℕ)) (zones : OpenZones) (events : List Event) (w : ScriptWorld) (text : List ℕ) (worker : ℕ) (transport : Transport) (client : Addr) (message : List ℕ) → IsReached lines zones events w
+    → unnumbered_line text (state_in w) ≡ Ok (Some (Query worker transport client message)) → is_allowed zones.allowed client ≡ false → step w text ≡ Ok (answering (world_in w), line_outside worker message)
+unfolding world_after_line
+query_outside nothing lines zones events w text worker transport client message reached is outside =
+    let led = reached_led lines zones events w reached in
+    let within = line_within text (state_in w) (Query worker transport client message) is in
+    let allowed : (world_in w).allowed ≡ zones.allowed = who_may_ask zones.settings zones.primaries zones.allowed events (world_in w) (events_in zones events w led) in
+    let free = slot_free (world_in w).sessions.workers worker (worker_found w worker (workers_in zones events w led) within.0) (sym (pending_in w worker) ∙ within.2) in
+    ap (text_outcome w) is
+    ∙ ap (λ (r : Result (World × Output) CoreFault). outcome_along answering (shown_outcome r))
+    (nothing (world_in w) worker transport client message (ap (λ (networks : List PlainPrefix). is_allowed networks client) allowed ∙ outside) free)

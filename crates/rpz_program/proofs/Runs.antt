@@ -1,20 +1,20 @@
 -- Parts of a server's run.
-use Rattle.std.proofs.Common.{◌≡◌, ℕ, List, [], ◌∷◌, ◌++◌, Bool, true, false, Option, Some, Result, Ok, Err, refl, sym, ◌∙◌, ap, subst, arith, inl, inr}
+use Rattle.std.proofs.Common.{◌≡◌, ℕ, List, [], ◌∷◌, ◌++◌, length, Bool, true, false, Option, Some, Result, Ok, Err, refl, sym, ◌∙◌, ap, subst, arith, inl, inr}
 use Rattle.std.specs.Prelude.{IfOk, OnErr, OnOk, ◌⊎◌}
 use Rattle.std.proofs.lemmas.List.{append-nil}
 use Rattle.policy_override.specs.ZoneSet.{origins_in}
 use Rattle.edge_io.specs.Chain.{Stage}
 use Rattle.edge_io.specs.Edge.{WritesPrefix, appended}
 use Rattle.edge_io.specs.Told.{ComesNext}
-use Rattle.edge_io.specs.Wired.{PlainWires}
 use Rattle.edge_io.proofs.Written.{both_written, message_cut}
+use Rattle.server_io.specs.Wired.{PlainWires}
 use Rattle.policy_publish.specs.Lists.{Published}
 use Rattle.policy_feed.specs.Feed.{Feed, PlainFeeder, first_feeder}
 use Rattle.rpz_workers.specs.declared.report.Report.{Report}
 use Rattle.rpz_program.specs.Serving.{Gathering, IsWhole, ServesBy, StopsIn, Wrote, sums_line}
 use Rattle.rpz_program.specs.Sums.{GathersAll, no_sums}
 use Rattle.rpz_program.specs.Turning.{Advances, OrdersFirst, Reaches, RunsAll, StopsAdvancing, StopsFirst, StopsReaching, StopsRunning}
-use Rattle.rpz_program.specs.Turns.{ServerStart, ServerState, RunTurn, RunsOn, RunsTo, Turns, linked_told, nothing_published, opens_at_once, run_lines, server_state, starts, with_turn_notices}
+use Rattle.rpz_program.specs.Turns.{ServerStart, ServerState, RunTurn, RunsOn, RunsTo, Turns, inlets_told, linked_told, nothing_published, opens_at_once, run_lines, server_state, starts, with_turn_notices}
 use Rattle.rpz_program.specs.declared.plan.ServerPlan.{ServerPlan}
 use Rattle.rpz_program.specs.declared.progress.Progress.{Progress}
 use Rattle.rpz_program.specs.declared.serve_error.ServeError.{ServeError}
@@ -28,7 +28,7 @@ begun_at feed before = record { feed = feed; moments = before.moments; second = 
 
 -- the workers were started
 abbrev pub started_from : ServerPlan → ServerState → ServerState
-started_from plan b = server_state b.feed.feeder (linked_told plan.upstream plan.askers b.feed.told) b.feed.faults b.feed.ids b.moments b.second true
+started_from plan b = server_state b.feed.feeder (inlets_told plan.workers (length plan.listen) (linked_told plan.upstream plan.askers b.feed.told)) b.feed.faults b.feed.ids b.moments b.second true
 
 abbrev pub start_at : ServerState → Stage ServerState RunTurn
 start_at b = record { turn = starts; before = b }
@@ -183,7 +183,7 @@ err_all (Ok x) P y h = h
 err_all (Err e) P y h = h y
 
 -- the state behind the start of the workers
-pub start_is : (plan : ServerPlan) (feeder : PlainFeeder) (told told_then : Option PlainWires) (faults faults_then : ℕ) (ids ids_then moments moments_then : Option (List ℕ)) (second : ℕ) → told_then ≡ linked_told plan.upstream plan.askers told → faults_then ≡ faults → ids_then ≡ ids → moments_then ≡ moments
+pub start_is : (plan : ServerPlan) (feeder : PlainFeeder) (told told_then : Option PlainWires) (faults faults_then : ℕ) (ids ids_then moments moments_then : Option (List ℕ)) (second : ℕ) → told_then ≡ inlets_told plan.workers (length plan.listen) (linked_told plan.upstream plan.askers told) → faults_then ≡ faults → ids_then ≡ ids → moments_then ≡ moments
     → server_state feeder told_then faults_then ids_then moments_then second true ≡ started_from plan (server_state feeder told faults ids moments second true)
 start_is plan feeder told told_then faults faults_then ids ids_then moments moments_then second t f i m = rw (t, f, i, m) refl
 
@@ -210,11 +210,11 @@ stops_too one other turns gathering before after each (inr s) =
     inr (record { stages = s.stages; lines = s.lines; last = s.last; run = each s.stages s.lines s.last s.run; written = s.written })
 
 -- a run from where a server begins
-pub begins_so : (start : ServerStart) (feeder : PlainFeeder) (published : Published) (second : ℕ) (moments : Option (List ℕ)) → feeder ≡ first_feeder (origins_in start.zones) start.primaries published second → published ≡ nothing_published start.zones → ComesNext start.moments second moments
+pub begins_so : (start : ServerStart) (feeder : PlainFeeder) (published : Published) (second : ℕ) (moments : Option (List ℕ)) → feeder ≡ first_feeder start.allowed (origins_in start.zones) start.primaries published second → published ≡ nothing_published start.zones → ComesNext start.moments second moments
     → (stages : List (Stage ServerState RunTurn)) (lines : List ℕ) (last : ServerState) → RunsOn start.plan second (server_state feeder start.told start.faults start.ids moments second (opens_at_once start.plan)) stages lines last → RunsTo start stages lines last
 begins_so start feeder published second moments feeder_is published_is moment stages lines last runs =
-    let same : feeder ≡ first_feeder (origins_in start.zones) start.primaries (nothing_published start.zones) second =
-    feeder_is ∙ ap (λ (p : Published). first_feeder (origins_in start.zones) start.primaries p second) published_is in
+    let same : feeder ≡ first_feeder start.allowed (origins_in start.zones) start.primaries (nothing_published start.zones) second =
+    feeder_is ∙ ap (λ (p : Published). first_feeder start.allowed (origins_in start.zones) start.primaries p second) published_is in
     record {
       second = second;
       moments = moments;

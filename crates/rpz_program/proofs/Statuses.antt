@@ -9,6 +9,7 @@ use Rattle.script_loop.specs.declared.replay.Stop.TheVariants as stop
 use Rattle.rpz_words.specs.declared.command.Command.{Command}
 use Rattle.rpz_words.specs.declared.command.Command.TheVariants.{Serve}
 use Rattle.rpz_words.specs.declared.settings.Settings.{Settings}
+use Rattle.rpz_words.specs.declared.usage_cause.UsageCause.{UsageCause}
 use Rattle.rpz_program.specs.Run.{Ends, IsVerdict, StopsBy}
 use Rattle.rpz_program.specs.Script.{ScriptWorld, script_verdict}
 use Rattle.rpz_program.specs.Serving.{Gathering, StopsServing}
@@ -61,5 +62,5 @@ stopped_by (Ok done) start turns gathering before after stops early = absurd (ea
 stopped_by (Err why) start turns gathering before after stops early = record { why = why; status_is = refl; stops = stops }
 
 -- words ask for one server
-pub same_settings : (asked : Option Command) (one other : Settings) → asked ≡ Some (Serve one) → asked ≡ Some (Serve other) → one ≡ other
+pub same_settings : (asked : Result Command UsageCause) (one other : Settings) → asked ≡ Ok (Serve one) → asked ≡ Ok (Serve other) → one ≡ other
 same_settings asked one other first second = cc

@@ -1,21 +1,22 @@
 -- Turns, one behind the other.
-use Rattle.std.proofs.Common.{◌≡◌, ◌≤◌, ◌+◌, ℕ, List, [], ◌∷◌, ◌++◌, Bool, true, false, true≢false, Option, Some, None, refl, sym, ◌∙◌, ap, subst, append_assoc, add-one, arith}
+use Rattle.std.proofs.Common.{◌≡◌, ◌≤◌, ◌+◌, ◌*◌, ℕ, suc, List, [], ◌∷◌, ◌++◌, Bool, true, false, true≢false, Option, Some, None, refl, sym, ◌∙◌, ap, subst, append_assoc, add-one, arith}
 use Rattle.std.specs.Prelude.{IsSome}
 use Rattle.std.specs.Option.{option_map}
+use Rattle.std.proofs.Math.Nat.{mul-suc}
 use Rattle.std.proofs.lemmas.List.{append-nil}
 use Rattle.edge_io.specs.Chain.{Chain, Stage}
 use Rattle.edge_io.specs.Edge.{Rose, WritesPrefix}
 use Rattle.edge_io.specs.Told.{ComesNext}
-use Rattle.edge_io.specs.Wired.{PlainWires, with_linked}
 use Rattle.edge_io.specs.declared.endpoint.Endpoint.{Endpoint}
-use Rattle.edge_io.specs.declared.wake.Wake.{Wake}
-use Rattle.edge_io.specs.declared.wake.Wake.TheVariants as wake
+use Rattle.server_io.specs.Wired.{PlainWires, with_inlet, with_linked}
+use Rattle.server_io.specs.declared.wake.Wake.{Wake}
+use Rattle.server_io.specs.declared.wake.Wake.TheVariants as wake
 use Rattle.policy_feed.specs.Feed.{PlainFeeder, feed_of}
 use Rattle.policy_feed.specs.Waking.{TakesWake}
 use Rattle.policy_feed.specs.declared.notice.Notice.{Notice}
 use Rattle.rpz_program.specs.Serving.{Wrote}
 use Rattle.rpz_program.specs.Turning.{Advances, EndsIf, MayTry, StopsAdvancing, WakesUp, ended_by}
-use Rattle.rpz_program.specs.Turns.{ServerState, RunTurn, TakesNext, Turns, linked_told, run_lines, server_state, start_count, turn_lines, wakes, with_turn_notice, with_turn_notices}
+use Rattle.rpz_program.specs.Turns.{ServerState, RunTurn, TakesNext, Turns, inlet_told, inlets_told, linked_told, run_lines, server_state, start_count, turn_lines, wakes, with_turn_notice, with_turn_notices}
 use Rattle.rpz_program.specs.declared.plan.ServerPlan.{ServerPlan}
 use Rattle.rpz_program.specs.declared.progress.Progress.{Progress}
 use Rattle.rpz_program.specs.declared.sums.Sums.{Sums}
@@ -160,3 +161,23 @@ linked_next before now next at n e so_far = e ∙ ap (option_map (with_linked at
   where
     linked_more : (before : Option PlainWires) (at : Endpoint) (n : ℕ) → linked_told at (n + 1) before ≡ option_map (with_linked at) (linked_told at n before)
     linked_more before at n = rw add-one refl
+
+-- the inlets of one more listener
+pub inlets_next : (before now next : Option PlainWires) (workers n : ℕ) → next ≡ inlet_told n workers now → now ≡ inlets_told workers n before → next ≡ inlets_told workers (n + 1) before
+inlets_next before now next workers n e so_far = e ∙ ap (inlet_told n workers) so_far ∙ sym (inlets_more before workers n)
+  where
+    inlets_more : (before : Option PlainWires) (workers n : ℕ) → inlets_told workers (n + 1) before ≡ inlet_told n workers (inlets_told workers n before)
+    inlets_more before workers n = rw add-one refl
+
+-- the workers of one more listener
+pub workers_next : (before now next workers n : ℕ) → next ≡ now + workers → now ≡ before + workers * n → next ≡ before + workers * (n + 1)
+workers_next before now next workers n e so_far =
+    let more : workers * (n + 1) ≡ workers * n + workers = ap (λ (m : ℕ). workers * m) (add-one n) ∙ mul-suc workers n in
+    omega (arith, e, so_far, more)
+
+-- one more inlet
+pub inlet_next : (before now next : Option PlainWires) (listener n : ℕ) → next ≡ option_map (with_inlet listener) now → now ≡ inlet_told listener n before → next ≡ inlet_told listener (n + 1) before
+inlet_next before now next listener n e so_far = e ∙ ap (option_map (with_inlet listener)) so_far ∙ sym (inlet_more before listener n)
+  where
+    inlet_more : (before : Option PlainWires) (listener n : ℕ) → inlet_told listener (n + 1) before ≡ option_map (with_inlet listener) (inlet_told listener n before)
+    inlet_more before listener n = rw add-one refl

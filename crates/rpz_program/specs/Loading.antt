@@ -13,7 +13,7 @@ load_line settings = summary_line (summary (load_of settings.seed settings.rules
 -- a load run ends so, and never by a fault of the script, a socket or a worker
 abbrev pub EndsLoad : Status → Type 0
 EndsLoad Done = ⊤
-EndsLoad Usage = ⊤
+EndsLoad (Usage cause) = ⊤
 EndsLoad (BadLine line why) = ⊥
 EndsLoad ReadFault = ⊥
 EndsLoad WriteFault = ⊤

@@ -1,5 +1,5 @@
 -- How a run ends.
-use Rattle.std.specs.Prelude.{◌≡◌, ℕ, List, [], Option, Some, Result, Ok, Err, IsOk, IfSome, String, true, ⊤}
+use Rattle.std.specs.Prelude.{◌≡◌, ◌≢◌, ℕ, List, [], Option, Some, Result, Ok, Err, IsOk, IfSome, String, true, ⊤}
 use Rattle.std.specs.declared.alloc.Global.{Global}
 use Rattle.edge_io.specs.Edge.{appended}
 use Rattle.script_loop.specs.declared.replay.Stop.{Stop}
@@ -10,6 +10,7 @@ use Rattle.script_codec.specs.declared.line_fault.LineFault.{LineFault}
 use Rattle.script_loop.specs.Fold.{run_of}
 use Rattle.script_loop.specs.Lines.{whole_lines}
 use Rattle.script_loop.specs.Replay.{IsPrefix, Moves}
+use Rattle.clap.specs.Faults.{fault_of}
 use Rattle.clap.specs.Words.{takes}
 use Rattle.rpz_words.specs.Words.{argv, rpz_app}
 use Rattle.rpz_program.specs.Serving.{Gathering, StopsServing}
@@ -21,6 +22,10 @@ use Rattle.rpz_program.specs.Script.{ScriptWorld, start, step, too_many, too_lon
 -- the words are those of a command, as the command line's grammar takes them
 abbrev pub AreTaken : List (String Global) → Type 0
 AreTaken words = takes rpz_app (argv words) ≡ true
+
+-- the words are refused by it
+abbrev pub AreRefused : List (String Global) → Type 0
+AreRefused words = fault_of rpz_app (argv words) ≢ []
 
 -- a server's run that ended early: its status says why
 pub record StopsBy (status : Status) (start : ServerStart) (turns : Option ℕ)
@@ -59,7 +64,7 @@ IsVerdict (Err bad) status = status ≡ BadLine bad.0 bad.1
 -- a page ends so: it was shown, or a write failed, or there was no memory
 abbrev pub EndsPage : Status → Type 0
 EndsPage Done = ⊤
-EndsPage Usage = ⊥
+EndsPage (Usage cause) = ⊥
 EndsPage (BadLine line why) = ⊥
 EndsPage ReadFault = ⊥
 EndsPage WriteFault = ⊤

@@ -1,10 +1,11 @@
 -- The world of a script, and what its lines do to it.
 use Rattle.std.specs.Prelude.{◌≡◌, ℕ, List, [], ◌∷◌, ◌++◌, length, map, Option, Some, None, is_some, Result, Ok, Err}
 use Rattle.ip_prefix.specs.declared.Addr.{Addr}
+use Rattle.ip_prefix.specs.Prefix.{PlainPrefix}
 use Rattle.policy_override.specs.declared.zone_set.ZoneSet.{ZoneSet}
 use Rattle.policy_override.specs.ZoneSet.{origins_in}
 use Rattle.script_codec.specs.declared.line.Line.{Line}
-use Rattle.script_codec.specs.declared.line.Line.TheVariants.{Zone, Primary, Transfer, Full, Query, Give, Fail, Notify, Due, Clock}
+use Rattle.script_codec.specs.declared.line.Line.TheVariants.{Zone, Primary, Allow, Transfer, Full, Query, Give, Fail, Notify, Due, Clock}
 use Rattle.script_codec.specs.declared.shown.Shown.{Shown}
 use Rattle.script_codec.specs.declared.shown.Shown.TheVariants as shown
 use Rattle.script_codec.specs.declared.line_fault.LineFault.{LineFault}
@@ -23,13 +24,15 @@ use Rattle.rpz_core.specs.declared.event.Output.{Output}
 use Rattle.rpz_core.specs.declared.event.Output.TheVariants as output
 use Rattle.ixfr_apply.specs.declared.refusal.Refusal.{Refusal}
 use Rattle.ixfr_apply.specs.declared.refusal.Refusal.TheVariants as refusal
+use Rattle.query_session.specs.Session.{said_outside}
+use Rattle.rpz_core.specs.Sessions.{said_output}
 use Rattle.rpz_core.specs.World.{World, new_world, world_step}
 use Rattle.script_loop.specs.Abstraction.{outcome_along}
 use Rattle.script_loop.specs.Fold as fold
-use Rattle.rpz_program.specs.Opened.{OpenZones, no_zones, with_primary, with_open_zone}
+use Rattle.rpz_program.specs.Opened.{OpenZones, no_zones, with_network, with_primary, with_open_zone}
 
--- The zones that were opened so far, with their primaries; and from the first line on that is neither of these two kinds, the
--- world of the core.
+-- The zones that were opened so far, with their primaries and who may ask; and from the first line on that is no zone line, primary
+-- line or allow line, the world of the core.
 pub data ScriptWorld : Type 0 where
   opened : OpenZones → ScriptWorld
   answering : World → ScriptWorld
@@ -39,18 +42,20 @@ start = opened no_zones
 
 -- what lines are read by: how many zones there are, and which workers have a pending query
 abbrev pub state_in : ScriptWorld → PlainState
-state_in (opened zones) = state.opening (origins_in zones.settings) zones.primaries
+state_in (opened zones) =
+    state.opening (origins_in zones.settings) zones.primaries zones.allowed
 state_in (answering world) = state.running (length world.settings) (map is_some world.sessions.workers)
 
 -- the world of the core, which begins with the zones that were opened
 abbrev pub world_in : ScriptWorld → World
-world_in (opened zones) = new_world zones.settings zones.primaries
+world_in (opened zones) = new_world zones.settings zones.primaries zones.allowed
 world_in (answering world) = world
 
--- the event that a line is; a zone line and a primary line are none
+-- the event that a line is; a zone line, a primary line and an allow line are none
 abbrev pub event_of : Line → Option Event
 event_of (Zone origin over) = None
 event_of (Primary zone address) = None
+event_of (Allow network) = None
 event_of (Transfer zone stream) = Some (event.Transfer zone stream)
 event_of (Full zone) = Some (event.Full zone)
 event_of (Query worker transport client message) =
@@ -95,6 +100,10 @@ abbrev pub shown_octets : Option Shown → List ℕ
 shown_octets None = []
 shown_octets (Some s) = shown_line s
 
+-- what is written of a query of a client that may not ask: REFUSED or silence, by its message alone
+abbrev pub line_outside : ℕ → List ℕ → List ℕ
+line_outside worker message = shown_octets (shown_of (said_output worker (said_outside message)))
+
 -- a step of the core as a line of the transcript, or why its line is refused
 abbrev pub shown_outcome : {S : Type 0} → Result (S × Output) CoreFault →
     Result (S × List ℕ) LineFault
@@ -111,6 +120,11 @@ abbrev pub primary_outcome : ScriptWorld → ℕ → Addr → Result (ScriptWorl
 primary_outcome (opened zones) zone address = Ok (opened (with_primary zones zone address), [])
 primary_outcome (answering world) zone address = Err why.Late
 
+-- the clients of a network may ask, before the first event
+abbrev pub network_outcome : ScriptWorld → PlainPrefix → Result (ScriptWorld × List ℕ) LineFault
+network_outcome (opened zones) network = Ok (opened (with_network zones network), [])
+network_outcome (answering world) network = Err why.Late
+
 -- any other line is an event of the core
 abbrev pub event_outcome : ScriptWorld → Event → Result (ScriptWorld × List ℕ) LineFault
 event_outcome world event =
@@ -121,6 +135,7 @@ unfoldable pub world_after_line : ScriptWorld → Line → Result (ScriptWorld �
 world_after_line world (Zone origin over) =
     zone_outcome world (record { origin = origin; over = over })
 world_after_line world (Primary zone address) = primary_outcome world zone address
+world_after_line world (Allow network) = network_outcome world network
 world_after_line world (Transfer zone stream) = event_outcome world (event.Transfer zone stream)
 world_after_line world (Full zone) = event_outcome world (event.Full zone)
 world_after_line world (Query worker transport client message) =

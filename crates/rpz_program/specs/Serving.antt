@@ -1,10 +1,10 @@
 -- What a run of a server does.
-use Rattle.std.specs.Prelude.{◌≡◌, ◌+◌, ◌⊎◌, ℕ, List, ◌++◌, Bool, true, false, map, Option}
+use Rattle.std.specs.Prelude.{◌≡◌, ◌+◌, ◌*◌, ◌⊎◌, ℕ, List, ◌++◌, length, Bool, true, false, map, Option}
 use Rattle.policy_override.specs.declared.zone_set.ZoneSet.{ZoneSet}
 use Rattle.edge_io.specs.Chain.{Stage}
 use Rattle.edge_io.specs.Edge.{WritesPrefix, appended}
-use Rattle.edge_io.specs.Wired.{PlainWires}
 use Rattle.edge_io.specs.declared.endpoint.Endpoint.{Endpoint}
+use Rattle.server_io.specs.Wired.{PlainWires}
 use Rattle.rpz_words.specs.Zones.{zone_sets}
 use Rattle.rpz_words.specs.declared.settings.Settings.{Settings}
 use Rattle.rpz_workers.specs.declared.report.Report.{Report}
@@ -22,9 +22,10 @@ zones_in settings = zone_sets settings.zones
 abbrev pub primaries_in : Settings → List Endpoint
 primaries_in settings = map (λ zone. zone.primary) settings.zones
 
--- how many workers a server has: those that ask the upstream, those for datagrams and those for connections
+-- how many workers a server has: those that ask the upstream, those for the datagrams of each endpoint, and those for connections
 abbrev pub worker_count : Settings → ℕ
-worker_count settings = settings.askers + (settings.workers + STREAM_WORKERS)
+worker_count settings =
+    settings.askers + (settings.workers * length settings.listen + STREAM_WORKERS)
 
 -- what a server of these settings does
 abbrev pub plan_of : Settings → ServerPlan
@@ -35,6 +36,7 @@ plan_of settings =
       turns = settings.turns;
       upstream = settings.upstream;
       askers = settings.askers;
+      workers = settings.workers;
       hold = settings.hold;
     }
 
@@ -45,6 +47,7 @@ server_start settings told faults ids moments =
     record {
       zones = zones_in settings;
       primaries = primaries_in settings;
+      allowed = settings.allowed;
       plan = plan_of settings;
       told = told_at_start (opens_at_once (plan_of settings)) (plan_of settings) told;
       faults = faults;

@@ -1,9 +1,10 @@
 -- What a run ends with, as the number of the process and as text on standard error.
-use Rattle.std.specs.Prelude.{ℕ, List, ◌++◌, Option, Some, None, Result, Ok, Err, codes, decimal}
+use Rattle.std.specs.Prelude.{ℕ, List, ◌++◌, Option, Some, None, Result, Ok, Err, codes, decimal, ⊤}
 use Rattle.edge_io.specs.declared.edge.SinkError.{SinkError}
 use Rattle.edge_io.specs.declared.edge.SinkError.TheVariants as sink_error
 use Rattle.script_codec.specs.LineFault.{why_text}
 use Rattle.script_codec.specs.declared.line_fault.LineFault.{LineFault}
+use Rattle.rpz_words.specs.Cause.{cause_text}
 use Rattle.rpz_words.specs.declared.pages.TheConstants.{USAGE}
 use Rattle.script_loop.specs.declared.replay.Stop.{Stop}
 use Rattle.script_loop.specs.declared.replay.Stop.TheVariants as stop
@@ -14,7 +15,7 @@ use Rattle.rpz_program.specs.declared.status.Status.TheVariants.{Done, Usage, Ba
 
 abbrev pub code_of : Status → ℕ
 code_of Done = 0
-code_of Usage = 2
+code_of (Usage cause) = 2
 code_of (BadLine number why) = 3
 code_of ReadFault = 4
 code_of WriteFault = 5
@@ -25,7 +26,7 @@ code_of OutOfMemory = 9
 -- nothing where the run is done
 abbrev pub text_of : Status → Option (List ℕ)
 text_of Done = None
-text_of Usage = Some (codes "rpz: usage\n" ++ USAGE.now)
+text_of (Usage cause) = Some (codes "rpz: " ++ (cause_text cause ++ (codes "\n" ++ USAGE.now)))
 text_of (BadLine number why) =
     Some (codes "rpz: line " ++ (decimal number ++ (codes ": " ++ why_text why)))
 text_of ReadFault = Some (codes "rpz: read fault")
@@ -33,6 +34,17 @@ text_of WriteFault = Some (codes "rpz: write fault")
 text_of SocketFault = Some (codes "rpz: socket fault")
 text_of StartFault = Some (codes "rpz: start fault")
 text_of OutOfMemory = Some (codes "rpz: out of memory")
+
+-- the words were refused
+abbrev pub IsUsage : Status → Type 0
+IsUsage Done = ⊥
+IsUsage (Usage cause) = ⊤
+IsUsage (BadLine number why) = ⊥
+IsUsage ReadFault = ⊥
+IsUsage WriteFault = ⊥
+IsUsage SocketFault = ⊥
+IsUsage StartFault = ⊥
+IsUsage OutOfMemory = ⊥
 
 -- how a script ends a run before the script's end
 abbrev pub status_of_stop : Stop LineFault → Status

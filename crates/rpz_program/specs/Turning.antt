@@ -3,11 +3,11 @@ use Rattle.std.specs.Prelude.{◌≡◌, ◌≤◌, ◌⊎◌, ℕ, List, ◌++�
 use Rattle.std.specs.Option.{option_map}
 use Rattle.edge_io.specs.Chain.{Chain, Stage}
 use Rattle.edge_io.specs.Edge.{Rose, WritesPrefix}
-use Rattle.edge_io.specs.Wired.{BlamesOrder, GivesNext, PlainWires, with_later_wakes}
-use Rattle.edge_io.specs.declared.wake.Wake.{Wake}
-use Rattle.edge_io.specs.declared.wake.Wake.TheVariants as wake
-use Rattle.edge_io.specs.declared.wires.WireError.{WireError}
-use Rattle.edge_io.specs.declared.wires.WireError.TheVariants as wire
+use Rattle.server_io.specs.Wired.{BlamesOrder, GivesNext, PlainWires, with_later_wakes}
+use Rattle.server_io.specs.declared.wake.Wake.{Wake}
+use Rattle.server_io.specs.declared.wake.Wake.TheVariants as wake
+use Rattle.server_io.specs.declared.wires.WireError.{WireError}
+use Rattle.server_io.specs.declared.wires.WireError.TheVariants as wire
 use Rattle.rpz_program.specs.Serving.{Wrote}
 use Rattle.rpz_program.specs.Sums.{no_sums}
 use Rattle.rpz_program.specs.Turns.{HasEnded, ServerState, RunTurn, RunsOn, Turns, run_lines, start_count, with_turn_notices}

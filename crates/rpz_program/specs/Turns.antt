@@ -1,15 +1,16 @@
 -- The turns of a server: what it does with one wake after another.
-use Rattle.std.specs.Prelude.{◌≡◌, ◌≤◌, ◌+◌, ◌⊎◌, ℕ, zero, suc, Bool, true, false, List, [], ◌∷◌, ◌++◌, Option, Some, None, IsSome, is_none, Ok}
+use Rattle.std.specs.Prelude.{◌≡◌, ◌≤◌, ◌+◌, ◌⊎◌, ℕ, zero, suc, Bool, true, false, List, [], ◌∷◌, ◌++◌, length, Option, Some, None, IsSome, is_none, Ok}
 use Rattle.std.specs.Option.{option_map}
+use Rattle.ip_prefix.specs.Prefix.{PlainPrefix}
 use Rattle.policy_override.specs.declared.zone_set.ZoneSet.{ZoneSet}
 use Rattle.policy_override.specs.ZoneSet.{origins_in}
 use Rattle.edge_io.specs.Chain.{Chain, Stage}
 use Rattle.edge_io.specs.Edge.{Rose}
 use Rattle.edge_io.specs.Told.{ComesNext}
-use Rattle.edge_io.specs.Wired.{BlamesOrder, GivesNext, PlainWires, with_admitted, with_bound, with_later_wakes, with_linked, with_turns as with_limit}
 use Rattle.edge_io.specs.declared.endpoint.Endpoint.{Endpoint}
-use Rattle.edge_io.specs.declared.wake.Wake.{Wake}
-use Rattle.edge_io.specs.declared.wake.Wake.TheVariants as wake
+use Rattle.server_io.specs.Wired.{BlamesOrder, GivesNext, PlainWires, with_admitted, with_bound, with_inlet, with_later_wakes, with_linked, with_turns as with_limit}
+use Rattle.server_io.specs.declared.wake.Wake.{Wake}
+use Rattle.server_io.specs.declared.wake.Wake.TheVariants as wake
 use Rattle.policy_snapshot.specs.Stands.{new_snapshot}
 use Rattle.ixfr_apply.specs.Marks.{no_marks}
 use Rattle.policy_publish.specs.Lists.{Published}
@@ -46,7 +47,7 @@ abbrev pub limited_told : Option ℕ → Option PlainWires → Option PlainWires
 limited_told None told = told
 limited_told (Some turns) told = option_map (with_limit turns) told
 
--- what wires tell of which the endpoint of a server was opened, for so many connections and arrivals
+-- what wires tell of which the endpoints of a server were opened, for so many connections and arrivals
 abbrev pub opened_told : ServerPlan → Option PlainWires → Option PlainWires
 opened_told plan told =
     limited_told plan.turns
@@ -61,10 +62,12 @@ abbrev pub told_at_start : Bool → ServerPlan → Option PlainWires → Option 
 told_at_start true plan told = opened_told plan told
 told_at_start false plan told = told
 
--- what a server begins with: its zones and what it does, and what is told once the endpoint is open, where it is opened at once
+-- what a server begins with: its zones, the networks whose clients may ask, and what it does, and what is told once the endpoint is
+-- open, where it is opened at once
 pub record ServerStart : Type 0 where
   pub zones : List ZoneSet
   pub primaries : List Endpoint
+  pub allowed : List PlainPrefix
   pub plan : ServerPlan
   pub told : Option PlainWires
   pub faults : ℕ
@@ -80,6 +83,16 @@ nothing_published zones =
 abbrev pub linked_told : Endpoint → ℕ → Option PlainWires → Option PlainWires
 linked_told at zero told = told
 linked_told at (suc n) told = option_map (with_linked at) (linked_told at n told)
+
+-- what wires tell after so many inlets for the datagrams of this listener were made
+abbrev pub inlet_told : ℕ → ℕ → Option PlainWires → Option PlainWires
+inlet_told listener zero told = told
+inlet_told listener (suc n) told = option_map (with_inlet listener) (inlet_told listener n told)
+
+-- what they tell after so many were made for each of so many listeners, those of the first before those of the others
+abbrev pub inlets_told : ℕ → ℕ → Option PlainWires → Option PlainWires
+inlets_told workers zero told = told
+inlets_told workers (suc n) told = inlet_told n workers (inlets_told workers n told)
 
 -- A turn: the endpoint is opened; the workers are started; or a wake came at this second, these lines were written, and this became of
 -- a NOTIFY.
@@ -102,13 +115,15 @@ pub record Opens (plan : ServerPlan) (began : ℕ) (before after : ServerState) 
       ≡ server_state before.feed.feeder (opened_told plan before.feed.told) before.feed.faults
       before.feed.ids before.moments before.second true
 
--- The workers are started over so many links to the upstream, behind the opening of the endpoint.
+-- The workers are started over so many links to the upstream and so many inlets for the datagrams of each endpoint, behind the opening
+-- of the endpoints.
 pub record Starts (plan : ServerPlan) (before after : ServerState) : Type 0 where
   pub is_open : before.is_open ≡ true
   pub after_is : after
       ≡ server_state before.feed.feeder
-      (linked_told plan.upstream plan.askers before.feed.told) before.feed.faults before.feed.ids
-      before.moments before.second true
+      (inlets_told plan.workers (length plan.listen)
+      (linked_told plan.upstream plan.askers before.feed.told))
+      before.feed.faults before.feed.ids before.moments before.second true
 
 -- The next wake is waited for, the clock is read, and the wake does what it does; then what is due is ordered. Polls are tried anew only
 -- where the endpoint is to be held back.
@@ -193,7 +208,8 @@ pub record RunsTo (start : ServerStart) (stages : List (Stage ServerState RunTur
   pub moment : ComesNext start.moments second moments
   pub runs : RunsOn start.plan second
       (server_state
-      (first_feeder (origins_in start.zones) start.primaries (nothing_published start.zones) second)
+      (first_feeder start.allowed (origins_in start.zones) start.primaries
+      (nothing_published start.zones) second)
       start.told start.faults start.ids moments second (opens_at_once start.plan))
       stages lines last
 

@@ -1,4 +1,4 @@
-//! An endpoint that is held back until each zone was loaded once.
+//! Endpoints that are held back until each zone was loaded once.
 
 ghost use Rattle.std.specs.Prelude.{◌≡◌, ◌≢◌, ◌≤◌, ◌⊎◌, Bool, Err, None, true, false, IfErr, IfOk, OnErr, OnOk};
 ghost use Rattle.edge_io.specs.Edge.{Rose};
@@ -10,9 +10,10 @@ use crate::plan::ServerPlan;
 use crate::progress::Progress;
 use crate::serve_error::ServeError;
 use crate::turning::{take_first_pass, take_turn};
-use edge_io::{Clock, Ids, Sink, Wires};
+use edge_io::{Clock, Ids, Sink};
 use policy_feed::Feeder;
 use policy_publish::StoreName;
+use server_io::Wires;
 use std::alloc::Global;
 use std::sync::Wait;
 
@@ -35,7 +36,7 @@ fn limit_wires<W: Wires>(wires: &mut W, turns: Option<u32>)
     }
 }
 
-// Opens the endpoint, for so many connections and arrivals.
+// Opens the endpoints, for so many connections and arrivals.
 fn open_wires<W: Wires>(wires: &mut W, plan: &ServerPlan) -> Result<(), ServeError>
     ensures told { OnOk result (W.told wires.new ≡ opened_told plan.now (W.told wires.old)) }
     ensures orders { W.order_faults wires.new ≡ W.order_faults wires.old }
@@ -45,7 +46,7 @@ fn open_wires<W: Wires>(wires: &mut W, plan: &ServerPlan) -> Result<(), ServeErr
     ensures only { IfErr result IsOfTurns }
 {
     wires.admit(plan.admitted);
-    match wires.bind(plan.listen) {
+    match wires.bind(plan.listen.as_slice()) {
         Ok(()) => {
             limit_wires(wires, plan.turns);
             Ok(())
@@ -54,7 +55,7 @@ fn open_wires<W: Wires>(wires: &mut W, plan: &ServerPlan) -> Result<(), ServeErr
     }
 }
 
-/// Opens the endpoint, unless it is to be held back.
+/// Opens the endpoints, unless they are to be held back.
 pub(crate) fn open_at_start<W: Wires>(wires: &mut W, plan: &ServerPlan) -> Result<(), ServeError>
     ensures told { OnOk result (W.told wires.new
         ≡ told_at_start (opens_at_once plan.now) plan.now (W.told wires.old)) }

@@ -2,18 +2,21 @@
 
 ghost use Rattle.std.specs.Prelude.{◌≡◌, ◌≤◌, ◌<◌, length, OnOk};
 ghost use Rattle.zone_rows.specs.declared.zone.TheConstants.{ZONE_LIMIT};
-ghost use Rattle.rpz_program.specs.Opened.{no_zones, with_primary, with_open_zone};
+ghost use Rattle.rpz_program.specs.Opened.{no_zones, with_network, with_primary, with_open_zone};
 
+use allow_list::{AllowList, Network};
 use ip_prefix::Addr;
 use policy_override::{ZoneSet, ZoneSets};
 use std::alloc::{AllocError, Global};
 use std::marker::Model;
 
-/// The zones that were opened, at most 64, each with its primary or none. Contracts see both lists.
+/// The zones that were opened, at most 64, each with its primary or none, and the networks whose clients may ask. Contracts see all three
+/// lists.
 #[derive(Drop)]
 pub(crate) struct Opened {
     zones: ZoneSets,
     primaries: Vec<Option<Addr>>,
+    allowed: AllowList,
 }
 
 impl Model for Opened {
@@ -23,20 +26,22 @@ impl Model for Opened {
 
     ghost Value = { OpenZones };
 
-    ghost view = { λ o. record { settings = o.zones; primaries = o.primaries.items } };
+    ghost view = { λ o.
+        record { settings = o.zones; primaries = o.primaries.items; allowed = o.allowed } };
 
     ghost invariant = { λ o. (length o.zones ≤ ZONE_LIMIT)
         × (length o.primaries.items ≡ length o.zones) };
 }
 
 impl Opened {
-    /// No zone was opened. It takes no memory.
+    /// No zone was opened, and everyone may ask. It takes no memory.
     pub(crate) fn new(alloc: Global) -> Self
         ensures { result ≡ no_zones }
     {
         Opened {
             zones: ZoneSets::new(alloc),
             primaries: Vec::new(alloc),
+            allowed: AllowList::everyone(alloc),
         }
     }
 
@@ -54,6 +59,13 @@ impl Opened {
         ensures length { length self.now.primaries ≡ length self.now.settings }
     {
         &self.primaries
+    }
+
+    /// The networks whose clients may ask.
+    pub(crate) fn allowed(&self) -> &AllowList
+        ensures { result.now ≡ self.now.allowed }
+    {
+        &self.allowed
     }
 
     /// This zone was opened.
@@ -76,5 +88,12 @@ impl Opened {
         ensures { self.new ≡ with_primary self.old zone address }
     {
         self.primaries[zone as usize - 1] = Some(address);
+    }
+
+    /// The clients of this network may ask, beside those of the networks before it.
+    pub(crate) fn allow(&mut self, network: Network) -> Result<(), AllocError>
+        ensures { OnOk result (self.new ≡ with_network self.old network) }
+    {
+        self.allowed.push(network)
     }
 }

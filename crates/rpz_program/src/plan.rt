@@ -3,12 +3,13 @@
 use crate::server_cache::ServerCache;
 use dns_name::Name;
 use edge_io::{ConnectionLimits, Endpoint, Link};
+use rpz_words::Endpoints;
 
 /// What a server does: where it answers and asks, and for how long.
-#[derive(Clone, Copy, Debug, PartialEq, Eq)]
+#[derive(Debug, Drop)]
 pub struct ServerPlan {
-    /// The endpoint that it opens.
-    pub listen: Endpoint,
+    /// The endpoints that it opens.
+    pub listen: Endpoints,
     /// How many connections of clients may be open.
     pub admitted: ConnectionLimits,
     /// How many arrivals are taken; `None` where as many as come.
@@ -17,18 +18,17 @@ pub struct ServerPlan {
     pub upstream: Endpoint,
     /// How many workers ask the upstream.
     pub askers: usize,
-    /// For how many seconds the endpoint stays closed before each zone was loaded once, where 0 is without end; `None` where it is
+    /// How many workers take datagrams, at each endpoint.
+    pub workers: usize,
+    /// For how many seconds the endpoints stay closed before each zone was loaded once, where 0 is without end; `None` where they are
     /// opened at once.
     pub hold: Option<u32>,
 }
 
-/// What a server does, with how many workers that ask nobody, and over which cache.
+/// What a server does, and over which cache.
 #[derive(Drop)]
 pub struct Plan<L: Link> {
     pub server: ServerPlan,
-    /// How many workers answer by the rules and the cache: the first [`STREAM_WORKERS`](crate::STREAM_WORKERS) of them the messages of
-    /// connections, the others datagrams.
-    pub workers: usize,
     /// What was learned from the upstream, for all workers.
     pub cache: ServerCache<L>,
 }

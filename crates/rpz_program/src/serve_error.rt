@@ -3,7 +3,7 @@
 ghost use Rattle.std.specs.Prelude.{◌≡◌};
 ghost use Rattle.rpz_program.specs.Turning.{error_of};
 
-use edge_io::WireError;
+use server_io::WireError;
 use std::alloc::{AllocError, AllocFailed};
 
 /// Why a server's run ended before its last turn.

@@ -1,8 +1,9 @@
 //! The command `serve`.
 
-ghost use Rattle.std.specs.Prelude.{◌≡◌, ◌≢◌, ◌≤◌, ◌+◌, Err, OnErr, OnOk};
+ghost use Rattle.std.specs.Prelude.{◌≡◌, ◌≢◌, ◌<◌, ◌≤◌, ◌+◌, Err, IfOk, OnErr, OnOk};
 ghost use Rattle.edge_io.specs.Edge.{Rose};
 ghost use Rattle.rpz_program.specs.Serving.{ServesWhole, StopsServing, plan_of as plan_form, server_start, worker_count};
+ghost use Rattle.policy_publish.specs.declared.store.TheConstants.{READER_LIMIT};
 ghost use Rattle.rpz_words.specs.Limits.{IsServable};
 
 use crate::feeds::STREAM_WORKERS;
@@ -11,35 +12,52 @@ use crate::plan::{Plan, PlannedZones, ServerPlan};
 use crate::serve_error::ServeError;
 use crate::server_cache::open_cache;
 use crate::serving::serve_over;
-use edge_io::{Clock, Ids, Sink, Spawner, Wires};
+use edge_io::{Clock, Ids, LISTEN_LIMIT, Sink, Spawner};
 use policy_override::origins_of;
-use policy_publish::start_store;
-use rpz_words::Settings;
+use policy_publish::{READER_LIMIT, start_store};
+use rpz_words::{ASKER_LIMIT, Settings, WORKER_LIMIT};
 use rpz_workers::Report;
-use std::alloc::Global;
+use server_io::Wires;
+use std::alloc::{AllocError, Global};
 use std::hash::RandomState;
 use std::marker::Brand;
 use std::sync::Wait;
 use std::thread::Threads;
 use std::time;
 
+// each thread that answers has a reader of the store
+const _: () = prove!(
+    ASKER_LIMIT as usize + WORKER_LIMIT * LISTEN_LIMIT + STREAM_WORKERS <= READER_LIMIT
+);
+
 // What a server of these settings does.
-fn plan_of(settings: &Settings) -> ServerPlan
-    ensures { result ≡ plan_form settings.now }
+fn plan_of(alloc: Global, settings: &Settings) -> Result<ServerPlan, AllocError>
+    ensures { IfOk result (λ plan. plan ≡ plan_form settings.now) }
 {
-    ServerPlan {
-        listen: settings.listen,
+    Ok(ServerPlan {
+        listen: settings.listen.again(alloc)?,
         admitted: settings.connections,
         turns: settings.turns,
         upstream: settings.upstream,
         askers: settings.askers,
+        workers: settings.workers,
         hold: settings.hold,
-    }
+    })
 }
 
-/// Serves as the settings say: opens the cache that the workers share, opens the endpoint, at once or once the zones were loaded, orders
-/// all zones, starts the workers, takes one wake after another, and writes the line that sums up what became of the arrivals. Where the cache finds no memory, nothing was
-/// bound yet. However it ends, the workers that were started are stopped and gathered first. `hashers` makes the hash of the cache:
+// How many workers read the store: those that ask, those for the datagrams of each endpoint, and those for connections.
+fn reader_count(settings: &Settings) -> usize
+    requires { IsServable settings.now }
+    ensures count { result ≡ worker_count settings.now }
+    ensures some { 0 < result }
+    ensures few { result ≤ READER_LIMIT }
+{
+    settings.askers + (settings.workers * settings.listen.len() + STREAM_WORKERS)
+}
+
+/// Serves as the settings say: opens the cache that the workers share, opens the endpoints, at once or once the zones were loaded, orders
+/// all zones, starts the workers, takes one wake after another, and writes the line that sums up what became of the arrivals. Where the
+/// cache finds no memory, nothing was bound yet. A client outside the list of who may ask gets REFUSED, and is looked up nowhere. However it ends, the workers that were started are stopped and gathered first. `hashers` makes the hash of the cache:
 /// where strangers pick the questions, one with a random seed.
 pub fn serve<
     W: Wires,
@@ -94,15 +112,14 @@ pub fn serve<
         primaries: settings.zones.primaries(alloc)?,
     };
     let plan = Plan {
-        server: plan_of(settings),
-        workers: settings.workers + STREAM_WORKERS,
+        server: plan_of(alloc, settings)?,
         cache: open_cache(alloc, settings.cache, hashers)?,
     };
     if let Err(error) = open_at_start(wires, &plan.server) {
         return Err(error);
     }
-    let readers = plan.server.askers + plan.workers;
-    let parts = start_store(sets, readers);
+    let allowed = settings.allowed.again(alloc)?;
+    let parts = start_store(sets, allowed, reader_count(settings));
     serve_over::<Brand, W, P, C, I, K, R>(
         rt, alloc, parts, &plan, hashers, zones, wires, spawner, clock, ids, out,
     )

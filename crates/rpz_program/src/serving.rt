@@ -1,10 +1,11 @@
 //! A run of a server.
 
-ghost use Rattle.std.specs.Prelude.{◌≡◌, ◌≢◌, ◌≤◌, ◌+◌, ◌⊎◌, Err, IfErr, IfOk, OnErr, OnOk, true, false, length};
+ghost use Rattle.std.specs.Prelude.{◌≡◌, ◌≢◌, ◌≤◌, ◌+◌, ◌*◌, ◌⊎◌, Err, IfErr, IfOk, OnErr, OnOk, true, false, length};
 ghost use Rattle.edge_io.specs.Edge.{Rose, WritesPrefix, appended};
 ghost use Rattle.rpz_program.specs.Serving.{ServesBy, ServesWhole, StopsIn, StopsServing, sums_line};
 ghost use Rattle.rpz_program.specs.Turning.{IsOfLines, IsOfTurns, OrdersFirst, RunsAll, StopsFirst, StopsRunning};
 ghost use Rattle.rpz_program.specs.Turns.{RunsOn, opens_at_once, server_state};
+ghost use Rattle.rpz_program.specs.declared.feeds.TheConstants.{STREAM_WORKERS};
 ghost use Rattle.policy_feed.specs.Feed.{feed_of};
 ghost use Rattle.policy_override.specs.ZoneSet.{origins_in};
 
@@ -17,10 +18,11 @@ use crate::served_line::served_text;
 use crate::starting::start_all;
 use crate::sums::{Sums, gather_all};
 use crate::turning::take_turns;
-use edge_io::{Clock, Ids, Sink, SinkError, Spawner, Wires, write_all};
+use edge_io::{Clock, Ids, Sink, SinkError, Spawner, write_all};
 use policy_feed::Feeder;
 use policy_publish::{Parts, PolicyReader, StoreName};
 use rpz_workers::Report;
+use server_io::Wires;
 use std::alloc::Global;
 use std::hash::RandomState;
 use std::sync::Wait;
@@ -132,7 +134,9 @@ fn run_turns<
         (C.moments clock.old) now (opens_at_once plan.now.server))
         (K.held out.old) (K.held out.new)) }
     ensures waiting { OnOk result (P.waiting spawner.new
-        ≡ P.waiting spawner.old + (plan.now.server.askers + plan.now.workers)) }
+        ≡ P.waiting spawner.old + (plan.now.server.askers
+        + (plan.now.server.workers * length plan.now.server.listen
+        + STREAM_WORKERS))) }
     ensures gathered { P.gathered spawner.new ≡ P.gathered spawner.old }
     ensures wire_count { W.faults wires.old ≤ W.faults wires.new }
     ensures start_count { P.faults spawner.old ≤ P.faults spawner.new }
@@ -220,7 +224,9 @@ fn serve_open<
         (C.moments clock.old) now (opens_at_once plan.now.server)))
         plan.now.server.turns
         (record {
-          waiting = P.waiting spawner.old + (plan.now.server.askers + plan.now.workers);
+          waiting = P.waiting spawner.old + (plan.now.server.askers
+              + (plan.now.server.workers * length plan.now.server.listen
+              + STREAM_WORKERS));
           before = P.gathered spawner.old;
           after = P.gathered spawner.new;
         })
@@ -231,7 +237,9 @@ fn serve_open<
         (C.moments clock.old) now (opens_at_once plan.now.server)))
         plan.now.server.turns
         (record {
-          waiting = P.waiting spawner.old + (plan.now.server.askers + plan.now.workers);
+          waiting = P.waiting spawner.old + (plan.now.server.askers
+              + (plan.now.server.workers * length plan.now.server.listen
+              + STREAM_WORKERS));
           before = P.gathered spawner.old;
           after = P.gathered spawner.new;
         })
@@ -257,7 +265,7 @@ fn serve_open<
     }
 }
 
-/// Serves by a store of its own, whose zones are these.
+/// Serves by a store of its own, whose zones are these, and whose list says who may ask.
 pub(crate) fn serve_over<
     N: StoreName + Send + Sync + 'static,
     W: Wires,
@@ -286,6 +294,7 @@ pub(crate) fn serve_over<
         (record {
           zones = parts.settings;
           primaries = zones.primaries.items;
+          allowed = parts.allowed;
           plan = plan.now.server;
           told = W.told wires.old;
           faults = W.order_faults wires.old;
@@ -294,7 +303,9 @@ pub(crate) fn serve_over<
         })
         plan.now.server.turns
         (record {
-          waiting = P.waiting spawner.old + (plan.now.server.askers + plan.now.workers);
+          waiting = P.waiting spawner.old + (plan.now.server.askers
+              + (plan.now.server.workers * length plan.now.server.listen
+              + STREAM_WORKERS));
           before = P.gathered spawner.old;
           after = P.gathered spawner.new;
         })
@@ -303,6 +314,7 @@ pub(crate) fn serve_over<
         (record {
           zones = parts.settings;
           primaries = zones.primaries.items;
+          allowed = parts.allowed;
           plan = plan.now.server;
           told = W.told wires.old;
           faults = W.order_faults wires.old;
@@ -311,7 +323,9 @@ pub(crate) fn serve_over<
         })
         plan.now.server.turns
         (record {
-          waiting = P.waiting spawner.old + (plan.now.server.askers + plan.now.workers);
+          waiting = P.waiting spawner.old + (plan.now.server.askers
+              + (plan.now.server.workers * length plan.now.server.listen
+              + STREAM_WORKERS));
           before = P.gathered spawner.old;
           after = P.gathered spawner.new;
         })

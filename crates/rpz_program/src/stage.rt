@@ -5,10 +5,11 @@ ghost use Rattle.script_codec.specs.State.{state_of as state_seen};
 ghost use Rattle.script_codec.specs.Within.{IsWithin, IsZone, MayOpen};
 ghost use Rattle.script_loop.specs.Replay.{Steps};
 ghost use Rattle.rpz_core.specs.declared.event.Event.TheVariants as event_form;
-ghost use Rattle.rpz_program.specs.Stage.{new_stage, stage_event, stage_line, stage_primary, stage_zone, state_in};
+ghost use Rattle.rpz_program.specs.Stage.{new_stage, stage_event, stage_line, stage_network, stage_primary, stage_zone, state_in};
 
 use crate::answering::answer_event;
 use crate::opened::Opened;
+use allow_list::Network;
 use dns_name::Octets;
 use ip_prefix::{Addr, Transport};
 use policy_override::ZoneSet;
@@ -20,7 +21,7 @@ use std::alloc::Global;
 /// How far a script is.
 #[derive(Drop)]
 pub(crate) enum Stage {
-    /// Its zones are opened: all lines so far were zone lines and primary lines.
+    /// Its zones are opened: all lines so far were zone lines, primary lines and allow lines.
     Opening(Opened),
     /// The core runs, with the zones that were opened.
     Running(Core),
@@ -77,6 +78,7 @@ impl Stage {
             Stage::Opening(opened) => ScriptState::Opening {
                 zones: opened.zones(),
                 primaries: opened.primaries(),
+                allowed: opened.allowed(),
             },
             Stage::Running(core) => ScriptState::Running {
                 zones: core.zone_count(),
@@ -100,6 +102,7 @@ impl Stage {
         match line {
             Line::Zone { origin, over } => self.open(ZoneSet { origin, over }),
             Line::Primary { zone, address } => self.give_primary(zone, address),
+            Line::Allow(network) => self.allow(network),
             Line::Transfer { zone, stream } => {
                 self.take(alloc, Event::Transfer { zone, stream }, reply)
             }
@@ -154,6 +157,19 @@ impl Stage {
         }
     }
 
+    // Lets the clients of a network ask, which writes nothing.
+    fn allow(&mut self, network: Network) -> Result<(), AnswerError<LineFault>>
+        ensures { Steps (stage_network self.old network) result self.new [] }
+    {
+        match self {
+            Stage::Opening(opened) => {
+                opened.allow(network)?;
+                Ok(())
+            }
+            Stage::Running(_) => Err(AnswerError::Refused(LineFault::Late)),
+        }
+    }
+
     // Takes an event; the first begins the core.
     fn take(
         &mut self,
@@ -167,7 +183,13 @@ impl Stage {
         match self {
             Stage::Running(core) => answer_event(alloc, core, event, reply),
             Stage::Opening(opened) => {
-                let mut core = Core::start(alloc, opened.zones().as_slice(), opened.primaries())?;
+                let allowed = opened.allowed().again(alloc)?;
+                let mut core = Core::start(
+                    alloc,
+                    opened.zones().as_slice(),
+                    opened.primaries(),
+                    allowed,
+                )?;
                 answer_event(alloc, &mut core, event, reply)?;
                 *self = Stage::Running(core);
                 Ok(())

@@ -1,22 +1,24 @@
 //! How workers are started.
 
-ghost use Rattle.std.specs.Prelude.{◌≡◌, ◌≢◌, ◌≤◌, ◌+◌, Err, OnErr, OnOk};
+ghost use Rattle.std.specs.Prelude.{◌≡◌, ◌≢◌, ◌≤◌, ◌+◌, ◌*◌, length, Err, OnErr, OnOk};
 ghost use Rattle.std.specs.Option.{option_map};
 ghost use Rattle.edge_io.specs.Edge.{Rose};
-ghost use Rattle.edge_io.specs.Wired.{with_linked};
-ghost use Rattle.rpz_program.specs.Turns.{linked_told};
+ghost use Rattle.server_io.specs.Wired.{with_inlet, with_linked};
+ghost use Rattle.rpz_program.specs.Turns.{inlet_told, inlets_told, linked_told};
+ghost use Rattle.rpz_program.specs.declared.feeds.TheConstants.{STREAM_WORKERS};
 
 use crate::feeds::{Feeds, STREAM_WORKERS};
 use crate::plan::Plan;
 use crate::serve_error::ServeError;
 use crate::server_cache::ServerCache;
 use answer_cache::Shared;
-use edge_io::{Clock, Deadline, Endpoint, Ids, Inlet, Link, Spawner, StartError, Task, Wires};
+use edge_io::{Clock, Deadline, Endpoint, Ids, Link, Spawner, StartError, Task};
 use policy_publish::{Latest, PolicyReader, StoreName};
 use rpz_workers::{
     AsksNobody, InletItems, NoGate, NoOnward, Report, RequestItems, RequestOnward, ServeTask,
     Worker,
 };
+use server_io::{Inlet, Wires};
 use std::alloc::{AllocError, Global};
 use std::hash::RandomState;
 use std::sync::{Arc, Wait};
@@ -49,9 +51,13 @@ fn wire_asker<W: Wires>(
     }
 }
 
-// An inlet for datagrams, and a place for replies.
-fn wire_answerer<W: Wires>(wires: &mut W) -> Result<(W::Datagrams, W::Back), ServeError>
-    ensures told { W.told wires.new ≡ W.told wires.old }
+// An inlet for the datagrams of a listener, and a place for replies.
+fn wire_answerer<W: Wires>(
+    wires: &mut W,
+    listener: usize,
+) -> Result<(W::Datagrams, W::Back), ServeError>
+    ensures told { OnOk result
+        (W.told wires.new ≡ option_map (with_inlet listener) (W.told wires.old)) }
     ensures orders { W.order_faults wires.new ≡ W.order_faults wires.old }
     ensures count { W.faults wires.old ≤ W.faults wires.new }
     ensures failed { result ≡ Err ServeError.SocketFault →
@@ -59,7 +65,7 @@ fn wire_answerer<W: Wires>(wires: &mut W) -> Result<(W::Datagrams, W::Back), Ser
     ensures not_start { result ≢ Err ServeError.StartFault }
     ensures not_write { result ≢ Err ServeError.WriteFault }
 {
-    let inlet = match wires.datagrams() {
+    let inlet = match wires.datagrams(listener) {
         Ok(inlet) => inlet,
         Err(error) => return Err(ServeError::of_wires(error)),
     };
@@ -326,7 +332,7 @@ fn start_answering<
     )
 }
 
-// Starts a worker that answers datagrams, with a clock of its own.
+// Starts a worker that answers the datagrams of a listener, with a clock of its own.
 fn start_answerer<
     N: StoreName + Send + Sync + 'static,
     W: Wires,
@@ -338,12 +344,14 @@ fn start_answerer<
     alloc: Global,
     cache: &ServerCache<W::Up>,
     reader: PolicyReader<N>,
+    listener: usize,
     wires: &mut W,
     spawner: &mut P,
     clock: &mut C,
     feeds: &Feeds<N>,
 ) -> Result<(), ServeError>
-    ensures told { W.told wires.new ≡ W.told wires.old }
+    ensures told { OnOk result
+        (W.told wires.new ≡ option_map (with_inlet listener) (W.told wires.old)) }
     ensures waiting { OnOk result (P.waiting spawner.new ≡ P.waiting spawner.old + 1) }
     ensures orders { W.order_faults wires.new ≡ W.order_faults wires.old }
     ensures moments { C.moments clock.new ≡ C.moments clock.old }
@@ -356,7 +364,7 @@ fn start_answerer<
         Rose (P.faults spawner.old) (P.faults spawner.new) }
     ensures not_write { result ≢ Err ServeError.WriteFault }
 {
-    let (inlet, replies) = wire_answerer(wires)?;
+    let (inlet, replies) = wire_answerer(wires, listener)?;
     let own_clock = clock.another();
     start_answering::<N, W, W::Datagrams, P, C, R>(
         rt, alloc, cache, reader, inlet, replies, spawner, own_clock, feeds,
@@ -400,46 +408,8 @@ fn start_streamer<
     )
 }
 
-// Starts the worker of a place among those that ask nobody.
-fn start_placed<
-    N: StoreName + Send + Sync + 'static,
-    W: Wires,
-    P: Spawner<Report>,
-    C: Clock + Drop + Send + 'static,
-    R: Threads + Wait + time::Clock + Copy + Drop + Send + Sync + 'static,
->(
-    rt: &R,
-    alloc: Global,
-    cache: &ServerCache<W::Up>,
-    reader: PolicyReader<N>,
-    place: usize,
-    wires: &mut W,
-    spawner: &mut P,
-    clock: &mut C,
-    feeds: &Feeds<N>,
-) -> Result<(), ServeError>
-    ensures told { W.told wires.new ≡ W.told wires.old }
-    ensures waiting { OnOk result (P.waiting spawner.new ≡ P.waiting spawner.old + 1) }
-    ensures orders { W.order_faults wires.new ≡ W.order_faults wires.old }
-    ensures moments { C.moments clock.new ≡ C.moments clock.old }
-    ensures gathered { P.gathered spawner.new ≡ P.gathered spawner.old }
-    ensures wire_count { W.faults wires.old ≤ W.faults wires.new }
-    ensures start_count { P.faults spawner.old ≤ P.faults spawner.new }
-    ensures socket { result ≡ Err ServeError.SocketFault →
-        Rose (W.faults wires.old) (W.faults wires.new) }
-    ensures start { result ≡ Err ServeError.StartFault →
-        Rose (P.faults spawner.old) (P.faults spawner.new) }
-    ensures not_write { result ≢ Err ServeError.WriteFault }
-{
-    if place < STREAM_WORKERS {
-        start_streamer::<N, W, P, C, R>(rt, alloc, cache, reader, wires, spawner, clock, feeds)
-    } else {
-        start_answerer::<N, W, P, C, R>(rt, alloc, cache, reader, wires, spawner, clock, feeds)
-    }
-}
-
-// Starts so many workers that ask nobody: the first of them take connections, the others datagrams.
-fn start_answerers<
+// Starts so many workers that answer the messages of connections.
+fn start_streamers<
     N: StoreName + Send + Sync + 'static,
     W: Wires,
     P: Spawner<Report>,
@@ -469,19 +439,103 @@ fn start_answerers<
         Rose (P.faults spawner.old) (P.faults spawner.new) }
     ensures not_write { result ≢ Err ServeError.WriteFault }
 {
-    for place in 0..count {
+    for _ in 0..count {
         let Some(reader) = readers.pop() else {
             return Err(ServeError::OutOfMemory);
         };
-        start_placed::<N, W, P, C, R>(
-            rt, alloc, cache, reader, place, wires, spawner, clock, feeds,
+        start_streamer::<N, W, P, C, R>(rt, alloc, cache, reader, wires, spawner, clock, feeds)?;
+    }
+    Ok(())
+}
+
+// Starts so many workers that answer the datagrams of a listener.
+fn start_answerers<
+    N: StoreName + Send + Sync + 'static,
+    W: Wires,
+    P: Spawner<Report>,
+    C: Clock + Drop + Send + 'static,
+    R: Threads + Wait + time::Clock + Copy + Drop + Send + Sync + 'static,
+>(
+    rt: &R,
+    alloc: Global,
+    cache: &ServerCache<W::Up>,
+    readers: &mut Vec<PolicyReader<N>>,
+    listener: usize,
+    count: usize,
+    wires: &mut W,
+    spawner: &mut P,
+    clock: &mut C,
+    feeds: &Feeds<N>,
+) -> Result<(), ServeError>
+    ensures told { OnOk result
+        (W.told wires.new ≡ inlet_told listener count (W.told wires.old)) }
+    ensures waiting { OnOk result (P.waiting spawner.new ≡ P.waiting spawner.old + count) }
+    ensures orders { W.order_faults wires.new ≡ W.order_faults wires.old }
+    ensures moments { C.moments clock.new ≡ C.moments clock.old }
+    ensures gathered { P.gathered spawner.new ≡ P.gathered spawner.old }
+    ensures wire_count { W.faults wires.old ≤ W.faults wires.new }
+    ensures start_count { P.faults spawner.old ≤ P.faults spawner.new }
+    ensures socket { result ≡ Err ServeError.SocketFault →
+        Rose (W.faults wires.old) (W.faults wires.new) }
+    ensures start { result ≡ Err ServeError.StartFault →
+        Rose (P.faults spawner.old) (P.faults spawner.new) }
+    ensures not_write { result ≢ Err ServeError.WriteFault }
+{
+    for _ in 0..count {
+        let Some(reader) = readers.pop() else {
+            return Err(ServeError::OutOfMemory);
+        };
+        start_answerer::<N, W, P, C, R>(
+            rt, alloc, cache, reader, listener, wires, spawner, clock, feeds,
         )?;
     }
     Ok(())
 }
 
-/// Starts the workers that ask, and then those that answer the messages of connections, and datagrams, one for each reader, over the
-/// cache. They find at the handle what is published. The hashers make the hashes of the list of what is passed on.
+// Starts so many workers that answer datagrams for each of so many listeners.
+fn start_listeners<
+    N: StoreName + Send + Sync + 'static,
+    W: Wires,
+    P: Spawner<Report>,
+    C: Clock + Drop + Send + 'static,
+    R: Threads + Wait + time::Clock + Copy + Drop + Send + Sync + 'static,
+>(
+    rt: &R,
+    alloc: Global,
+    cache: &ServerCache<W::Up>,
+    readers: &mut Vec<PolicyReader<N>>,
+    listeners: usize,
+    workers: usize,
+    wires: &mut W,
+    spawner: &mut P,
+    clock: &mut C,
+    feeds: &Feeds<N>,
+) -> Result<(), ServeError>
+    ensures told { OnOk result
+        (W.told wires.new ≡ inlets_told workers listeners (W.told wires.old)) }
+    ensures waiting { OnOk result
+        (P.waiting spawner.new ≡ P.waiting spawner.old + workers * listeners) }
+    ensures orders { W.order_faults wires.new ≡ W.order_faults wires.old }
+    ensures moments { C.moments clock.new ≡ C.moments clock.old }
+    ensures gathered { P.gathered spawner.new ≡ P.gathered spawner.old }
+    ensures wire_count { W.faults wires.old ≤ W.faults wires.new }
+    ensures start_count { P.faults spawner.old ≤ P.faults spawner.new }
+    ensures socket { result ≡ Err ServeError.SocketFault →
+        Rose (W.faults wires.old) (W.faults wires.new) }
+    ensures start { result ≡ Err ServeError.StartFault →
+        Rose (P.faults spawner.old) (P.faults spawner.new) }
+    ensures not_write { result ≢ Err ServeError.WriteFault }
+{
+    for listener in 0..listeners {
+        start_answerers::<N, W, P, C, R>(
+            rt, alloc, cache, readers, listener, workers, wires, spawner, clock, feeds,
+        )?;
+    }
+    Ok(())
+}
+
+/// Starts the workers that ask, and then those that answer the messages of connections, and the datagrams of each endpoint, one for each
+/// reader, over the cache. They find at the handle what is published. The hashers make the hashes of the list of what is passed on.
 pub(crate) fn start_all<
     N: StoreName + Send + Sync + 'static,
     W: Wires,
@@ -502,9 +556,12 @@ pub(crate) fn start_all<
     ids: &mut I,
 ) -> Result<(), ServeError>
     ensures told { OnOk result (W.told wires.new
-        ≡ linked_told plan.now.server.upstream plan.now.server.askers (W.told wires.old)) }
+        ≡ inlets_told plan.now.server.workers (length plan.now.server.listen)
+        (linked_told plan.now.server.upstream plan.now.server.askers (W.told wires.old))) }
     ensures waiting { OnOk result (P.waiting spawner.new
-        ≡ P.waiting spawner.old + (plan.now.server.askers + plan.now.workers)) }
+        ≡ P.waiting spawner.old + (plan.now.server.askers
+        + (plan.now.server.workers * length plan.now.server.listen
+        + STREAM_WORKERS))) }
     ensures orders { W.order_faults wires.new ≡ W.order_faults wires.old }
     ensures ids { I.ids ids.new ≡ I.ids ids.old }
     ensures moments { C.moments clock.new ≡ C.moments clock.old }
@@ -517,7 +574,7 @@ pub(crate) fn start_all<
         Rose (P.faults spawner.old) (P.faults spawner.new) }
     ensures not_write { result ≢ Err ServeError.WriteFault }
 {
-    let server = plan.server;
+    let server = &plan.server;
     let feeds = Feeds::open(alloc, server.askers, hashers, latest)?;
     start_askers::<N, W, P, C, I, R>(
         rt,
@@ -532,12 +589,24 @@ pub(crate) fn start_all<
         ids,
         &feeds,
     )?;
-    start_answerers::<N, W, P, C, R>(
+    start_streamers::<N, W, P, C, R>(
         rt,
         alloc,
         &plan.cache,
         readers,
-        plan.workers,
+        STREAM_WORKERS,
+        wires,
+        spawner,
+        clock,
+        &feeds,
+    )?;
+    start_listeners::<N, W, P, C, R>(
+        rt,
+        alloc,
+        &plan.cache,
+        readers,
+        server.listen.len(),
+        server.workers,
         wires,
         spawner,
         clock,

@@ -5,7 +5,7 @@ ghost use Rattle.rpz_program.specs.Status.{code_of, status_of_replay, status_of_
 
 use crate::serve_error::ServeError;
 use edge_io::SinkError;
-use rpz_words::USAGE;
+use rpz_words::{USAGE, UsageCause};
 use script_codec::LineFault;
 use script_loop::replay::Stop;
 use std::alloc::{AllocError, Global};
@@ -15,15 +15,15 @@ use std::alloc::{AllocError, Global};
 pub enum Status {
     /// The script was read to its end, the server took all its turns, the load was answered, or the page was shown.
     Done,
-    /// The words of the command line are none that the program takes.
-    Usage,
+    /// The words of the command line ask for nothing, and why.
+    Usage { cause: UsageCause },
     /// The first line that is refused, by its number, and why. Line 1 is the first.
     BadLine { line: u64, why: LineFault },
     /// A read of the script has failed.
     ReadFault,
     /// A write of the output has failed.
     WriteFault,
-    /// A call on a socket has failed: the endpoint could not be bound, or no arrival comes.
+    /// A call on a socket has failed: an endpoint could not be bound, or no arrival comes.
     SocketFault,
     /// A worker could not be started.
     StartFault,
@@ -84,7 +84,7 @@ impl Status {
     {
         match self {
             Status::Done => 0,
-            Status::Usage => 2,
+            Status::Usage { .. } => 2,
             Status::BadLine { .. } => 3,
             Status::ReadFault => 4,
             Status::WriteFault => 5,
@@ -94,15 +94,15 @@ impl Status {
         }
     }
 
-    /// What is told on standard error; nothing where the run is done. After a usage error it is the usage in short too.
+    /// What is told on standard error; nothing where the run is done. After a usage error it is the cause, and the usage in short.
     pub fn text(self, alloc: Global) -> Result<Option<String>, AllocError>
         ensures { IfOk result (λ text. option_map string_bytes text ≡ text_of self) }
     {
         match self {
             Status::Done => Ok(None),
-            Status::Usage => {
+            Status::Usage { cause } => {
                 let usage = USAGE;
-                Ok(Some(format!(in alloc; "rpz: usage\n{usage}")?))
+                Ok(Some(format!(in alloc; "rpz: {cause}\n{usage}")?))
             }
             Status::BadLine { line, why } => {
                 Ok(Some(format!(in alloc; "rpz: line {line}: {why}")?))

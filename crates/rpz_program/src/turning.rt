@@ -8,9 +8,10 @@ ghost use Rattle.rpz_program.specs.Turns.{server_state};
 use crate::output::write_lines;
 use crate::progress::{Progress, count_notice};
 use crate::serve_error::ServeError;
-use edge_io::{Clock, Ids, Sink, Wake, WireError, Wires};
+use edge_io::{Clock, Ids, Sink};
 use policy_feed::Feeder;
 use policy_publish::StoreName;
+use server_io::{Wake, WireError, Wires};
 use std::alloc::Global;
 use std::sync::Wait;
 

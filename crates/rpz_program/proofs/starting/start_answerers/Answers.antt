@@ -1,12 +1,13 @@
 use Rattle.std.proofs.Common.{◌∙◌, arith}
+use Rattle.rpz_program.proofs.Turned.{inlet_next}
 use Rattle.rpz_program.proofs.starting.start_answerers.Goals as goal
 
-pub loop-place-preserved : goal.loop-place-preserved
-loop-place-preserved g c =
-    let was = c.loop-place.invariant in
-    let one = c.in_ok-start_placed.ensures in
+pub loop-preserved : goal.loop-preserved
+loop-preserved g c =
+    let was = c.loop.invariant in
+    let one = c.in_ok-start_answerer.ensures in
     record {
-      told = one.told ∙ was.told;
+      told = inlet_next _ _ _ c.args.listener c.loop.counter one.told was.told;
       waiting = omega (arith, was.waiting, one.waiting);
       orders = one.orders ∙ was.orders;
       moments = one.moments ∙ was.moments;
