@@ -2,12 +2,11 @@
 
 ghost use Rattle.std.specs.Prelude.{◌<◌};
 
-use edge_io::{
-    ListClock, ListIds, ListLink, ListReplies, ListSink, ListSource, ListWires, TaskSpawner,
-};
+use edge_io::{ListClock, ListIds, ListLink, ListSink, ListSource, TaskSpawner};
 use rpz_program::run::run;
 use rpz_program::status::Status;
 use rpz_workers::Report;
+use server_io::{ListReplies, ListWires};
 use std::alloc::{AllocError, Global};
 use std::collections::VecDeque;
 use std::hash::RandomState;
