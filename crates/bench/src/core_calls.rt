@@ -5,6 +5,7 @@ use crate::samples::{CLIENT_ADDR, DENIED_QUERY, QUERY, origin};
 use crate::sheet::Sheet;
 use crate::transfer_calls::WHOLE;
 use crate::tried::{Tried, after, beside, made_changed_twice};
+use allow_list::AllowList;
 use dns_name::Octets;
 use ip_prefix::{Addr, Transport};
 use policy_override::{Override, ZoneSet};
@@ -111,7 +112,8 @@ impl Tried for Machine {
     fn once(&mut self, alloc: Global, sheet: &mut Sheet, call: &str) -> Result<(), BenchError> {
         match call {
             "rpz_core::Core::start" => {
-                let other = Core::start(alloc, &self.zones, &[Some(PRIMARY)])?;
+                let everyone = AllowList::everyone(alloc);
+                let other = Core::start(alloc, &self.zones, &[Some(PRIMARY)], everyone)?;
                 show_core(sheet, &other);
                 Ok(())
             }
@@ -138,7 +140,7 @@ fn make_machine(alloc: Global, call: &str) -> Result<Machine, BenchError> {
         origin: origin(alloc)?,
         over: Override::Given,
     }];
-    let core = Core::start(alloc, &zones, &[Some(PRIMARY)]);
+    let core = Core::start(alloc, &zones, &[Some(PRIMARY)], AllowList::everyone(alloc));
     let (zones, mut core) = beside(zones, core)?;
     let done = go_on(alloc, call, &mut core);
     after(Machine { core, zones }, done)

@@ -27,7 +27,7 @@ impl Tried for Message {
                 sheet.show_result(write_message(alloc, KNOWN_KEY, self, 512))
             }
             "dns_message::classify" => {
-                sheet.show_result(classify(alloc, QUERY, CLIENT_ADDR, Transport::Udp))
+                sheet.show_result(classify(alloc, true, QUERY, CLIENT_ADDR, Transport::Udp))
             }
             "dns_message::read_query_parts" => sheet.show_result(read_query_parts(alloc, QUERY)),
             "dns_message::write_full" => sheet.show_result(write_full(alloc, self)),

@@ -48,7 +48,7 @@ fn notify(
 ) -> Result<(), BenchError> {
     match timed
         .timers
-        .notify(alloc, NOTIFY, client, 5, &timed.origins)?
+        .notify(alloc, true, NOTIFY, client, 5, &timed.origins)?
     {
         Notified::Reply(octets) => sheet.show(&octets),
         Notified::Silent => sheet.say("silent "),

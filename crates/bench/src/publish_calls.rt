@@ -10,6 +10,7 @@ use crate::samples::{DENIED, origin, steps, whole};
 use crate::sheet::Sheet;
 use crate::transfer_calls::{STEPS, WHOLE};
 use crate::worker_calls::work_twice;
+use allow_list::AllowList;
 use policy_override::as_given;
 use policy_publish::{Parts, PolicyReader, Publisher, StoreName, start_store};
 use std::alloc::Global;
@@ -203,7 +204,7 @@ fn with_store<R: Wait>(
 ) -> Result<(), BenchError> {
     let origin = origin(alloc)?;
     let origins = vec![in alloc; origin]?;
-    let parts = start_store(as_given(alloc, origins)?, 1);
+    let parts = start_store(as_given(alloc, origins)?, AllowList::everyone(alloc), 1);
     over_store::<Brand, R>(rt, alloc, sheet, deed, parts)
 }
 

@@ -12,6 +12,7 @@
 use crate::bench_error::BenchError;
 use crate::stream::read_stream;
 use crate::tried::beside;
+use allow_list::AllowList;
 use dns_name::Octets;
 use edge_io::{FRAME_MAX, Sink, Source, WriterSink, read_frame, write_all};
 use policy_override::ZoneSets;
@@ -65,7 +66,12 @@ fn start<S: Source>(
         return Err(BenchError::NotTaken);
     }
     let primaries = [None; ZONE_LIMIT];
-    let mut core = Core::start(alloc, zones.as_slice(), &primaries[..zones.len()])?;
+    let mut core = Core::start(
+        alloc,
+        zones.as_slice(),
+        &primaries[..zones.len()],
+        AllowList::everyone(alloc),
+    )?;
     let total = load_all(alloc, &mut core, zones.len() as u32, source);
     beside(core, total)
 }

@@ -7,13 +7,12 @@ use crate::serve_calls;
 use crate::sheet::Sheet;
 use crate::shown::show_written;
 use crate::tried::{Tried, after, tried_twice};
-use edge_io::{
-    ListClock, ListIds, ListLink, ListReplies, ListSink, ListSource, ListWires, TaskSpawner, Wires,
-};
+use edge_io::{ListClock, ListIds, ListLink, ListSink, ListSource, TaskSpawner};
 use rpz_program::replayed;
 use rpz_program::run::run;
 use rpz_program::status::Status;
 use rpz_workers::Report;
+use server_io::{ListReplies, ListWires, Wires};
 use std::alloc::{AllocError, Global};
 use std::collections::VecDeque;
 use std::hash::RandomState;

@@ -210,7 +210,7 @@ pub fn question(alloc: Global) -> Result<Question, BenchError> {
 
 /// The query that a message of the client is.
 pub fn query(alloc: Global, message: &[u8]) -> Result<Query, BenchError> {
-    match classify(alloc, message, CLIENT_ADDR, Transport::Udp)? {
+    match classify(alloc, true, message, CLIENT_ADDR, Transport::Udp)? {
         Incoming::Query(query) => Ok(query),
         _ => Err(BenchError::NoQuestion),
     }

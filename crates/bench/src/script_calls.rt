@@ -4,6 +4,7 @@ use crate::bench_error::BenchError;
 use crate::samples::{QUERY, origin};
 use crate::sheet::Sheet;
 use crate::tried::{Tried, after, beside, changed_twice, made_twice};
+use allow_list::AllowList;
 use dns_name::Octets;
 use policy_override::{Override, ZoneSet, ZoneSets};
 use script_codec::{ScriptState, Shown, read_line, write_shown};
@@ -17,9 +18,11 @@ pub const NAMES: &str = "script_codec::read_line::zone\n\
     policy_override::ZoneSets::push\n";
 
 fn read(alloc: Global, sheet: &mut Sheet, text: &[u8], zones: &ZoneSets) -> Result<(), BenchError> {
+    let everyone = AllowList::everyone(alloc);
     let state = ScriptState::Opening {
         zones,
         primaries: &[None],
+        allowed: &everyone,
     };
     sheet.show_result(read_line(alloc, text, 2, &state))
 }

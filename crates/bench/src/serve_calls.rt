@@ -14,12 +14,10 @@ use crate::transfer_calls::WHOLE;
 use crate::tried::{after, beside};
 use crossbeam_channel::{Receiver, Sender, bounded};
 use dns_name::Octets;
-use edge_io::{
-    Arrival, Endpoint, ListLink, ListSink, ListSource, ListWires, Order, Replies, SendError,
-    StreamEnd, Wake, WireStage,
-};
+use edge_io::{ListLink, ListSink, ListSource};
 use ip_prefix::Transport;
 use rpz_program::status::Status;
+use server_io::{Arrival, ListWires, Order, Peer, Replies, SendError, StreamEnd, Wake, WireStage};
 use std::alloc::{AllocError, Global};
 use std::collections::VecDeque;
 use std::hash::RandomState;
@@ -63,12 +61,7 @@ impl<R: Wait + Drop> Replies<ListSource, ListSink> for Posts<R> {
 
     ghost faults = { λ _. 0 };
 
-    fn send(
-        &mut self,
-        _peer: Endpoint,
-        _transport: Transport,
-        bytes: &[u8],
-    ) -> Result<(), SendError> {
+    fn send(&mut self, _peer: Peer, _transport: Transport, bytes: &[u8]) -> Result<(), SendError> {
         let reply = Octets::from_slice(self.alloc, bytes)?;
         match self.sender.send(&self.rt, reply) {
             Ok(()) => Ok(()),
@@ -82,9 +75,10 @@ impl<R: Wait + Drop> Replies<ListSource, ListSink> for Posts<R> {
 // A datagram of the client.
 fn datagram(alloc: Global, bytes: &[u8]) -> Result<Arrival<ListSource, ListSink>, AllocError> {
     Ok(Arrival::Datagram {
-        peer: Endpoint {
+        peer: Peer {
             addr: CLIENT_ADDR,
             port: 53_000,
+            listener: 0,
         },
         bytes: Octets::from_slice(alloc, bytes)?,
     })

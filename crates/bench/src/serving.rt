@@ -11,12 +11,13 @@ use answer_cache::Shared;
 use axfr_apply::{Taken, Wanted};
 use dns_message::KNOWN_KEY;
 use dns_name::Octets;
-use edge_io::{Bytes, Endpoint, ListIds, ListLink};
+use edge_io::{Bytes, ListIds, ListLink};
 use ip_prefix::{Addr, Transport};
 use ixfr_apply::read_transfer;
 use policy_publish::{Parts, PolicyReader, Publisher, StoreName};
 use reply_build::Said;
 use rpz_workers::{Answered, Asker, Job, NoGate, Worker};
+use server_io::Peer;
 use std::alloc::{AllocError, Global};
 use std::collections::VecDeque;
 use std::hash::RandomState;
@@ -59,9 +60,10 @@ fn worker<N: StoreName, R: Wait + Drop>(
 fn push_jobs(alloc: Global, jobs: &mut Vec<Job>, messages: &[Octets]) -> Result<(), AllocError> {
     for message in messages {
         jobs.push(Job {
-            peer: Endpoint {
+            peer: Peer {
                 addr: Addr::V4(0xc000_0207),
                 port: 53_000,
+                listener: 0,
             },
             transport: Transport::Udp,
             message: Octets::from_slice(alloc, message.as_slice())?,

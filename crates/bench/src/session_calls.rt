@@ -25,7 +25,8 @@ type Version = Arc<Snapshot, Global>;
 
 fn begin(alloc: Global, policy: &Version, message: &[u8]) -> Result<Session, BenchError> {
     let own = Arc::try_clone(policy)?;
-    Ok(Session::start(alloc, KNOWN_KEY, own, message, CLIENT_ADDR, Transport::Udp)?)
+    let udp = Transport::Udp;
+    Ok(Session::start(alloc, KNOWN_KEY, own, true, message, CLIENT_ADDR, udp)?)
 }
 
 fn show_state(sheet: &mut Sheet, session: &Session) {

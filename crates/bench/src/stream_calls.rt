@@ -7,9 +7,10 @@ use crate::samples::CLIENT_ADDR;
 use crate::sheet::Sheet;
 use crate::shown::show_written;
 use crate::worker_calls::ListWorker;
-use edge_io::{Endpoint, ListClock, ListSink, ListSource, StreamEnd};
+use edge_io::{ListClock, ListSink, ListSource};
 use policy_publish::StoreName;
 use rpz_workers::NoOnward;
+use server_io::{Peer, StreamEnd};
 use std::alloc::Global;
 use std::collections::VecDeque;
 
@@ -25,9 +26,10 @@ fn served<N: StoreName>(
     let mut source = ListSource::new(QUERIES.to_vec(alloc)?, 8_192, Vec::new(alloc));
     let mut sink = ListSink::new(Vec::new(alloc), 5, Vec::new(alloc));
     let mut clock = ListClock::new(alloc, VecDeque::new(alloc));
-    let client = Endpoint {
+    let client = Peer {
         addr: CLIENT_ADDR,
         port: 53_000,
+        listener: 0,
     };
     let end = worker.serve_stream(&mut source, &mut sink, client, &mut clock, &mut NoOnward);
     Ok((end, sink.bytes))

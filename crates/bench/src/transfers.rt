@@ -8,6 +8,7 @@
 ghost use Rattle.std.specs.Prelude.{◌≡◌};
 
 use crate::bench_error::BenchError;
+use allow_list::AllowList;
 use axfr_apply::{Taken, TransferError, TransferFault, Wanted};
 use dns_name::Name;
 use edge_io::Source;
@@ -132,7 +133,7 @@ fn take_over<N: StoreName, R: Wait + Clock, S: Source>(
 fn store(alloc: Global) -> Result<Parts, BenchError> {
     let origin = Name::from_text(alloc, b"rpz.example")?;
     let origins = vec![in alloc; origin]?;
-    Ok(start_store(as_given(alloc, origins)?, 1))
+    Ok(start_store(as_given(alloc, origins)?, AllowList::everyone(alloc), 1))
 }
 
 /// Takes the transfers of the input.

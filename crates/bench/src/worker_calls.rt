@@ -10,10 +10,11 @@ use crate::tried::{after, beside};
 use answer_cache::AnswerCache;
 use dns_message::KNOWN_KEY;
 use dns_name::Octets;
-use edge_io::{Endpoint, ListClock, ListIds, ListLink, ListReplies, ListSink, ListSource};
+use edge_io::{ListClock, ListIds, ListLink, ListSink, ListSource};
 use ip_prefix::Transport;
 use policy_publish::{PolicyReader, StoreName};
 use rpz_workers::{Asker, Item, Job, ListItems, NoGate, NoOnward, Worker};
+use server_io::{ListReplies, Peer};
 use std::alloc::{AllocError, Global};
 use std::collections::VecDeque;
 use std::hash::{BuildHasherDefault, FoldHasher};
@@ -55,9 +56,10 @@ fn make_worker<N: StoreName>(
 fn make_job(alloc: Global, is_denied: bool) -> Result<Job, AllocError> {
     let message = if is_denied { DENIED_QUERY } else { QUERY };
     Ok(Job {
-        peer: Endpoint {
+        peer: Peer {
             addr: CLIENT_ADDR,
             port: 53_000,
+            listener: 0,
         },
         transport: Transport::Udp,
         message: Octets::from_slice(alloc, message)?,

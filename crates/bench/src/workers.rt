@@ -16,6 +16,7 @@ use crate::serving::{Input, serve};
 use crate::stream::read_stream;
 use crate::tried::{after, beside};
 use crate::words::Plan;
+use allow_list::AllowList;
 use dns_name::{Name, Octets};
 use edge_io::{Source, read_frame};
 use policy_override::as_given;
@@ -66,7 +67,11 @@ fn store(alloc: Global, plan: Plan) -> Result<Parts, BenchError> {
     let first = Name::from_text(alloc, b"rpz.example")?;
     let (first, second) = beside(first, Name::from_text(alloc, b"two.example"))?;
     let origins = vec![in alloc; first, second]?;
-    Ok(start_store(as_given(alloc, origins)?, plan.workers))
+    Ok(start_store(
+        as_given(alloc, origins)?,
+        AllowList::everyone(alloc),
+        plan.workers,
+    ))
 }
 
 /// Answers the messages of the input by the plan.

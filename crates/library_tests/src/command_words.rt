@@ -4,8 +4,12 @@ use crate::asserts::assert_same;
 use edge_io::Endpoint;
 use ip_prefix::Addr;
 use policy_override::{Override, ZoneSets};
-use rpz_words::{Command, Settings, WordsError, laws, read_words};
+use rpz_words::{
+    Command, EndpointFault, EndpointText, ListFault, Settings, UsageCause, WordsError, laws,
+    read_words,
+};
 use std::alloc::{AllocError, Global};
+use std::process::Abort;
 
 static SERVE: &str =
     "serve 127.0.0.1:5300 9.9.9.9:53 2 16 rpz.example@127.0.0.1:5301 b@127.0.0.2:65535";
@@ -19,6 +23,55 @@ static TAKEN: [&str; 7] = [
     "serve -- 127.0.0.1:5300 9.9.9.9:53 2 1 a@127.0.0.1:5301",
     "serve --cache 16 127.0.0.1:1 9.9.9.9:53 1 1 a@127.0.0.1:5301",
     "serve --cache 1048576 127.0.0.1:1 9.9.9.9:53 1 1 a@127.0.0.1:5301",
+];
+
+// Endpoints as they are read, by their addresses and ports, and as they are written (RFC 4291, section 2.2; RFC 5952, section 4).
+static ENDPOINTS: [(&str, Addr, u16, &str); 8] = [
+    ("127.0.0.1:53", Addr::V4(0x7f00_0001), 53, "127.0.0.1:53"),
+    (
+        "000.010.0.255:00001",
+        Addr::V4(0x000a_00ff),
+        1,
+        "0.10.0.255:1",
+    ),
+    ("[::1]:53", Addr::V6(1), 53, "[::1]:53"),
+    ("[::]:65535", Addr::V6(0), 65_535, "[::]:65535"),
+    (
+        "[2001:DB8:0:0:8:800:200C:417A]:5300",
+        Addr::V6(0x2001_0db8_0000_0000_0008_0800_200c_417a),
+        5_300,
+        "[2001:db8::8:800:200c:417a]:5300",
+    ),
+    (
+        "[FF01::101]:00053",
+        Addr::V6(0xff01_0000_0000_0000_0000_0000_0000_0101),
+        53,
+        "[ff01::101]:53",
+    ),
+    (
+        "[2001:db8::192.0.2.33]:53",
+        Addr::V6(0x2001_0db8_0000_0000_0000_0000_c000_0221),
+        53,
+        "[2001:db8::c000:221]:53",
+    ),
+    (
+        "[1:2:3:4:5:6:7:8]:8",
+        Addr::V6(0x0001_0002_0003_0004_0005_0006_0007_0008),
+        8,
+        "[1:2:3:4:5:6:7:8]:8",
+    ),
+];
+
+// Addresses, and whether `--allow 192.0.2.0/25,2001:db8::/33` lets them ask.
+static ASKING: [(Addr, bool); 8] = [
+    (Addr::V4(0xc000_0200), true),
+    (Addr::V4(0xc000_027f), true),
+    (Addr::V4(0xc000_0280), false),
+    (Addr::V4(0xc000_01ff), false),
+    (Addr::V6(0x2001_0db8_7fff_ffff_ffff_ffff_ffff_ffff), true),
+    (Addr::V6(0x2001_0db8_8000_0000_0000_0000_0000_0000), false),
+    (Addr::V6(0xffff_c000_0200), false),
+    (Addr::V6(1), false),
 ];
 
 // Lines that ask for a server with a cache of 64 answers.
@@ -130,7 +183,7 @@ fn zones_with(alloc: Global, behind: &str) -> Result<ZoneSets, WordsError> {
     let line = format!(in alloc; "serve 127.0.0.1:1 9.9.9.9:53 1 1 a@127.0.0.1:5301{behind}")?;
     match served(alloc, line.as_str())? {
         Some(settings) => Ok(settings.zones.sets(alloc)?),
-        None => Err(WordsError::Usage),
+        None => Err(WordsError::Usage(UsageCause::Words)),
     }
 }
 
@@ -162,6 +215,7 @@ fn line_of_zones(alloc: Global, count: u32) -> Result<String, AllocError> {
 fn laws_do_nothing() {
     laws::what_is_asked_for_is_within_limits();
     laws::the_port_of_an_endpoint_is_not_0();
+    laws::an_endpoint_is_read_back();
     laws::a_number_has_no_sign();
 }
 
@@ -196,7 +250,9 @@ fn a_server_gets_its_settings(rt: HostRuntime) {
         addr: Addr::V4(0x0909_0909),
         port: 53,
     };
-    assert_same(&rt, settings.listen, listen);
+    assert!(rt; settings.listen.as_slice() == [listen].as_slice());
+    assert_same(&rt, settings.listen.len(), 1);
+    assert_same(&rt, settings.allowed.len(), 0);
     assert_same(&rt, settings.upstream, upstream);
     assert_same(&rt, settings.turns, Some(2));
     assert_same(&rt, settings.workers, 16);
@@ -272,7 +328,7 @@ fn a_server_is_asked_for(rt: HostRuntime) {
 #[test]
 fn other_lines_ask_for_nothing(rt: HostRuntime) {
     for line in REFUSED {
-        let refused = matches!(asked(rt.alloc(), line), Err(WordsError::Usage));
+        let refused = matches!(asked(rt.alloc(), line), Err(WordsError::Usage(_)));
         assert!(rt; refused, "{line}");
     }
 }
@@ -285,5 +341,87 @@ fn at_most_64_zones_are_taken(rt: HostRuntime) {
         .expect(&rt, "no server");
     assert_same(&rt, settings.zones.len(), 64);
     let more = line_of_zones(rt.alloc(), 65).expect(&rt, "no error");
-    assert!(rt; matches!(asked(rt.alloc(), more.as_str()), Err(WordsError::Usage)));
+    assert!(rt; matches!(asked(rt.alloc(), more.as_str()), Err(WordsError::Usage(_))));
+}
+
+// The settings of a server with this word as LISTEN, UPSTREAM or PRIMARY.
+fn with_endpoints(
+    alloc: Global,
+    listen: &str,
+    other: &str,
+) -> Result<Option<Settings>, WordsError> {
+    let line = format!(in alloc; "serve {listen} {other} forever 1 a@{other}=nodata")?;
+    served(alloc, line.as_str())
+}
+
+// The endpoint is read from its text wherever it may stand, and is written so.
+fn check_endpoint(rt: &impl Abort, alloc: Global, text: &str, endpoint: Endpoint, written: &str) {
+    let settings = with_endpoints(alloc, text, text)
+        .expect(rt, "no error")
+        .expect(rt, "no server");
+    assert!(rt;
+        settings.listen.as_slice() == [endpoint].as_slice(),
+        "{text}"
+    );
+    assert!(rt; settings.upstream == endpoint, "{text}");
+    let primaries = settings.zones.primaries(alloc).expect(rt, "no error");
+    assert!(rt; primaries.as_slice() == [endpoint].as_slice(), "{text}");
+    let shown = EndpointText(endpoint);
+    let shown = format!(in alloc; "{shown}").expect(rt, "no error");
+    assert!(rt; shown.as_str() == written, "{text}");
+}
+
+#[test]
+fn an_endpoint_is_read_from_its_text(rt: HostRuntime) {
+    for (text, addr, port, written) in ENDPOINTS {
+        check_endpoint(&rt, rt.alloc(), text, Endpoint { addr, port }, written);
+    }
+}
+
+#[test]
+fn endpoints_are_taken_in_order(rt: HostRuntime) {
+    let listen = "[::1]:5300,127.0.0.1:5300,[::1]:53";
+    let settings = with_endpoints(rt.alloc(), listen, "127.0.0.1:1")
+        .expect(&rt, "no error")
+        .expect(&rt, "no server");
+    let first = Endpoint {
+        addr: Addr::V6(1),
+        port: 5_300,
+    };
+    let second = Endpoint {
+        addr: Addr::V4(0x7f00_0001),
+        port: 5_300,
+    };
+    let third = Endpoint {
+        addr: Addr::V6(1),
+        port: 53,
+    };
+    let again = settings.listen.again(rt.alloc()).expect(&rt, "no error");
+    assert!(rt; again.as_slice() == [first, second, third].as_slice());
+}
+
+#[test]
+fn clients_of_networks_may_ask(rt: HostRuntime) {
+    let line =
+        "serve --allow 192.0.2.0/25,2001:db8::/33 127.0.0.1:1 9.9.9.9:53 1 1 a@127.0.0.1:5301";
+    let settings = served(rt.alloc(), line)
+        .expect(&rt, "no error")
+        .expect(&rt, "no server");
+    assert_same(&rt, settings.allowed.len(), 2);
+    for (addr, may_ask) in ASKING {
+        assert_same(&rt, settings.allowed.allows(addr), may_ask);
+    }
+}
+
+#[test]
+fn a_cause_is_told(rt: HostRuntime) {
+    let cause = UsageCause::Listen(ListFault::At {
+        number: 2,
+        why: EndpointFault::Mapped,
+    });
+    let listen = "127.0.0.1:53,[::ffff:127.0.0.1]:53";
+    let refused = with_endpoints(rt.alloc(), listen, "127.0.0.1:1").err();
+    assert!(rt; refused == Some(WordsError::Usage(cause)));
+    let told = format!(in rt.alloc(); "{cause}").expect(&rt, "no error");
+    assert_same(&rt, told.as_str(), "usage: LISTEN 2: Mapped");
 }

@@ -38,6 +38,8 @@ mod rules;
 #[cfg(test)]
 mod script_lines;
 #[cfg(test)]
+mod texts_of_addresses;
+#[cfg(test)]
 mod transfers;
 #[cfg(test)]
 mod triggers;

@@ -46,7 +46,7 @@ fn is_answered<R: Abort>(
     let origin = Name::from_text(alloc, b"rpz.example").expect(rt, "no error");
     let mut core = polled(rt, alloc);
     let same = match core
-        .notify(alloc, message, client, 5, &[origin])
+        .notify(alloc, true, message, client, 5, &[origin])
         .expect(rt, "no error")
     {
         Notified::Reply(octets) => octets.as_slice() == reply,

@@ -1,6 +1,7 @@
 //! Lines of a script with their number.
 
 use crate::asserts::assert_same;
+use allow_list::AllowList;
 use dns_name::Name;
 use policy_override::{Override, ZoneSet, ZoneSets};
 use script_codec::{Line, ScriptState, read_line};
@@ -14,9 +15,11 @@ fn a_line_is_read(rt: HostRuntime) {
             over: Override::Given,
         })
         .expect(&rt, "no error");
+    let everyone = AllowList::everyone(rt.alloc());
     let state = ScriptState::Opening {
         zones: &zones,
         primaries: &[None],
+        allowed: &everyone,
     };
     let line = read_line(rt.alloc(), b"xfer 001 00aB", 2, &state).expect(&rt, "no error");
     let Some(Line::Transfer { zone: 1, stream }) = line else {

@@ -3,9 +3,10 @@
 use crate::asserts::assert_same;
 use crate::connections::serve_next;
 use crate::loopback::{Host, at};
-use edge_io::{Arrival, Inlet, Received, Replies, Sink, Source, Wires};
+use edge_io::{Sink, Source};
 use rpz_net::address_of;
 use rpz_net::limits::{IDLE_SECONDS, MESSAGE_SECONDS};
+use server_io::{Arrival, Inlet, Received, Replies, Wires};
 use std::alloc::Global;
 use std::io::{Read, Write};
 use std::net::{Net, TcpListener, TcpStream};
@@ -21,7 +22,7 @@ fn arrive<R: Abort + Net<Listener = TcpListener, Stream = TcpStream>, W: Wires>(
     port: u16,
     bytes: &[u8],
 ) -> (TcpStream, W::In, W::Out) {
-    wires.bind(at(port)).expect(rt, "no error");
+    wires.bind(&[at(port)]).expect(rt, "no error");
     let mut client = rt.connect(address_of(at(port))).expect(rt, "no error");
     client.write_all(bytes).expect(rt, "no error");
     match wires.connections().expect(rt, "no error").next() {
@@ -76,7 +77,7 @@ fn stays<R: time::Clock>(rt: &R, mut stream: &TcpStream) -> io::Result<Duration>
 }
 
 pub fn slow_clients_have_their_limits<R: Host, W: Wires>(rt: &R, wires: &mut W) {
-    wires.bind(at(29154)).expect(rt, "no error");
+    wires.bind(&[at(29154)]).expect(rt, "no error");
     let slow = rt.connect(address_of(at(29154))).expect(rt, "no error");
     let silent = rt.connect(address_of(at(29154))).expect(rt, "no error");
     let (dripped, stayed) = thread::join(rt, || drip(rt, &slow), || stays(rt, &silent));
@@ -94,7 +95,7 @@ fn is_near(took: Duration, seconds: u64) -> bool {
 /// Clients that send the half of a message, and others that read no reply to messages of 60,000 bytes. One worker serves all, and a
 /// client that is well.
 pub fn no_client_holds_a_worker<R: Host, W: Wires>(rt: &R, alloc: Global, wires: &mut W) {
-    wires.bind(at(29156)).expect(rt, "no error");
+    wires.bind(&[at(29156)]).expect(rt, "no error");
     let mut halves: Vec<TcpStream> = Vec::new(alloc);
     let mut unread: Vec<TcpStream> = Vec::new(alloc);
     let half = long_frame(rt, alloc, 4_200);

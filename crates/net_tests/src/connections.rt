@@ -2,12 +2,10 @@
 
 use crate::asserts::assert_same;
 use crate::loopback::{Host, at};
-use edge_io::{
-    Arrival, ConnectionLimits, Endpoint, Inlet, Received, Replies, Sink, Source, StreamEnd, Wires,
-    read_frame, write_frame,
-};
+use edge_io::{ConnectionLimits, Sink, Source, read_frame, write_frame};
 use ip_prefix::Transport;
 use rpz_net::address_of;
+use server_io::{Arrival, Inlet, Peer, Received, Replies, StreamEnd, Wires};
 use std::alloc::Global;
 use std::io;
 use std::io::{Read, Write};
@@ -25,7 +23,7 @@ pub fn serve_next<S: Source + Drop, K: Sink + Drop, I: Inlet<S, K>, P: Replies<S
     inlet: &mut I,
     replies: &mut P,
     answers: bool,
-) -> Option<(Endpoint, u32)> {
+) -> Option<(Peer, u32)> {
     let Received::Arrival(
         Arrival::Connection {
             mut source,
@@ -77,7 +75,7 @@ fn serves<R: Net<Stream = TcpStream> + Abort, W: Wires>(
     alloc: Global,
     wires: &mut W,
 ) -> TcpStream {
-    wires.bind(at(29155)).expect(rt, "no error");
+    wires.bind(&[at(29155)]).expect(rt, "no error");
     let mut inlet = wires.connections().expect(rt, "no error");
     let mut replies = wires.replies().expect(rt, "no error");
     let client = rt.connect(address_of(at(29155))).expect(rt, "no error");
@@ -119,7 +117,7 @@ pub fn rest(mut client: &TcpStream) -> io::Result<usize> {
 
 /// Of 9 messages of one client 8 come at first, then those of another that came meanwhile, and then the last one.
 pub fn connections_have_their_turns<R: Host, W: Wires>(rt: &R, alloc: Global, wires: &mut W) {
-    wires.bind(at(29180)).expect(rt, "no error");
+    wires.bind(&[at(29180)]).expect(rt, "no error");
     let mut client = rt.connect(address_of(at(29180))).expect(rt, "no error");
     let mut another = rt.connect(address_of(at(29180))).expect(rt, "no error");
     client.write_all(&[0; 18]).expect(rt, "no error");
@@ -142,7 +140,7 @@ fn counts_of_three<W: Wires, R: Abort>(rt: &R, alloc: Global, wires: &mut W) -> 
 
 /// Replies come once the worker has gone on, in another order, and to a client that sends no more. Then its connection ends.
 pub fn later_replies_reach_the_client<R: Host, W: Wires>(rt: &R, alloc: Global, wires: &mut W) {
-    wires.bind(at(29181)).expect(rt, "no error");
+    wires.bind(&[at(29181)]).expect(rt, "no error");
     let mut client = rt.connect(address_of(at(29181))).expect(rt, "no error");
     client.write_all(FRAMES).expect(rt, "no error");
     client.shutdown(Shutdown::Write).expect(rt, "no error");
@@ -173,7 +171,7 @@ pub fn as_many_connections_are_open_as_admitted<R: Host, W: Wires>(rt: &R, wires
         all: 2,
         of_client: 1,
     });
-    wires.bind(at(29182)).expect(rt, "no error");
+    wires.bind(&[at(29182)]).expect(rt, "no error");
     let clients = (
         rt.connect(address_of(at(29182))).expect(rt, "no error"),
         rt.connect(address_of(at(29182))).expect(rt, "no error"),

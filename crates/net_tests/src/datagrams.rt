@@ -1,10 +1,11 @@
 //! Datagrams that come over the wires of a server, and replies to them.
 
 use crate::asserts::assert_same;
-use crate::loopback::{Host, at};
-use edge_io::{Arrival, Inlet, Received, Replies, SendError, Sink, Source, Wake, WireError, Wires};
+use crate::loopback::{Host, at, peer_at};
+use edge_io::{Sink, Source};
 use ip_prefix::Transport;
 use rpz_net::address_of;
+use server_io::{Arrival, Inlet, Received, Replies, SendError, Wake, WireError, Wires};
 use std::io;
 use std::net::UdpSocket;
 use std::process::Abort;
@@ -15,8 +16,8 @@ pub fn a_datagram_is_answered<R: Host, W: Wires>(rt: &R, wires: &mut W) {
 }
 
 fn serves<W: Wires>(rt: &impl Abort, client: &UdpSocket, wires: &mut W) {
-    wires.bind(at(29150)).expect(rt, "no error");
-    let mut inlet = wires.datagrams().expect(rt, "no error");
+    wires.bind(&[at(29150)]).expect(rt, "no error");
+    let mut inlet = wires.datagrams(0).expect(rt, "no error");
     let mut replies = wires.replies().expect(rt, "no error");
     answers(rt, client, &mut inlet, &mut replies)
 }
@@ -34,7 +35,7 @@ fn answers<S: Source + Drop, K: Sink + Drop, I: Inlet<S, K>, P: Replies<S, K>>(
     let Received::Arrival(Arrival::Datagram { peer, bytes }) = inlet.next() else {
         return panic!(rt; "a datagram");
     };
-    assert_same(rt, peer, at(29151));
+    assert_same(rt, peer, peer_at(29151));
     assert_same(rt, bytes.as_slice(), b"query".as_slice());
     replies
         .send(peer, Transport::Udp, b"reply")
@@ -58,11 +59,11 @@ pub fn wires_that_are_not_bound_fail<R: Host, W: Wires>(rt: &R, wires: &mut W) {
 fn fails<W: Wires>(rt: &impl Abort, wires: &mut W) {
     // transfers may be ordered all the same
     assert!(rt; matches!(wires.wait(), Ok(Wake::Due)));
-    assert!(rt; matches!(wires.datagrams(), Err(WireError::Failed)));
+    assert!(rt; matches!(wires.datagrams(0), Err(WireError::Failed)));
     assert!(rt; matches!(wires.replies(), Err(WireError::Failed)));
     assert_same(
         rt,
-        wires.answer(at(29151), Transport::Udp, b"reply"),
+        wires.answer(peer_at(29151), Transport::Udp, b"reply"),
         Err(SendError::Failed),
     );
 }

@@ -1,9 +1,10 @@
 //! How inlets and waits end.
 
 use crate::asserts::assert_same;
-use crate::loopback::{Host, at};
-use edge_io::{Arrival, Inlet, Received, Sink, Source, Wake, Wires};
+use crate::loopback::{Host, at, at_v6, has_v6};
+use edge_io::{Sink, Source};
 use rpz_net::{NetWires, address_of};
+use server_io::{Arrival, Inlet, Received, Wake, Wires};
 use std::net::{Net, UdpSocket};
 use std::process::Abort;
 use std::time::{Duration, Instant};
@@ -25,6 +26,11 @@ fn next_of<S: Source + Drop, K: Sink + Drop>(inlet: &mut impl Inlet<S, K>) -> Gi
     }
 }
 
+/// Whether an inlet gives its end.
+pub fn has_ended<S: Source + Drop, K: Sink + Drop>(inlet: &mut impl Inlet<S, K>) -> bool {
+    next_of(inlet) == Given::End
+}
+
 pub fn the_last_turn_ends_all_inlets<R: Host, W: Wires>(rt: &R, wires: &mut W) {
     takes_two(rt, wires);
     ends(rt, wires);
@@ -32,9 +38,9 @@ pub fn the_last_turn_ends_all_inlets<R: Host, W: Wires>(rt: &R, wires: &mut W) {
 
 fn takes_two<R: Net + Abort, W: Wires>(rt: &R, wires: &mut W) {
     wires.limit(2);
-    wires.bind(at(29160)).expect(rt, "no error");
-    let mut first = wires.datagrams().expect(rt, "no error");
-    let mut second = wires.datagrams().expect(rt, "no error");
+    wires.bind(&[at(29160)]).expect(rt, "no error");
+    let mut first = wires.datagrams(0).expect(rt, "no error");
+    let mut second = wires.datagrams(0).expect(rt, "no error");
     send_three(rt).expect(rt, "no error");
     assert_same(rt, next_of(&mut first), Given::Datagram);
     assert_same(rt, next_of(&mut second), Given::Datagram);
@@ -83,11 +89,14 @@ fn stop_later<R: time::Clock, W: Wires>(rt: &R, wires: &mut W) {
     wires.stop();
 }
 
+// The inlet for datagrams is that of version 6, where the host has it.
 #[test]
 fn stop_ends_the_waits_of_inlets(rt: HostRuntime) {
     let mut wires = NetWires::new(rt, rt.alloc());
-    wires.bind(at(29162)).expect(&rt, "no error");
-    let mut datagrams = wires.datagrams().expect(&rt, "no error");
+    let last = usize::from(has_v6(&rt));
+    let endpoints = [at(29162), at_v6(29162)];
+    wires.bind(&endpoints[..=last]).expect(&rt, "no error");
+    let mut datagrams = wires.datagrams(last).expect(&rt, "no error");
     let mut connections = wires.connections().expect(&rt, "no error");
     let (waited, ((), again)) = thread::join(
         &rt,

@@ -13,6 +13,8 @@ mod datagrams;
 #[cfg(test)]
 mod ends;
 #[cfg(test)]
+mod listeners;
+#[cfg(test)]
 mod loopback;
 #[cfg(test)]
 mod notifies;

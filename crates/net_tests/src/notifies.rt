@@ -2,19 +2,17 @@
 
 use crate::asserts::assert_same;
 use crate::datagrams::received;
-use crate::loopback::{Host, at};
-use edge_io::{Inlet, Received, Sink, Source, Wake, Wires};
+use crate::ends::has_ended;
+use crate::loopback::{Host, NOTIFY, at, peer_at};
 use ip_prefix::Transport;
 use rpz_net::address_of;
+use server_io::{Wake, Wires};
 use std::io;
 use std::io::{Read, Write};
 use std::net::{Net, TcpStream, UdpSocket};
 use std::process::Abort;
 
-// The header of a request with the opcode NOTIFY.
-const NOTIFY: &[u8] = b"\x12\x34\x24\0\0\x01\0\0\0\0\0\0";
-
-// The same as a frame.
+// A NOTIFY as a frame.
 const FRAME: &[u8] = b"\0\x0c\x12\x34\x24\0\0\x01\0\0\0\0\0\0";
 
 fn send<R: Net>(rt: &R, port: u16, count: u32) -> io::Result<UdpSocket> {
@@ -33,15 +31,11 @@ pub fn a_notify_is_answered<R: Host, W: Wires>(rt: &R, wires: &mut W) {
 }
 
 fn comes<R: Net + Abort, W: Wires>(rt: &R, wires: &mut W) -> UdpSocket {
-    wires.bind(at(29164)).expect(rt, "no error");
-    let mut inlet = wires.datagrams().expect(rt, "no error");
+    wires.bind(&[at(29164)]).expect(rt, "no error");
+    let mut inlet = wires.datagrams(0).expect(rt, "no error");
     let client = send(rt, 29164, 2).expect(rt, "no error");
     assert!(rt; has_ended(&mut inlet));
     client
-}
-
-fn has_ended<S: Source + Drop, K: Sink + Drop>(inlet: &mut impl Inlet<S, K>) -> bool {
-    matches!(inlet.next(), Received::End)
 }
 
 fn is_answered<W: Wires>(rt: &impl Abort, wires: &mut W, client: &UdpSocket) {
@@ -53,7 +47,7 @@ fn is_answered<W: Wires>(rt: &impl Abort, wires: &mut W, client: &UdpSocket) {
     else {
         return panic!(rt; "a NOTIFY");
     };
-    assert_same(rt, (peer, transport), (at(29165), Transport::Udp));
+    assert_same(rt, (peer, transport), (peer_at(29165), Transport::Udp));
     assert_same(rt, bytes.as_slice(), NOTIFY);
     wires
         .answer(peer, transport, b"answer")
@@ -77,7 +71,7 @@ fn ends_behind<W: Wires>(wires: &mut W, count: u64) -> bool {
 /// Over TCP no worker gets it, and each of the two takes a turn.
 pub fn a_notify_over_tcp_is_answered<R: Host, W: Wires>(rt: &R, wires: &mut W) {
     wires.limit(2);
-    wires.bind(at(29183)).expect(rt, "no error");
+    wires.bind(&[at(29183)]).expect(rt, "no error");
     let mut client = rt.connect(address_of(at(29183))).expect(rt, "no error");
     client.write_all(FRAME).expect(rt, "no error");
     answers_frame(rt, wires, &client);
@@ -111,9 +105,9 @@ pub fn notifies_of_a_primary_all_come<R: Host, W: Wires>(rt: &R, wires: &mut W) 
 }
 
 fn count_of_primary<R: Abort + Net, W: Wires>(rt: &R, wires: &mut W) -> u32 {
-    wires.bind(at(29184)).expect(rt, "no error");
+    wires.bind(&[at(29184)]).expect(rt, "no error");
     wires.order(at(29185), b"request").expect(rt, "no error");
-    let mut inlet = wires.datagrams().expect(rt, "no error");
+    let mut inlet = wires.datagrams(0).expect(rt, "no error");
     let _client = send(rt, 29184, 3).expect(rt, "no error");
     if !has_ended(&mut inlet) {
         return panic!(rt; "three turns");

@@ -2,8 +2,8 @@
 
 use crate::asserts::assert_same;
 use crate::loopback::{Host, at};
-use edge_io::{Order, OrderEnd, Wake, WireError, Wires};
 use rpz_net::{NetWires, address_of};
+use server_io::{Order, OrderEnd, Wake, WireError, Wires};
 use std::io::{Read, Write};
 use std::net::{Net, TcpListener};
 use std::process::Abort;
@@ -77,7 +77,7 @@ pub fn an_order_ends_where_nobody_is<R: Host, W: Wires>(rt: &R, wires: &mut W) {
 
 // Serves a port, and orders a transfer of the primary server at another one.
 fn begin<W: Wires>(wires: &mut W, port: u16, primary: u16) -> Result<Order, WireError> {
-    wires.bind(at(port))?;
+    wires.bind(&[at(port)])?;
     wires.order(at(primary), b"request")
 }
 

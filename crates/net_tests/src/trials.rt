@@ -10,6 +10,11 @@ use crate::connections::{
 };
 use crate::datagrams::{a_datagram_is_answered, wires_that_are_not_bound_fail};
 use crate::ends::the_last_turn_ends_all_inlets;
+use crate::listeners::{
+    all_endpoints_are_bound_or_none, both_versions_are_served, each_connection_has_its_listener,
+    each_reply_leaves_from_its_endpoint, version_6_hears_nothing_of_version_4,
+    version_6_is_bound_beside_version_4,
+};
 use crate::loopback::Host;
 use crate::notifies::{
     a_notify_is_answered, a_notify_over_tcp_is_answered, notifies_of_a_primary_all_come,
@@ -21,8 +26,8 @@ use crate::upstreams::{
     an_upstream_that_closes_gets_one_question_each, answers_come_in_any_order,
     many_askers_share_few_connections,
 };
-use edge_io::Wires;
 use rpz_net::NetWires;
+use server_io::Wires;
 use std::alloc::Global;
 use std::net::{Net, TcpListener, TcpStream};
 use std::process::Abort;
@@ -43,6 +48,12 @@ enum Trial {
     WiresThatAreNotBoundFail,
     ADatagramIsAnswered,
     TheLastTurnEndsAllInlets,
+    EachReplyLeavesFromItsEndpoint,
+    EachConnectionHasItsListener,
+    AllEndpointsAreBoundOrNone,
+    Version6IsBoundBesideVersion4,
+    Version6HearsNothingOfVersion4,
+    BothVersionsAreServed,
     NotifiesOfAPrimaryAllCome,
     ANotifyOverTcpIsAnswered,
     ANotifyIsAnswered,
@@ -89,6 +100,12 @@ fn attempt_over<R: Host, W: Wires>(rt: &R, alloc: Global, wires: &mut W, trial: 
         Trial::WiresThatAreNotBoundFail => wires_that_are_not_bound_fail(rt, wires),
         Trial::ADatagramIsAnswered => a_datagram_is_answered(rt, wires),
         Trial::TheLastTurnEndsAllInlets => the_last_turn_ends_all_inlets(rt, wires),
+        Trial::EachReplyLeavesFromItsEndpoint => each_reply_leaves_from_its_endpoint(rt, wires),
+        Trial::EachConnectionHasItsListener => each_connection_has_its_listener(rt, alloc, wires),
+        Trial::AllEndpointsAreBoundOrNone => all_endpoints_are_bound_or_none(rt, wires),
+        Trial::Version6IsBoundBesideVersion4 => version_6_is_bound_beside_version_4(rt, wires),
+        Trial::Version6HearsNothingOfVersion4 => version_6_hears_nothing_of_version_4(rt, wires),
+        Trial::BothVersionsAreServed => both_versions_are_served(rt, alloc, wires),
         Trial::NotifiesOfAPrimaryAllCome => notifies_of_a_primary_all_come(rt, wires),
         Trial::ANotifyOverTcpIsAnswered => a_notify_over_tcp_is_answered(rt, wires),
         Trial::ANotifyIsAnswered => a_notify_is_answered(rt, wires),
@@ -161,6 +178,36 @@ fn a_datagram_is_answered_over_sockets(rt: HostRuntime) {
 #[test]
 fn the_last_turn_ends_all_inlets_over_sockets(rt: HostRuntime) {
     attempt(rt, rt.alloc(), Trial::TheLastTurnEndsAllInlets)
+}
+
+#[test]
+fn each_reply_leaves_from_its_endpoint_over_sockets(rt: HostRuntime) {
+    attempt(rt, rt.alloc(), Trial::EachReplyLeavesFromItsEndpoint)
+}
+
+#[test]
+fn each_connection_has_its_listener_over_sockets(rt: HostRuntime) {
+    attempt(rt, rt.alloc(), Trial::EachConnectionHasItsListener)
+}
+
+#[test]
+fn all_endpoints_are_bound_or_none_over_sockets(rt: HostRuntime) {
+    attempt(rt, rt.alloc(), Trial::AllEndpointsAreBoundOrNone)
+}
+
+#[test]
+fn version_6_is_bound_beside_version_4_over_sockets(rt: HostRuntime) {
+    attempt(rt, rt.alloc(), Trial::Version6IsBoundBesideVersion4)
+}
+
+#[test]
+fn version_6_hears_nothing_of_version_4_over_sockets(rt: HostRuntime) {
+    attempt(rt, rt.alloc(), Trial::Version6HearsNothingOfVersion4)
+}
+
+#[test]
+fn both_versions_are_served_over_sockets(rt: HostRuntime) {
+    attempt(rt, rt.alloc(), Trial::BothVersionsAreServed)
 }
 
 #[test]

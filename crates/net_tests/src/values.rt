@@ -4,7 +4,8 @@ use crate::asserts::assert_same;
 use crate::loopback::at;
 use edge_io::{Clock, Endpoint, Ids};
 use ip_prefix::Addr;
-use rpz_net::{RandomIds, SystemClock, address_of, endpoint_of};
+use rpz_net::{RandomIds, SystemClock, address_of, peer_of};
+use server_io::Peer;
 use std::net::SocketAddr;
 
 #[test]
@@ -16,7 +17,13 @@ fn endpoints_are_addresses(rt: HostRuntime) {
     for (endpoint, text) in [(at(53), "127.0.0.1:53"), (v6, "[2001:db8::35]:853")] {
         let address = text.parse::<SocketAddr>().expect(&rt, "no error");
         assert_same(&rt, address_of(endpoint), address);
-        assert_same(&rt, endpoint_of(address), endpoint);
+        let Endpoint { addr, port } = endpoint;
+        let peer = Peer {
+            addr,
+            port,
+            listener: 3,
+        };
+        assert_same(&rt, peer_of(address, 3), peer);
     }
 }
 

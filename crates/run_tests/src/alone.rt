@@ -1,12 +1,10 @@
 //! Runs with nothing outside but a script and its output.
 
-use edge_io::{
-    ListClock, ListIds, ListLink, ListReplies, ListSink, ListSource, ListWires, Sink, Source,
-    TaskSpawner,
-};
+use edge_io::{ListClock, ListIds, ListLink, ListSink, ListSource, Sink, Source, TaskSpawner};
 use rpz_program::run::run;
 use rpz_program::status::Status;
 use rpz_workers::Report;
+use server_io::{ListReplies, ListWires};
 use std::alloc::{AllocError, Global};
 use std::collections::VecDeque;
 use std::hash::RandomState;

@@ -1,7 +1,7 @@
 //! Runs of a server as data: what comes, what fails, and what is expected (RFC 1035, section 4.1; RFC 5936; RFC 1995).
 
-use edge_io::OrderEnd;
 use rpz_program::status::Status;
+use server_io::OrderEnd;
 
 /// No call of this number comes.
 pub const NEVER: u64 = u64::MAX;
@@ -53,8 +53,8 @@ pub const TRANSFER: &[u8] = b"\0\x9b\0\0\x84\0\0\x01\0\x03\0\0\0\0\x03rpz\x07exa
     \x03bad\x07example\x03rpz\x07example\0\0\x05\0\x01\0\0\0<\0\x01\0\
     \x03rpz\x07example\0\0\x06\0\x01\0\0\0<\0\x16\0\0\0\0\0\x01\0\0\x0e\x10\0\0\x02X\0\x01Q\x80\0\0\0<";
 
-// The answer of the ID 0 that the serial 1 is the newest.
-const CURRENT: &[u8] = b"\0\x4a\0\0\x84\0\0\x01\0\x01\0\0\0\0\x03rpz\x07example\0\0\xfb\0\x01\
+/// The answer of the ID 0 that the serial 1 is the newest.
+pub const CURRENT: &[u8] = b"\0\x4a\0\0\x84\0\0\x01\0\x01\0\0\0\0\x03rpz\x07example\0\0\xfb\0\x01\
     \x03rpz\x07example\0\0\x06\0\x01\0\0\0<\0\x16\0\0\0\0\0\x01\0\0\x0e\x10\0\0\x02X\0\x01Q\x80\0\0\0<";
 
 // Eleven bytes, one fewer than a header has.
@@ -81,10 +81,10 @@ const SECOND: &[u8] = b"\0\x9a\0\0\x84\0\0\x01\0\x03\0\0\0\0\x03rpz\x07example\0
     \x02ok\x07example\x03rpz\x07example\0\0\x05\0\x01\0\0\0<\0\x01\0\
     \x03rpz\x07example\0\0\x06\0\x01\0\0\0<\0\x16\0\0\0\0\0\x02\0\0\x0e\x10\0\0\x02X\0\x01Q\x80\0\0\0<";
 
-// A NOTIFY of the ID 7 for the SOA of `rpz.example` (RFC 1996, section 3.7); its reply, and that to a stranger.
-const NOTIFY: &[u8] = b"\0\x07\x24\0\0\x01\0\0\0\0\0\0\x03rpz\x07example\0\0\x06\0\x01";
+/// A NOTIFY of the ID 7 for the SOA of `rpz.example` (RFC 1996, section 3.7); its reply, and that to a stranger.
+pub const NOTIFY: &[u8] = b"\0\x07\x24\0\0\x01\0\0\0\0\0\0\x03rpz\x07example\0\0\x06\0\x01";
 
-const NOTIFIED: &[u8] = b"\0\x07\xa0\x80\0\x01\0\0\0\0\0\0\x03rpz\x07example\0\0\x06\0\x01";
+pub const NOTIFIED: &[u8] = b"\0\x07\xa0\x80\0\x01\0\0\0\0\0\0\x03rpz\x07example\0\0\x06\0\x01";
 
 const REFUSED: &[u8] = b"\0\x07\xa0\x85\0\x01\0\0\0\0\0\0\x03rpz\x07example\0\0\x06\0\x01";
 

@@ -20,3 +20,5 @@ mod reading;
 mod replays;
 #[cfg(test)]
 mod runs;
+#[cfg(test)]
+mod versions;

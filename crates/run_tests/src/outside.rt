@@ -4,10 +4,9 @@ ghost use Rattle.std.specs.Prelude.{◌≡◌, None, ⊤};
 
 use crossbeam_channel::Sender;
 use dns_name::Octets;
-use edge_io::{
-    Deadline, Endpoint, Link, LinkError, ListSink, ListSource, Replies, SendError, StreamEnd,
-};
+use edge_io::{Deadline, Link, LinkError, ListSink, ListSource};
 use ip_prefix::Transport;
+use server_io::{Peer, Replies, SendError, StreamEnd};
 use std::alloc::{AllocError, Global};
 use std::sync::atomic::{AtomicBool, Ordering};
 use std::sync::{Arc, Wait};
@@ -37,12 +36,7 @@ impl<R: Wait + Drop> Replies<ListSource, ListSink> for Posts<R> {
 
     ghost faults = { λ r. r.faults };
 
-    fn send(
-        &mut self,
-        _peer: Endpoint,
-        _transport: Transport,
-        bytes: &[u8],
-    ) -> Result<(), SendError> {
+    fn send(&mut self, _peer: Peer, _transport: Transport, bytes: &[u8]) -> Result<(), SendError> {
         if self.post(bytes)? {
             return Ok(());
         }

@@ -4,14 +4,12 @@ use crate::cases::{CASES, Case, Moment, NEVER, SERVED, Woken};
 use crate::outside::{Flag, Posts, Upstream};
 use crossbeam_channel::{Receiver, Sender, unbounded};
 use dns_name::Octets;
-use edge_io::{
-    Arrival, Bytes, Endpoint, ListClock, ListIds, ListSink, ListSource, ListWires, Order,
-    SentOrder, SentReply, TaskSpawner, Wake, WireStage, Wires,
-};
+use edge_io::{Bytes, ListClock, ListIds, ListSink, ListSource, TaskSpawner};
 use ip_prefix::{Addr, Transport};
 use rpz_program::run::run;
 use rpz_program::status::Status;
 use rpz_workers::Report;
+use server_io::{Arrival, ListWires, Order, Peer, SentOrder, SentReply, Wake, WireStage, Wires};
 use std::alloc::{AllocError, Global};
 use std::collections::VecDeque;
 use std::hash::RandomState;
@@ -46,9 +44,10 @@ pub fn flag<R: Abort>(rt: &R, alloc: Global) -> Flag {
 /// A datagram of 192.0.2.7.
 pub fn datagram(alloc: Global, bytes: &[u8]) -> Result<Arrival<ListSource, ListSink>, AllocError> {
     Ok(Arrival::Datagram {
-        peer: Endpoint {
+        peer: Peer {
             addr: Addr::V4(0xc000_0207),
             port: 53_000,
+            listener: 0,
         },
         bytes: Octets::from_slice(alloc, bytes)?,
     })
@@ -62,9 +61,10 @@ pub fn connection(
     Ok(Arrival::Connection {
         source: ListSource::new(bytes.to_vec(alloc)?, 8_192, Vec::new(alloc)),
         sink: ListSink::new(Vec::new(alloc), 8_192, Vec::new(alloc)),
-        client: Endpoint {
+        client: Peer {
             addr: Addr::V4(0xc000_0208),
             port: 53_000,
+            listener: 0,
         },
     })
 }
@@ -89,9 +89,10 @@ fn wake_of(alloc: Global, woken: &Woken) -> Result<Option<Wake>, AllocError> {
             why: *why,
         },
         Woken::Notify(last, bytes) => Wake::Notify {
-            peer: Endpoint {
+            peer: Peer {
                 addr: Addr::V4(0x7f00_0000 + u32::from(*last)),
                 port: 53_001,
+                listener: 0,
             },
             transport: Transport::Udp,
             bytes: Octets::from_slice(alloc, bytes)?,

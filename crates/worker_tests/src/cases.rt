@@ -4,7 +4,7 @@ use crate::messages::{
     ASKED, CUT_IN_LENGTH, CUT_IN_MESSAGE, DENIAL, DENIED, DROPPED, FAILURE, ONE_REPLY, REFUSAL,
     SHORT, THREE, TWO, TWO_REPLIES, UNSERVED,
 };
-use edge_io::StreamEnd;
+use server_io::StreamEnd;
 
 /// No call has this number in any run.
 pub const NEVER: u64 = u64::MAX;

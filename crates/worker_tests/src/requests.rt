@@ -4,10 +4,11 @@ use crate::stores::{Trial, attempt};
 use dns_message::Question;
 use dns_name::{Name, Octets};
 use dns_record::{class, rtype};
-use edge_io::{Deadline, Endpoint, ListSink, ListSource};
+use edge_io::{Deadline, ListSink, ListSource};
 use ip_prefix::{Addr, Transport};
 use policy_publish::{Latest, PolicyReader, Publisher, StoreName};
 use rpz_workers::{Item, Items, Job, Onward, RequestItems, RequestList, RequestOnward};
+use server_io::Peer;
 use std::alloc::Global;
 use std::hash::RandomState;
 use std::process::Abort;
@@ -201,9 +202,10 @@ static ROWS: [Row; 11] = [
 /// A query of this number, of this client, with a message of so many octets.
 pub fn query(alloc: Global, number: u16, client: Addr, octets: usize) -> Option<Job> {
     Some(Job {
-        peer: Endpoint {
+        peer: Peer {
             addr: client,
             port: number,
+            listener: 0,
         },
         transport: Transport::Udp,
         message: Octets::from_vec(vec![in alloc; 0; octets].ok()?),

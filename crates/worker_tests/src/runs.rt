@@ -7,13 +7,11 @@ use crate::stores::{Trial, attempt};
 use crate::test_inlet::{InletStage, TestItems, items_of};
 use crate::workers::{ListWorker, client, job, list_worker};
 use dns_name::Octets;
-use edge_io::{
-    Arrival, ListClock, ListReplies, ListSink, ListSource, Received, SentReply, StreamEnd,
-    read_full,
-};
+use edge_io::{ListClock, ListSink, ListSource, read_full};
 use ip_prefix::Transport;
 use policy_publish::{Latest, PolicyReader, Publisher, StoreName};
 use rpz_workers::{Item, Items, ListItems, NoGate, NoOnward};
+use server_io::{Arrival, ListReplies, Received, SentReply, StreamEnd};
 use std::alloc::Global;
 use std::collections::VecDeque;
 use std::process::Abort;

@@ -14,6 +14,7 @@ use crate::request_limits::{be_late, end_all, fill_all, jostle_one};
 use crate::request_threads::pass_among;
 use crate::requests::order_all;
 use crate::runs::run_all;
+use allow_list::AllowList;
 use dns_name::Name;
 use policy_override::{ZoneSets, as_given};
 use policy_publish::{Parts, PolicyReader, Publisher, StoreName, start_store};
@@ -71,7 +72,8 @@ pub fn attempt<
     R: Threads + Wait + Abort + Clock + RandomSource + Copy + Drop + Send + Sync + 'static,
 >(rt: R, alloc: Global, trial: Trial) {
     let zones = zones_for(&rt, alloc, &trial);
-    open::<Brand, R>(rt, alloc, start_store(zones, 2), trial);
+    let parts = start_store(zones, AllowList::everyone(alloc), 2);
+    open::<Brand, R>(rt, alloc, parts, trial);
 }
 
 fn open<

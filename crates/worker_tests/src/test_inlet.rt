@@ -1,8 +1,9 @@
 //! An inlet that gives what a test tells it to.
 
-use edge_io::{Inlet, ListSink, ListSource, Received};
+use edge_io::{ListSink, ListSource};
 use policy_publish::{Latest, StoreName, Told};
 use rpz_workers::InletItems;
+use server_io::{Inlet, Received};
 use std::collections::VecDeque;
 use std::process::Abort;
 use std::sync::Wait;

@@ -3,10 +3,11 @@
 use answer_cache::{AnswerCache, Keeps, Shared, SharedCache};
 use dns_message::KNOWN_KEY;
 use dns_name::Octets;
-use edge_io::{Endpoint, ListIds, ListLink};
+use edge_io::{ListIds, ListLink};
 use ip_prefix::{Addr, Transport};
 use policy_publish::{PolicyReader, StoreName};
 use rpz_workers::{Asker, Gate, Job, Worker};
+use server_io::Peer;
 use std::alloc::Global;
 use std::collections::VecDeque;
 use std::hash::{BuildHasherDefault, FoldHasher, RandomState};
@@ -85,10 +86,11 @@ pub fn list_worker<N: StoreName, G: Gate + Drop, R: Abort>(
 }
 
 /// The client, at a port of the address 192.0.2.7.
-pub fn client(port: u16) -> Endpoint {
-    Endpoint {
+pub fn client(port: u16) -> Peer {
+    Peer {
         addr: Addr::V4(0xc000_0207),
         port,
+        listener: 0,
     }
 }
 
