@@ -2,6 +2,8 @@
 """Asks a server one question and shows the reply, where dig isn't at hand: its length, its records, and where pointers stand in them.
 
     python3 tools/ask.py ADDRESS PORT NAME [TYPE] [tcp] [edns SIZE]
+
+ADDRESS is one of either version of IP, without brackets.
 """
 import random
 import socket
@@ -30,7 +32,7 @@ def over_tcp(address, port, message, seconds=SECONDS):
 
 
 def over_udp(address, port, message, seconds=SECONDS):
-    with socket.socket(socket.AF_INET, socket.SOCK_DGRAM) as sock:
+    with socket.socket(socket.AF_INET6 if ":" in address else socket.AF_INET, socket.SOCK_DGRAM) as sock:
         sock.settimeout(seconds)
         sock.connect((address, port))
         sock.send(message)

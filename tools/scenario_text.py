@@ -82,7 +82,7 @@ class Reader:
             return [line_of(text[4:].removeprefix(" "))]
         if kind == "zone":
             self.zones.append(name_of(words[0]))
-        if kind in ("zone", "clock"):
+        if kind in ("zone", "clock", "allow"):
             return [" ".join([kind, *words]).encode() + b"\n"]
         if kind == "full":
             return [f"full {self.zone(words[0])[0]}\n".encode()]
@@ -288,7 +288,7 @@ class Shower:
 
     def step(self, words, compressed):
         kind = words[0]
-        if kind in ("zone", "clock"):
+        if kind in ("zone", "clock", "allow"):
             return " ".join(words), []
         if kind == "full":
             return f"full {text_of_name(self.zone(words[1]))}", []

@@ -31,7 +31,6 @@ usage: rpz serve [OPTION]... LISTEN UPSTREAM TURNS WORKERS ZONE@PRIMARY...
        rpz load SEED RULES QUERIES WORKERS
        rpz help [COMMAND]
        rpz --version"""
-STATUSES = {"usage": "2 rpz: usage\n" + USAGE}
 RAW = re.compile(r"(worker \d+: )?line( |$)")
 ANSWERED = (b"xfer", b"query", b"give", b"fail", b"notify", b"due")  # lines that have an output
 
@@ -136,6 +135,11 @@ def rows_of(block):
     return [row for line in block for row in each_of(line)]
 
 
+def usage_status(cause):
+    """The status of words that are refused, with what is wrong with them where more is said than that."""
+    return f"2 rpz: usage{': ' if cause else ''}{cause}\n{USAGE}"
+
+
 def cases_of(scenario, captures):
     reader, script, transcript, status = Reader(captures), b"", "", "0"
     for steps in scenario.rounds:
@@ -149,8 +153,8 @@ def cases_of(scenario, captures):
                         refused = re.fullmatch(r"line (\d+) is refused: (\w+)", output)
                         if refused:
                             status = f"3 rpz: line {refused[1]}: {refused[2]}"
-                        elif output in STATUSES:
-                            status = STATUSES[output]
+                        elif output.split()[0] == "usage":
+                            status = usage_status(output.removeprefix("usage").strip())
                         else:
                             transcript += reader.output(step.worker, output, rows)
         except (Refused, ValueError, IndexError, KeyError) as error:

@@ -8,6 +8,7 @@ begins with `;` is a comment. AXFR gives the zone. IXFR gives it too, or its SOA
 other question gets the records of its name and type, with the CNAMEs that lead there, NXDOMAIN with the SOA where the name isn't
 in the zone, and REFUSED outside the zone. It reads the file at each question, so that a changed serial shows at the next poll.
 """
+import socket
 import socketserver
 import sys
 
@@ -101,11 +102,15 @@ class Server(socketserver.ThreadingTCPServer):
     daemon_threads = True
     request_queue_size = 128
 
+    def __init__(self, address, port):
+        self.address_family = socket.AF_INET6 if ":" in address else socket.AF_INET
+        super().__init__((address, port), Connection)
+
 
 def main():
     address, port, path = sys.argv[1:4]
     read_zone(path)
-    with Server((address, int(port)), Connection) as server:
+    with Server(address, int(port)) as server:
         server.path = path
         server.serve_forever()
 

@@ -1,7 +1,7 @@
 #!/usr/bin/env python3
 """Runs a server under load for long, and says whether anything was lost, refused or grew.
 
-    python3 tools/soak.py PROGRAM [--seconds N] [--rate N] [--rules N] [--changes N] [--workers N] [--askers N] [--warm N] [--port N]
+    python3 tools/soak.py PROGRAM [--seconds N] [--rate N] [--rules N] [--changes N] [--workers N] [--askers N] [--warm N] [--port N] [--both]
 
 PROGRAM is `rpz`. For so many seconds (3,600) dnsperf asks so many queries a second (50,000), of which a tenth are misses; a primary with
 so many rules (1,000) makes so many changes a second (10), each with a NOTIFY and taken by an incremental transfer; and 100 connections
@@ -12,8 +12,10 @@ the resident memory and the descriptors, while no connection of these is open. A
 refused, and memory and descriptors behind the first tenth and at the end. The status is 0 where nothing was lost or refused, memory grew
 by less than 2 % or 1 MiB, and no descriptor more was open. Before the first tenth there are so many seconds (5) of the same queries alone:
 each thread that asks the upstream, of which there are 256 if --askers doesn't say else, takes pages for its stack and its heap when it
-first needs them, which adds up to some MiB over the first millions of queries. Wanted: dnsperf and unbound (packages of Debian). Nothing else should run
-meanwhile.
+first needs them, which adds up to some MiB over the first millions of queries. With --both the server listens on `[::1]`, too, and these two
+addresses alone may ask: dnsperf asks by turns over either version of IP, half of the connections are of version 6, and a client that may
+not ask sends 100 queries a second, each of which has to be refused. Wanted: dnsperf and unbound (packages of Debian). Nothing else should
+run meanwhile.
 """
 
 import argparse
@@ -31,6 +33,8 @@ sys.path.insert(0, str(pathlib.Path(__file__).resolve().parent / "attack"))
 import peers
 import wire
 
+V6, STRANGER = "::1", "127.0.0.9"
+REFUSED = 5
 HITS, PASSES = 1_000, 4_000
 CONNECTIONS = 100
 KEPT_CHANGES = 200
@@ -116,10 +120,10 @@ def write_files(folder, upstream, hits):
 
 
 class Comers:
-    """100 connections at a time that come, ask three queries and go."""
+    """100 connections at a time that come, ask three queries and go. They come to these addresses of the server by turns."""
 
-    def __init__(self, port):
-        self.port, self.is_over = port, False
+    def __init__(self, port, hosts):
+        self.port, self.hosts, self.is_over = port, hosts, False
         self.done = self.lost = self.open = 0
         self.lock = threading.Lock()
         self.may_come = threading.Event()
@@ -150,7 +154,7 @@ class Comers:
 
     def one(self, number):
         try:
-            with peers.socket.create_connection((peers.LOOPBACK, self.port), 5) as sock:
+            with peers.socket.create_connection((self.hosts[number % len(self.hosts)], self.port), 5) as sock:
                 sock.settimeout(5)
                 for name in (f"h{number}.example", f"p{number}.kept.test", f"c{time.monotonic_ns()}.miss.test"):
                     sock.sendall(wire.frame(wire.query(number, name)))
@@ -180,9 +184,33 @@ class Changes:
             time.sleep(max(0.0, begun + 1 / self.a_second - time.monotonic()))
 
 
-def dnsperf(path, port, seconds, rate):
+class Stranger:
+    """A client that may not ask."""
+
+    def __init__(self, port):
+        self.is_over, self.asked, self.unrefused = False, 0, 0
+        self.sock = peers.socket.socket(peers.socket.AF_INET, peers.socket.SOCK_DGRAM)
+        self.sock.settimeout(5)
+        self.sock.bind((STRANGER, 0))
+        self.sock.connect((peers.LOOPBACK, port))
+        self.thread = threading.Thread(target=self.ask, daemon=True)
+        self.thread.start()
+
+    def ask(self):
+        while not self.is_over:
+            self.asked += 1
+            try:
+                self.sock.send(wire.query(self.asked & 0xFFFF, f"h{self.asked % HITS}.example"))
+                reply = self.sock.recv(4096)
+                self.unrefused += wire.rcode_of(reply) != REFUSED or wire.number_of(reply) != self.asked & 0xFFFF
+            except OSError:
+                self.unrefused += 1
+            time.sleep(0.01)
+
+
+def dnsperf(path, port, seconds, rate, host=peers.LOOPBACK):
     # the client's buffers are large, too: replies that it has no room for would count as lost
-    words = ["dnsperf", "-s", peers.LOOPBACK, "-p", str(port), "-d", str(path), "-l", str(seconds), "-c", "8", "-T", "1", "-q", "2000",
+    words = ["dnsperf", "-s", host, "-p", str(port), "-d", str(path), "-l", str(seconds), "-c", "8", "-T", "1", "-q", "2000",
              "-t", "5", "-b", "4096", "-Q", str(rate)]
     return subprocess.run(words, capture_output=True, text=True, check=True).stdout
 
@@ -192,9 +220,11 @@ def figure(text, label):
 
 
 def dropped(port):
-    """How many datagrams the system has dropped that found no room in the buffer of the server's socket."""
-    with open("/proc/net/udp", encoding="ascii") as file:
-        rows = [line.split() for line in file.readlines()[1:]]
+    """How many datagrams the system has dropped that found no room in the buffers of the server's sockets."""
+    rows = []
+    for path in ("/proc/net/udp", "/proc/net/udp6"):
+        with open(path, encoding="ascii") as file:
+            rows += [line.split() for line in file.readlines()[1:]]
     return sum(int(row[-1]) for row in rows if int(row[1].split(":")[1], 16) == port)
 
 
@@ -217,13 +247,14 @@ class Pauses:
         return longest
 
 
-def watch(server, options, path, comers):
+def watch(server, options, path, comers, hosts):
     """Asks in parts of a minute, or of a tenth of the time; what was sent, lost and seen of memory and descriptors."""
     sent = lost = 0
     seen, pauses = [], Pauses()
     end = time.monotonic() + options.seconds
     while (left := end - time.monotonic()) >= 1:
-        text = dnsperf(path, options.port, max(1, int(min(60, options.seconds / 10, left))), options.rate)
+        host = hosts[len(seen) % len(hosts)]
+        text = dnsperf(path, options.port, max(1, int(min(60, options.seconds / 10, left))), options.rate, host)
         sent, lost = sent + figure(text, "Queries sent"), lost + figure(text, "Queries lost")
         comers.pause()
         seen.append((server.resident(), server.descriptors()))
@@ -244,7 +275,9 @@ def main():
     parser.add_argument("--askers", type=int, help="how many threads ask the upstream; the server's own number if it isn't given")
     parser.add_argument("--warm", type=int, default=5)
     parser.add_argument("--port", type=int, default=24000)
+    parser.add_argument("--both", action="store_true", help="over both versions of IP, with a client that may not ask")
     options = parser.parse_args()
+    hosts = [peers.LOOPBACK, V6] if options.both else [peers.LOOPBACK]
     port = options.port
     with tempfile.TemporaryDirectory() as name:
         folder = pathlib.Path(name)
@@ -253,14 +286,19 @@ def main():
         unbound = subprocess.Popen(["unbound", "-d", "-c", str(folder / "unbound.conf")], env={**os.environ, "PATH": path})
         primary = ChangingPrimary(port + 2, [f"h{n}.example" for n in range(options.rules)])
         words = ["--askers", str(options.askers)] if options.askers else []
-        server = peers.Server(options.program, port, port + 1, [(peers.ZONE, port + 2)], options.workers, words)
+        words += ["--allow", f"{peers.LOOPBACK}/32,{V6}/128"] if options.both else []
+        server = peers.Server(options.program, port, port + 1, [(peers.ZONE, port + 2)], options.workers, words, more_hosts=hosts[1:])
         try:
             server.wait_for("h0.example")
             dnsperf(folder / "queries", port, options.warm, options.rate)
-            changes, comers = Changes(primary, port, options.changes), Comers(port)
-            sent, lost, seen = watch(server, options, folder / "queries", comers)
+            changes, comers = Changes(primary, port, options.changes), Comers(port, hosts)
+            stranger = Stranger(port) if options.both else None
+            sent, lost, seen = watch(server, options, folder / "queries", comers, hosts)
             changes.is_over = comers.is_over = True
             changes.thread.join(10)
+            if stranger:
+                stranger.is_over = True
+                stranger.thread.join(10)
             for thread in comers.threads:
                 thread.join(20)
             newest = f"new{primary.serial - 1}.example"
@@ -282,7 +320,10 @@ def main():
           f"{last[1]}")
     for line in refused[:5]:
         print("  ", line)
-    os._exit(1 if lost or comers.lost or refused or changes.unanswered or grew else 0)
+    unrefused = stranger.unrefused if stranger else 0
+    if stranger:
+        print(f"{stranger.asked:,} queries of a client that may not ask, {unrefused} not refused")
+    os._exit(1 if lost or comers.lost or refused or changes.unanswered or grew or unrefused else 0)
 
 
 if __name__ == "__main__":

@@ -29,6 +29,7 @@ import unbound
 
 MODULES = [
     "clients", "more_clients", "datagrams", "upstreams", "more_upstreams", "primaries", "more_primaries", "process", "more_process",
+    "outside",
 ]
 PORTS = 40  # of each try
 RANGES = 200  # so many tries later the same ports come again

@@ -27,6 +27,15 @@ def listener(port):
     return sock
 
 
+def endpoint(host, port):
+    """As the command line writes it."""
+    return f"[{host}]:{port}" if ":" in host else f"{host}:{port}"
+
+
+def family_of(host):
+    return socket.AF_INET6 if ":" in host else socket.AF_INET
+
+
 class Listener:
     """Takes the connections to a port, and serves each in a thread of its own."""
 
@@ -225,16 +234,17 @@ class Program:
 
 
 class Server(Program):
-    """`rpz serve` with its standard output and error in files, on an address of this host. `primaries`: of each zone its name, the port of
-    its primary, and maybe what stands behind these words."""
+    """`rpz serve` with its standard output and error in files, on an address of this host, and on `more_hosts`, at the same port.
+    `primaries`: of each zone its name, the port of its primary, and maybe what stands behind these words."""
 
     is_ours = True
 
     def __init__(
-        self, program, port, upstream, primaries, workers, options=(), stdout=None, host=LOOPBACK, turns="forever", **started,
+        self, program, port, upstream, primaries, workers, options=(), stdout=None, host=LOOPBACK, turns="forever", more_hosts=(), **started,
     ):
         zones = [f"{zone}@{LOOPBACK}:{at}{''.join(behind)}" for zone, at, *behind in primaries]
-        words = [program, "serve", *options, f"{host}:{port}", f"{LOOPBACK}:{upstream}", str(turns), str(workers), *zones]
+        listen = ",".join(endpoint(one, port) for one in (host, *more_hosts))
+        words = [program, "serve", *options, listen, f"{LOOPBACK}:{upstream}", str(turns), str(workers), *zones]
         self.log, self.errors = (f"{tempfile.gettempdir()}/attack-{os.getpid()}-{port}.{kind}" for kind in ("log", "errors"))
         with open(self.log, "wb") as log, open(self.errors, "wb") as errors:
             super().__init__(words, port, host, log if stdout is None else stdout, errors, **started)
@@ -256,7 +266,7 @@ class Server(Program):
 
 def ask(port, name, seconds, qtype=wire.A, host=LOOPBACK):
     """The rcode of the reply to a query over UDP, or None where none comes in time."""
-    with socket.socket(socket.AF_INET, socket.SOCK_DGRAM) as sock:
+    with socket.socket(family_of(host), socket.SOCK_DGRAM) as sock:
         sock.settimeout(seconds)
         sock.sendto(wire.query(os.getpid() & 0xFFFF, name, qtype), (host, port))
         try:

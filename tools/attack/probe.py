@@ -62,7 +62,8 @@ def main():
     server = sys.argv[1], int(sys.argv[2])
     count, streams, gap = int(sys.argv[3]), int(sys.argv[4]), float(sys.argv[5])
     names = sys.argv[6:]
-    with socket.socket(socket.AF_INET, socket.SOCK_DGRAM) as sock, concurrent.futures.ThreadPoolExecutor() as pool:
+    family = socket.AF_INET6 if ":" in server[0] else socket.AF_INET
+    with socket.socket(family, socket.SOCK_DGRAM) as sock, concurrent.futures.ThreadPoolExecutor() as pool:
         udp = pool.submit(ask_all, lambda *query: over_udp(sock, server, *query), names, count, gap)
         tcp = pool.submit(ask_all, lambda *query: over_tcp(server, *query), names, streams, gap * count / max(1, streams))
     parts = []

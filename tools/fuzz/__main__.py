@@ -7,13 +7,15 @@
 PROGRAM is `rpz`. Each of so many processes (one for each cpu) does two things by turns until the seconds are over: it grows a script for
 `rpz replay` in rounds, in which what workers ask is answered, and then runs mutations of its lines; and it starts a server with an
 upstream, and one or two primaries, on the loopback at ports from P (27,000) on, and sends it datagrams, connections, NOTIFYs and transfers
-in batches. Messages are drawn with a legal shape, and about half of them is mutated: bits, octets and fields at their bounds; parts that
-are deleted, doubled, moved, put in, or spliced to another message; pointers to anywhere; lengths and counts that are off.
+in batches, to its addresses of both versions of IP, and from clients of which some may not ask. Messages are drawn with a legal shape, and
+about half of them is mutated: bits, octets and fields at their bounds; parts that are deleted, doubled, moved, put in, or spliced to
+another message; pointers to anywhere; lengths and counts that are off.
 
 What has to come is told by a second writing of docs/FORMATS.md, docs/PROFILE.md and docs/OPERATING.md in Python, which shares no code with
-`rpz`: of messages (reading.py), lines of scripts (script_lines.py), transfers and their faults (taking.py), rules and overrides (rules.py),
-and what a query comes to (deciding.py). With --scenarios it is compared with the scenarios of the repository, whose transcripts were
-written by hand; no program is run.
+`rpz`: of messages (reading.py), lines of scripts (script_lines.py), networks of clients (networks.py, whose addresses of version 6 the
+ipaddress of Python has to read alike), transfers and their faults (taking.py), rules and overrides (rules.py), and what a query comes to
+(deciding.py). With --scenarios it is compared with the scenarios of the repository, whose transcripts were written by hand; no program is
+run.
 
 Checked of a script: the whole transcript, each question, reply, silence and line of a transfer, octet for octet; the line that is refused
 and why; the status. Of a server: each reply, octet for octet but for TTLs, which may be less; that it comes within its transport's limit,

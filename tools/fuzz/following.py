@@ -6,6 +6,7 @@ from dataclasses import replace
 
 import deciding
 import judging
+import networks
 import reading
 import rules
 import script_lines
@@ -103,14 +104,15 @@ class Follow:
         self.figures.count("due zones of scripts", "one" if zones else "none")
 
     def notify(self, output, address, octets):
-        kind, request = reading.triage(octets, "notify")
+        is_heard = networks.may_ask(self.state.allowed, address) or address in self.state.primaries.values()
+        kind, request = reading.triage(octets, "notify", is_heard)
         unfit_if(not NOTIFIED.fullmatch(output) or (output == "hush") != (kind == "silence"), "no output of a NOTIFY, or hush")
         if output == "hush":
             self.figures.count("NOTIFYs of scripts", "silence")
             return
         reply = bytes.fromhex(output.split()[1])
-        self.judge(octets, reply, "udp", "notify")
-        self.figures.count("NOTIFYs of scripts", rcode_name(reply))
+        self.judge(octets, reply, "udp", "notify", is_heard)
+        self.figures.count("NOTIFYs of scripts", "of a stranger outside" if kind == "outside" else rcode_name(reply))
         if kind == "notify":
             zones = [number for number, name in enumerate(self.state.zones, 1) if request.asks(name, TYPES["SOA"], reading.IN)]
             accepts = bool(zones) and self.state.primaries.get(zones[0]) == address
@@ -120,14 +122,15 @@ class Follow:
                 self.due_at[zones[0]] = self.now
 
     def query(self, output, worker, transport, client, octets):
-        kind, _ = reading.triage(octets, "query")
+        is_heard = networks.may_ask(self.state.allowed, client)
+        kind, _ = reading.triage(octets, "query", is_heard)
         if kind == "query":
             policy = [rule for zone in sorted(self.rules) for rule in self.rules[zone]]
             self.turn(output, worker, deciding.Query(octets, transport, client, policy))
         elif kind == "silence":
             self.said(output, worker, octets, transport, None)
         else:
-            self.said(output, worker, octets, transport, reading.exact(octets, "query"))
+            self.said(output, worker, octets, transport, reading.exact(octets, "query", is_heard), is_heard)
 
     def fail(self, output, worker):
         self.answered(output, worker, None)
@@ -163,7 +166,7 @@ class Follow:
         self.figures.count("questions of scripts", "upstream")
         self.state.pending[worker] = query, question
 
-    def said(self, output, worker, octets, transport, reply):
+    def said(self, output, worker, octets, transport, reply, is_heard=True):
         """The output is this reply, or silence."""
         if reply is None:
             unfit_if(output != f"silent {worker}", "no silence")
@@ -171,12 +174,12 @@ class Follow:
             return
         found = re.fullmatch(r"reply (\d+) ([0-9a-f]+)", output)
         unfit_if(not found or int(found[1]) != worker, "no reply")
-        self.judge(octets, bytes.fromhex(found[2]), transport, "query")
+        self.judge(octets, bytes.fromhex(found[2]), transport, "query", is_heard)
         unfit_if(bytes.fromhex(found[2]) != reply, "another reply than the policy's")
-        self.figures.count("queries of scripts", rcode_name(reply))
+        self.figures.count("queries of scripts", rcode_name(reply) if is_heard else "of a client outside")
 
-    def judge(self, octets, reply, transport, way):
-        fault = judging.fault_of(octets, reply, transport, way, self.figures)
+    def judge(self, octets, reply, transport, way, is_heard):
+        fault = judging.fault_of(octets, reply, transport, way, self.figures, is_heard)
         unfit_if(fault is not None, fault)
 
 

@@ -37,23 +37,24 @@ def wrong_if(is_wrong, said):
         raise Wrong(said)
 
 
-def fault_of(octets, reply, transport, way, figures):
+def fault_of(octets, reply, transport, way, figures, is_heard=True):
     """What is wrong with a reply to a request, or None."""
     try:
-        judge(octets, reply, transport, way, figures)
+        judge(octets, reply, transport, way, figures, is_heard)
     except Wrong as why:
         return str(why)
     return None
 
 
-def judge(octets, reply, transport, way, figures):
-    kind, request = reading.triage(octets, way)
+def judge(octets, reply, transport, way, figures, is_heard):
+    kind, request = reading.triage(octets, way, is_heard)
     wrong_if(kind == "silence", "a reply to a response, or to less than a header")
     wrong_if(len(reply) < reading.HEADER, "less than a header")
     wrong_if(reply[:2] != octets[:2], "another ID")
     judge_header(octets, reply)
     wrong_if(len(reply) > reading.limit_of(request, transport), "longer than its limit")
-    wanted = reading.exact(octets, way)
+    wrong_if(kind == "outside" and len(reply) > len(octets), "longer than its request, to a client outside")
+    wanted = reading.exact(octets, way, is_heard)
     wrong_if(wanted is not None and reply != wanted, f"not the reply to what is {kind}")
     message = reading.readable(reply)
     wrong_if(message is None, "it can't be read")

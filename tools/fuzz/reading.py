@@ -191,11 +191,14 @@ def readable(octets):
 
 
 @functools.lru_cache(maxsize=1024)
-def triage(octets, way):
-    """What docs/FORMATS.md says of a request, and the request where it can be read: `silence`, `notimp`, `formerr`, `badvers`, `refused`,
-    `query` or `notify`. `way`: `serve`, which takes both, or the line of a script, `query` or `notify`."""
+def triage(octets, way, is_heard=True):
+    """What docs/FORMATS.md says of a request, and the request where it can be read: `silence`, `outside`, `notimp`, `formerr`, `badvers`,
+    `refused`, `query` or `notify`. `way`: `serve`, which takes both, or the line of a script, `query` or `notify`. `is_heard`: its client
+    may ask, or is the primary of a zone and this is a NOTIFY."""
     if len(octets) < HEADER or octets[2] & 0x80:
         return "silence", None
+    if not is_heard:
+        return "outside", None
     opcode = octets[2] >> 3 & 15
     is_notify = way == "notify" or way == "serve" and opcode == NOTIFY
     if opcode != (NOTIFY if is_notify else 0):
@@ -236,6 +239,26 @@ def refusal(octets, request, rcode, extended=0):
     """A reply with the question, and an OPT record where the request has one."""
     opt = our_opt(request, extended)
     return header(octets, rcode, (1, 0, 0, 1 if opt else 0)) + request.question() + opt
+
+
+def turned_away(octets):
+    """What a client outside gets: REFUSED with the question, where there is one that can be read, whatever stands behind it, and the reply
+    has no more octets than the request; and no OPT record."""
+    question = question_of(octets)
+    if HEADER + len(question) > len(octets):
+        question = b""
+    return header(octets, REFUSED, (1 if question else 0, 0, 0, 0)) + question
+
+
+def question_of(octets):
+    """The only question of a request, with its name in full; nothing where there is none, or it can't be read."""
+    reader = Reader(octets)
+    if octets[4:6] != b"\0\1":
+        return b""
+    try:
+        return written(reader.name()) + reader.take(4)
+    except Unreadable:
+        return b""
 
 
 def compressed(name, at, known):
@@ -300,9 +323,11 @@ def truncated(octets, request, rcode=NOERROR):
     return header(octets, rcode, (1, 0, 0, 1 if opt else 0), 0x0200) + request.question() + opt
 
 
-def exact(octets, way):
+def exact(octets, way, is_heard=True):
     """The octets of the reply to a request that is no query; None where it is one, or gets another reply."""
-    kind, request = triage(octets, way)
+    kind, request = triage(octets, way, is_heard)
+    if kind == "outside":
+        return turned_away(octets)
     if kind in ("notimp", "formerr"):
         return header(octets, NOTIMP if kind == "notimp" else FORMERR)
     if kind == "badvers":

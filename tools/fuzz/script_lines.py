@@ -3,11 +3,12 @@
 import re
 from dataclasses import dataclass, field
 
+import networks
 import rules
 
 MOST_LINE, MOST_MESSAGE, MOST_ZONES, MOST_NUMBER, WORKERS = 200_000, 65_535, 64, 4_294_967_295, 16
 FORMS = {
-    b"zone": ("name",), b"primary": ("zone", "address"), b"xfer": ("zone", "octets"), b"full": ("zone",),
+    b"zone": ("name",), b"primary": ("zone", "address"), b"allow": ("network",), b"xfer": ("zone", "octets"), b"full": ("zone",),
     b"query": ("worker", "transport", "address", "message"), b"give": ("worker", "message"), b"fail": ("worker",),
     b"notify": ("address", "octets"), b"due": (), b"clock": ("number",),
 }
@@ -35,16 +36,17 @@ def form_of(word, texts):
 @dataclass
 class State:
     """What a line is read by: the zones by their names in lower case, and as they are spelled; their overrides, each a word and a target;
-    their primaries; and the workers with a pending query."""
+    their primaries; the networks of clients that may ask; and the workers with a pending query."""
     zones: list = field(default_factory=list)
     spelled: list = field(default_factory=list)
     overrides: list = field(default_factory=list)
     primaries: dict = field(default_factory=dict)
+    allowed: list = field(default_factory=list)
     is_running: bool = False
     pending: dict = field(default_factory=dict)
 
     def read(self, line):
-        """The word of a line and its fields as values, or None where it is skipped. A zone, and a primary, are taken in."""
+        """The word of a line and its fields as values, or None where it is skipped. Zones, primaries and networks are taken in."""
         refuse_if(len(line) > MOST_LINE, "TooLong")
         refuse_if(any(not 32 <= value <= 126 for value in line), "Char")
         if not line or line.startswith(b"#"):
@@ -70,6 +72,11 @@ class State:
             refuse_if(self.is_running, "Late")
             refuse_if(values[0] in self.primaries, "Repeated")
             self.primaries[values[0]] = values[1]
+        elif word == b"allow":
+            refuse_if(self.is_running, "Late")
+            refuse_if(len(self.allowed) >= networks.MOST, "Many")
+            refuse_if(values[0] in self.allowed, "Repeated")
+            self.allowed.append(values[0])
         else:
             self.is_running = True
             refuse_if(word == b"query" and values[0] in self.pending, "Busy")
@@ -111,6 +118,11 @@ class State:
         is_four = re.fullmatch(rb"([0-9]{1,3})\.([0-9]{1,3})\.([0-9]{1,3})\.([0-9]{1,3})", text)
         refuse_if(not is_four or any(int(number) > 255 for number in is_four.groups()), "Address")
         return bytes(map(int, is_four.groups()))
+
+    def network(self, text):
+        network = networks.read(text.decode())
+        refuse_if(network is None, "Prefix")
+        return network
 
     def octets(self, text):
         if text == b"-":

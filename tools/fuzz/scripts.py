@@ -4,6 +4,7 @@ import re
 import subprocess
 
 import mutations
+import networks
 import overrides
 import policy
 import shapes
@@ -19,6 +20,7 @@ ROUNDS, VARIANTS = 40, 40
 TRIES = 300  # to make a script shorter that has failed
 ANY_LINE = re.compile(r"the line \d+")
 ADDRESSES = ("192.0.2.7", "127.0.0.1", "0.0.0.0", "255.255.255.255", "20010db8000000000000000000000001", "0" * 32)
+IN_OCTETS = [bytes.fromhex(text) if len(text) == 32 else bytes(map(int, text.split("."))) for text in ADDRESSES]
 PRIMARY = "192.0.2.53"
 OVERRIDES = (b"given", b"disabled", b"nxdomain", b"nodata", b"passthru", b"drop", b"tcp-only", b"cname", b"off", b"NXDOMAIN", b"cname:a")
 ODD_NUMBERS = (b"0", b"1", b"2", b"3", b"00000000001", b"0000000001", b"15", b"16", b"4294967295", b"4294967296", b"-1", b"+1", b"", b"1.")
@@ -106,18 +108,25 @@ class Growing:
         self.lines.append(line.encode())
 
     def all_rounds(self):
+        self.open()
         if self.zones:
-            for name in (policy.ZONE, *(zone.name for zone in self.zones)):
-                override = overrides.in_script(self.chance, overrides.drawn(self.chance))
-                self.add(f"zone {b'.'.join(name).decode()}{override}")
-            for number in range(1, len(self.zones) + 2):
-                self.add(f"primary {number} {PRIMARY}")
             self.add(f"xfer 1 {digits(policy.transfer(0, TYPES['AXFR']))}")
             self.legal[len(self.lines)] = 1, len(policy.rows_of_zone())
         for _ in range(ROUNDS):
             before = len(self.lines)
             self.round()
             self.take(before)
+
+    def open(self):
+        """Lines of zones and of their primaries, and among them, in some scripts, those that say who may ask."""
+        if self.zones:
+            for name in (policy.ZONE, *(zone.name for zone in self.zones)):
+                override = overrides.in_script(self.chance, overrides.drawn(self.chance))
+                self.add(f"zone {b'.'.join(name).decode()}{override}")
+            for number in range(1, len(self.zones) + 2):
+                self.add(f"primary {number} {PRIMARY}")
+        for text in networks.drawn(self.chance, IN_OCTETS) if self.chance.random() < 0.4 else ():
+            self.lines.insert(self.chance.randrange(len(self.lines) + 1), f"allow {text}".encode())
 
     def take(self, before):
         """Runs the whole script; what was written before comes again, and what is new is judged."""
@@ -211,11 +220,14 @@ def change_field(chance, line):
     """The line with another value in one of its fields; one of `zone` in some cases with a field more or less."""
     fields = line.split(b" ")
     at = chance.randrange(len(fields))
-    if fields[0] == b"zone" and chance.random() < 0.5:
+    if fields[0] == b"allow" and chance.random() < 0.7:
+        fields[1:] = [networks.odd(chance, fields[-1].decode("latin-1")).encode("latin-1")]
+    elif fields[0] == b"zone" and chance.random() < 0.5:
         others = (*OVERRIDES, b"garden.test", b"*.garden.test", b".", b"")
         fields = fields[:chance.randrange(2, 4)] + chance.sample(others, chance.randrange(3))
     elif at == 0:
-        fields[0] = chance.choice((b"query", b"give", b"fail", b"xfer", b"zone", b"Zone", b"due", b"clock", b"notify", b"primary", b"full"))
+        fields[0] = chance.choice((b"query", b"give", b"fail", b"xfer", b"zone", b"Zone", b"due", b"clock", b"notify", b"primary", b"full",
+                                   b"allow"))
     elif len(fields[at]) > 40:
         fields[at] = changed_digits(chance, fields[at])
     else:
@@ -249,7 +261,8 @@ def mutated_script(chance, lines):
         elif what == 3 and lines[at]:
             lines[at] = mutations.mutated(chance, lines[at])
         elif what == 4:
-            lines.insert(at, chance.choice((b"", b"#\t", b"#", b" ", b"\r", b"due ", b"# " + b"x" * 199_998, b"# " + b"x" * 199_999)))
+            network = f"allow {networks.odd(chance, '192.0.2.0/24')}".encode()
+            lines.insert(at, chance.choice((b"", b"#\t", b"#", b" ", b"\r", b"due ", b"# " + b"x" * 199_998, b"# " + b"x" * 199_999, network)))
         elif lines[at]:
             lines[at] = change_field(chance, lines[at])
     script = b"\n".join(lines) + chance.choice((b"\n", b"\n", b""))

@@ -7,6 +7,7 @@ import time
 import deciding
 import judging
 import mutations
+import networks
 import peers
 import policy
 import reading
@@ -30,20 +31,21 @@ LATE = 15.0  # seconds behind a batch with losses in which questions may still w
 KEPT = 5_000  # queries of which the outcome is kept
 NO_CACHE = deciding.Cache()  # stays empty
 LOOPBACK = socket.inet_aton(peers.LOOPBACK)
+SHARE_OF_STRANGERS = 0.1  # of messages over UDP, and of connections
 MOST_SILENT = 8  # messages of a connection that get no reply: it is closed behind 16
-STRANGER = "127.0.0.9"  # an address that is no primary's
+STRANGERS = ("127.0.0.9", stations.V6_LOOPBACK)  # addresses that are no primary's
 
 
 class Exchange:
-    """Messages over one socket, each with an ID of its own, and their replies."""
+    """Messages of one client over one socket, each with an ID of its own, and their replies."""
 
     def __init__(self, port, host, window):
         self.window = window
-        self.sock = socket.socket(socket.AF_INET, socket.SOCK_DGRAM)
+        self.sock = socket.socket(peers.family_of(host), socket.SOCK_DGRAM)
         self.sock.setsockopt(socket.SOL_SOCKET, socket.SO_RCVBUF, 4 << 20)
         self.sock.bind((host, 0))
-        self.sock.connect((peers.LOOPBACK, port))
-        self.client = socket.inet_aton(host)
+        self.sock.connect((server_of(host), port))
+        self.host, self.client = host, octets_of(host)
         self.number, self.sent, self.due, self.done = 0, {}, set(), set()
 
     def send(self, octets, word):
@@ -56,7 +58,7 @@ class Exchange:
         self.due.discard(self.number)
         if self.window.must_answer(octets, "udp", self.client):
             self.due.add(self.number)
-        self.window.station.events.add("udp" if self.client == LOOPBACK else "udp-of-a-stranger", octets)
+        self.window.station.events.add(word_of("udp", self.host), octets)
         with contextlib.suppress(ConnectionRefusedError):
             self.sock.send(octets)
 
@@ -90,7 +92,7 @@ class Serving:
     def __init__(self, station, figures, findings, seed):
         self.station, self.figures, self.findings, self.seed = station, figures, findings, seed
         self.chance, self.count = station.chance, 0
-        self.own, self.stranger = (Exchange(station.port, host, self) for host in (peers.LOOPBACK, STRANGER))
+        self.own, *self.strangers = (Exchange(station.port, host, self) for host in (peers.LOOPBACK, *STRANGERS))
         self.ruled, self.outcomes = None, {}
         self.recent, self.dropped = [policy.probe(0)], 0
         self.sent_at, self.late_until = time.monotonic(), 0.0
@@ -122,17 +124,22 @@ class Serving:
             self.outcomes[key] = reply
         return self.outcomes[key]
 
+    def is_heard(self, client):
+        """Whether a client may ask; the primaries may."""
+        return networks.may_ask(self.station.allowed, client)
+
     def must_answer(self, octets, transport, client):
         """Whether it must be answered. What has the opcode of a NOTIFY may be dropped where others came in the same second."""
-        kind, _ = reading.triage(octets, "serve")
+        kind, _ = reading.triage(octets, "serve", self.is_heard(client))
         if kind == "silence" or octets[2] >> 3 & 15 == reading.NOTIFY:
             return False
         return kind != "query" or self.outcome(octets, transport, client) is not None
 
     def judge(self, octets, reply, transport, word, client):
         """Counts a reply, or says what is wrong with it."""
-        self.figures.count(word, rcode_name(reply) if len(reply) > 3 else "less than a header")
-        fault = judging.fault_of(octets, reply, transport, "serve", self.figures)
+        is_heard = self.is_heard(client)
+        self.figures.count(word, "less than a header" if len(reply) < 4 else rcode_name(reply) if is_heard else "to a client outside")
+        fault = judging.fault_of(octets, reply, transport, "serve", self.figures, is_heard)
         if fault is None:
             fault = self.content_fault(octets, reply, transport, client)
         if fault is not None:
@@ -140,7 +147,7 @@ class Serving:
 
     def content_fault(self, octets, reply, transport, client):
         """What is wrong with the reply to a NOTIFY or a query."""
-        kind, request = reading.triage(octets, "serve")
+        kind, request = reading.triage(octets, "serve", self.is_heard(client))
         if kind == "notify":
             accepts = client == LOOPBACK and any(request.asks(zone, TYPES["SOA"], reading.IN) for zone in self.zones())
             wanted = reading.refusal(octets, request, reading.NOERROR if accepts else reading.REFUSED)
@@ -200,9 +207,9 @@ class Serving:
         self.sent_at = time.monotonic()
         for _ in range(WINDOW if self.station.is_plain else SMALL_WINDOW):
             octets, word = self.message()
-            exchange = self.stranger if self.chance.random() < 0.05 else self.own
+            exchange = self.chance.choice(self.strangers) if self.chance.random() < SHARE_OF_STRANGERS else self.own
             exchange.send(octets, f"{word} over UDP")
-        for exchange in (self.own, self.stranger):
+        for exchange in (self.own, *self.strangers):
             exchange.receive(WAIT)
             if exchange.due:
                 self.lost(exchange)
@@ -219,7 +226,7 @@ class Serving:
         self.dropped += lost
         self.figures.count("datagrams that the system dropped", "queries", lost)
         if len(missing) > lost:
-            again = "" if all(asked(self.station.port, octets) is None for octets in missing[:3]) else ", but to the same query again"
+            again = "" if all(asked(self.station.port, octets, exchange.host) is None for octets in missing[:3]) else ", but to the same query again"
             self.fail(f"no reply over UDP{again}", *missing[:3])
 
     # -- connections
@@ -227,9 +234,11 @@ class Serving:
     def connection(self):
         """Messages of one connection, in pieces; the last may have a wrong length in front of it."""
         chance, parts, silent = self.chance, [], 0
+        host = chance.choice(STRANGERS) if chance.random() < SHARE_OF_STRANGERS else peers.LOOPBACK
+        client = octets_of(host)
         for _ in range(chance.choice((1, 2, 5, 12, 30))):
             octets, word = self.message()
-            silent += not self.must_answer(octets, "tcp", LOOPBACK)
+            silent += not self.must_answer(octets, "tcp", client)
             if silent <= MOST_SILENT:
                 parts.append((octets, f"{word} over TCP"))
         stream = b"".join(wire.frame(octets) for octets, _ in parts)
@@ -240,17 +249,17 @@ class Serving:
         messages = whole_frames(stream)
         words = [word for _, word in parts][:len(messages)] + ["mutated queries over TCP"] * (len(messages) - len(parts))
         self.figures.tried.update(words)
-        self.station.events.add("tcp", stream)
-        replies = self.exchange_stream(stream, sum(self.must_answer(octets, "tcp", LOOPBACK) for octets in messages))
+        self.station.events.add(word_of("tcp", host), stream)
+        replies = self.exchange_stream(host, stream, sum(self.must_answer(octets, "tcp", client) for octets in messages))
         if replies is not None:
-            self.match(messages, words, replies)
+            self.match(messages, words, replies, client)
 
-    def exchange_stream(self, stream, wanted):
+    def exchange_stream(self, host, stream, wanted):
         """Sends octets over a connection and takes so many replies, those to NOTIFYs not counted, and what comes at once behind them."""
         chance, replies = self.chance, []
         self.sent_at = time.monotonic()
         try:
-            with socket.create_connection((peers.LOOPBACK, self.station.port), WAIT) as sock:
+            with socket.create_connection((server_of(host), self.station.port), WAIT, (host, 0)) as sock:
                 for part in in_pieces(chance, stream):
                     sock.sendall(part)
                 if chance.random() < 0.5:
@@ -271,25 +280,25 @@ class Serving:
             return None
         return replies
 
-    def match(self, messages, words, replies):
+    def match(self, messages, words, replies, client):
         """Each reply is one to a message of the connection that has none yet; each message that must be answered has one."""
         left = list(zip(messages, words, strict=True))
         for reply in replies:
             fits = [pair for pair in left if pair[0][:2] == reply[:2] and reading.triage(pair[0], "serve")[0] != "silence"]
-            best = [pair for pair in fits if self.seems_fit(pair[0], reply)] or fits
+            best = [pair for pair in fits if self.seems_fit(pair[0], reply, client)] or fits
             if not best:
                 self.fail("a reply over TCP to no message", *messages, reply)
                 continue
             left.remove(best[0])
-            self.judge(best[0][0], reply, "tcp", best[0][1], LOOPBACK)
-        missing = [octets for octets, _ in left if self.must_answer(octets, "tcp", LOOPBACK)]
+            self.judge(best[0][0], reply, "tcp", best[0][1], client)
+        missing = [octets for octets, _ in left if self.must_answer(octets, "tcp", client)]
         if missing and (self.station.is_plain or not self.is_late()):
             self.fail("no reply over TCP", *missing[:3])
 
-    @staticmethod
-    def seems_fit(octets, reply):
+    def seems_fit(self, octets, reply, client):
         """Whether a reply may be the one to a message, of several with one ID."""
-        exact, request = reading.exact(octets, "serve"), reading.triage(octets, "serve")[1]
+        is_heard = self.is_heard(client)
+        exact, request = reading.exact(octets, "serve", is_heard), reading.triage(octets, "serve", is_heard)[1]
         if exact is not None:
             return reply == exact
         return reply[reading.HEADER:].startswith(request.question())
@@ -396,7 +405,7 @@ class Serving:
         goes_on = self.station.is_plain or self.begin()
         while goes_on and time.monotonic() < end:
             goes_on = self.batch(time.monotonic() > end - LOSSY)
-        for exchange in (self.own, self.stranger):
+        for exchange in (self.own, *self.strangers):
             exchange.receive(0.05)
             exchange.sock.close()
         if self.station.server.process.poll() is None:
@@ -415,11 +424,26 @@ class Serving:
 # ---- sockets
 
 
-def asked(port, query):
+def server_of(host):
+    """Where the server listens for a client at this address."""
+    return stations.V6_LOOPBACK if ":" in host else peers.LOOPBACK
+
+
+def octets_of(host):
+    return socket.inet_pton(peers.family_of(host), host)
+
+
+def word_of(transport, host):
+    """What the file of a failure says in front of a message."""
+    return transport if host == peers.LOOPBACK else f"{transport}-of-a-stranger-at-{host}"
+
+
+def asked(port, query, host=peers.LOOPBACK):
     """The reply to one query over UDP, from a socket of its own; None where none comes in time."""
-    with socket.socket(socket.AF_INET, socket.SOCK_DGRAM) as sock:
+    with socket.socket(peers.family_of(host), socket.SOCK_DGRAM) as sock:
         sock.settimeout(WAIT)
-        sock.connect((peers.LOOPBACK, port))
+        sock.bind((host, 0))
+        sock.connect((server_of(host), port))
         try:
             sock.send(query)
             return sock.recv(65_535)
@@ -428,9 +452,11 @@ def asked(port, query):
 
 
 def dropped(port):
-    """How many datagrams the system has dropped that found no room in the buffer of the server's socket."""
-    with open("/proc/net/udp", encoding="ascii") as file:
-        rows = [line.split() for line in file.readlines()[1:]]
+    """How many datagrams the system has dropped that found no room in the buffers of the server's sockets."""
+    rows = []
+    for path in ("/proc/net/udp", "/proc/net/udp6"):
+        with open(path, encoding="ascii") as file:
+            rows += [line.split() for line in file.readlines()[1:]]
     return sum(int(row[-1]) for row in rows if int(row[1].split(":")[1], 16) == port)
 
 

@@ -11,6 +11,7 @@ import time
 
 import deciding
 import mutations
+import networks
 import overrides
 import peers
 import policy
@@ -23,9 +24,11 @@ import wire
 from dns_text import TYPES, Message, Question, encode, framed
 
 ODD = (b"odd", b"rpz")
+V6_LOOPBACK = "::1"
 MOST_EVENTS = 4 << 20  # digits of messages that are kept for the file of a failure
 CACHE = 4_096
 KEPT = 3_000  # questions of which the responses are kept
+ALLOWED = ((), (), ("127.0.0.1/32",), ("127.0.0.0/29", "::/128"), ("127.0.0.1/32", "::1/128"), ("127.0.0.0/8", "2001:db8::/32"), ("0.0.0.0/0",))
 ESTABLISHED = "01"  # in the table of connections that the system has
 
 
@@ -199,8 +202,9 @@ class OddPrimary:
 
 
 class Station:
-    """The server with its peers. `is_plain`: it has the zone that stays alone, so that most names pass. `override`: of the zone whose
-    transfers are mutated."""
+    """The server with its peers, which listens on both loopback addresses. `is_plain`: it has the zone that stays alone, so that most
+    names pass. `override`: of the zone whose transfers are mutated. `allowed`: the networks of clients that may ask; the primaries are in
+    one of them, or there is none."""
 
     def __init__(self, program, port, seed, is_plain):
         self.port, self.is_plain, self.chance = port, is_plain, random.Random(seed)
@@ -208,6 +212,8 @@ class Station:
         self.lines, self.read_octets = [], 0
         self.ruled, self.odd_rules = None, []
         self.override = overrides.drawn(self.chance)
+        texts = self.chance.choice(ALLOWED)
+        self.allowed = list(map(networks.read, texts))
         with contextlib.ExitStack() as ends:
             self.upstream = Upstream(port + 1, seed, self.events)
             ends.callback(self.upstream.listener.end)
@@ -218,8 +224,8 @@ class Station:
                 ends.callback(self.primary.listener.end)
                 self.primary.order()
                 zones.append((".".join(label.decode() for label in ODD), port + 3, overrides.in_words(self.chance, self.override)))
-            options = ("--cache", str(CACHE))
-            self.server = peers.Server(program, port, port + 1, zones, self.chance.choice((1, 2, 4)), options)
+            options = ["--cache", str(CACHE), *(["--allow", ",".join(texts)] if texts else [])]
+            self.server = peers.Server(program, port, port + 1, zones, self.chance.choice((1, 2, 4)), options, more_hosts=[V6_LOOPBACK])
             ends.callback(self.server.remove_files)
             ends.callback(self.server.end)
             self.server.wait_for(".".join(label.decode() for label in policy.name_of(b"nx")))
