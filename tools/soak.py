@@ -289,7 +289,7 @@ def main():
         words += ["--allow", f"{peers.LOOPBACK}/32,{V6}/128"] if options.both else []
         server = peers.Server(options.program, port, port + 1, [(peers.ZONE, port + 2)], options.workers, words, more_hosts=hosts[1:])
         try:
-            server.wait_for("h0.example")
+            server.wait_for("h0.example", seconds=60)
             dnsperf(folder / "queries", port, options.warm, options.rate)
             changes, comers = Changes(primary, port, options.changes), Comers(port, hosts)
             stranger = Stranger(port) if options.both else None
