@@ -171,3 +171,20 @@ pub pointed_are : (p f : List ℕ) (offset rtype class ttl len : ℕ) → p ≡ 
     → get_or p 0 0 ∷ get_or p 1 0 ∷ get_or f 0 0 ∷ get_or f 1 0 ∷ get_or f 2 0 ∷ get_or f 3 0 ∷ get_or f 4 0 ∷ get_or f 5 0 ∷ get_or f 6 0 ∷ get_or f 7 0 ∷ get_or f 8 0 ∷ get_or f 9 0 ∷ [] ≡ pointer_octets offset ++ (number_octets 2 rtype ++ number_octets 2 class ++ number_octets 4 ttl ++ number_octets 2 len)
 unfolding number_octets
 pointed_are p f offset rtype class ttl len e g = rw (e, g) refl
+
+-- a pointer, the fields behind it and the four octets of an address
+pub pointed_address_is : (l : List ℕ) (offset rtype class ttl a b c d : ℕ) → l ≡ pointer_octets offset ++ (number_octets 2 rtype ++ number_octets 2 class ++ number_octets 4 ttl ++ number_octets 2 4)
+    → get_or l 0 0 ∷ get_or l 1 0 ∷ get_or l 2 0 ∷ get_or l 3 0 ∷ get_or l 4 0 ∷ get_or l 5 0 ∷ get_or l 6 0 ∷ get_or l 7 0 ∷ get_or l 8 0 ∷ get_or l 9 0 ∷ get_or l 10 0 ∷ get_or l 11 0 ∷ a ∷ b ∷ c ∷ d ∷ []
+    ≡ (pointer_octets offset ++ (number_octets 2 rtype ++ number_octets 2 class ++ number_octets 4 ttl ++ number_octets 2 4)) ++ a ∷ b ∷ c ∷ d ∷ []
+unfolding number_octets
+pointed_address_is l offset rtype class ttl a b c d e = rw e refl
+
+-- a record whose owner is a pointer, with its data behind it
+pub pointed_written : (before new wire point rdata : List ℕ) (places : List Place) (r : PlainRecord) (owner : Name) (rtype class ttl : ℕ) → wire ≡ name_octets owner → IsName owner → owner ≡ r.owner → rtype ≡ r.rtype → class ≡ r.class → ttl ≡ r.ttl → compressed_octets places (labels_in wire) ≡ point
+    → new ≡ before ++ ((point ++ (number_octets 2 rtype ++ number_octets 2 class ++ number_octets 4 ttl ++ number_octets 2 (length rdata))) ++ rdata) → new ≡ (owner_written places before r ++ field_octets r (length rdata)) ++ rdata
+pointed_written before new wire point rdata places r owner rtype class ttl is name e t k s f h =
+    let fields = number_octets 2 rtype ++ number_octets 2 class ++ number_octets 4 ttl ++ number_octets 2 (length rdata) in
+    let fields_same : fields ≡ field_octets r (length rdata) = rw (t, k, s) refl in
+    h
+    ∙ sym (append_assoc before (point ++ fields) rdata)
+    ∙ ap (λ (l : List ℕ). l ++ rdata) (lead_pointed before (before ++ (point ++ fields)) fields wire point places r owner (length rdata) is name e f fields_same refl)

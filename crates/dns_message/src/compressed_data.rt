@@ -1,6 +1,6 @@
 //! Writes the data of a record with its names compressed.
 
-ghost use Rattle.std.specs.Prelude.{◌≡◌, ◌+◌, ◌-◌, ◌^◌, ◌<◌, ◌≤◌, List, ◌∷◌, ◌++◌, length, take, drop, option_copied, IfOk, OnOk};
+ghost use Rattle.std.specs.Prelude.{◌≡◌, ◌+◌, ◌-◌, ◌^◌, ◌<◌, ◌≤◌, List, [], ◌∷◌, ◌++◌, length, take, drop, option_copied, IfOk, OnOk};
 ghost use Rattle.packed_names.specs.Places.{pointer_octets};
 ghost use Rattle.dns_record.specs.Number.{number_octets};
 ghost use Rattle.dns_record.specs.Part.{HasParts};
@@ -16,6 +16,7 @@ use std::mem;
 
 /// Writes a record at the end of a message, its owner and the names in its data compressed. An `Err` leaves some of it behind what was
 /// written before.
+#[inline(always)]
 pub(crate) fn write_record<'n>(
     alloc: Global,
     out: &mut Octets,
@@ -91,11 +92,26 @@ fn write_lead<'n>(
         Some(offset) => {
             out.append(&pointed_fields(offset, rr.rtype(), rr.class(), rr.ttl(), len))
         }
-        None => {
-            places.write_octets(out, octets)?;
-            out.append(&fields(rr.rtype(), rr.class(), rr.ttl(), len))
-        }
+        None => write_named_lead(out, places, rr, len),
     }
+}
+
+// The same, where the owner may be any name.
+fn write_named_lead<'n>(
+    out: &mut Octets,
+    places: &mut Places<'n>,
+    rr: &RecordRef<'n>,
+    len: u16,
+) -> Result<(), AllocError>
+    ensures octets { OnOk result
+        (out.new ≡ owner_written places.old out.old rr.now ++ field_octets rr.now len) }
+    ensures places { OnOk result
+        (places.new ≡ places_behind_owner places.old out.old rr.now) }
+{
+    let owner = rr.owner();
+    let octets = owner.octets();
+    places.write_octets(out, octets)?;
+    out.append(&fields(rr.rtype(), rr.class(), rr.ttl(), len))
 }
 
 // A pointer to the owner, and the fields behind it.
@@ -135,6 +151,7 @@ fn fields(rtype: u16, class: u16, ttl: u32, len: u16) -> [u8; 10]
 }
 
 // Writes a record, these data as they are.
+#[inline(always)]
 fn write_plain<'n>(
     out: &mut Octets,
     places: &mut Places<'n>,
@@ -148,8 +165,67 @@ fn write_plain<'n>(
     ensures places { OnOk result
         (places.new ≡ places_behind_owner places.old out.old rr.now) }
 {
-    write_lead(out, places, rr, rdata.len() as u16)?;
+    let owner = rr.owner();
+    let octets = owner.octets();
+    match places.known(octets) {
+        Some(offset) => write_pointed(out, offset, rr.rtype(), rr.class(), rr.ttl(), rdata),
+        None => {
+            write_named_lead(out, places, rr, rdata.len() as u16)?;
+            out.append(rdata)
+        }
+    }
+}
+
+// Writes a pointer to the owner of a record, the fields behind it and these data. Those of an address of version 4 are written with
+// what stands before them.
+#[inline(always)]
+fn write_pointed(
+    out: &mut Octets,
+    offset: u16,
+    rtype: u16,
+    class: u16,
+    ttl: u32,
+    rdata: &[u8],
+) -> Result<(), AllocError>
+    requires near { offset < POINTED_PLACES }
+    requires short { length rdata.now < 2 ^ 16 }
+    ensures { OnOk result (out.new
+        ≡ out.old
+        ++ ((pointer_octets offset
+        ++ (number_octets 2 rtype ++ number_octets 2 class ++ number_octets 4 ttl
+        ++ number_octets 2 (length rdata.now)))
+        ++ rdata.now)) }
+{
+    if let [a, b, c, d] = rdata {
+        return out.append(&pointed_address(offset, rtype, class, ttl, *a, *b, *c, *d));
+    }
+    out.append(&pointed_fields(offset, rtype, class, ttl, rdata.len() as u16))?;
     out.append(rdata)
+}
+
+// A pointer to the owner, the fields behind it, and data of these four octets.
+fn pointed_address(
+    offset: u16,
+    rtype: u16,
+    class: u16,
+    ttl: u32,
+    a: u8,
+    b: u8,
+    c: u8,
+    d: u8,
+) -> [u8; 16]
+    requires { offset < POINTED_PLACES }
+    ensures { result
+        ≡ (pointer_octets offset
+        ++ (number_octets 2 rtype ++ number_octets 2 class ++ number_octets 4 ttl
+        ++ number_octets 2 4))
+        ++ a ∷ b ∷ c ∷ d ∷ [] }
+{
+    let lead = pointed_fields(offset, rtype, class, ttl, 4);
+    [
+        lead[0], lead[1], lead[2], lead[3], lead[4], lead[5], lead[6], lead[7], lead[8], lead[9],
+        lead[10], lead[11], a, b, c, d,
+    ]
 }
 
 // Writes a record, the names in these data compressed. How long the data are then is known behind them alone, so that their length is

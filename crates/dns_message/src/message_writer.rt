@@ -4,7 +4,7 @@ ghost use Rattle.std.specs.Prelude.{◌≡◌, ℕ, ◌≤◌, ◌∷◌, [], �
 ghost use Rattle.dns_message.specs.Aged.{aged};
 ghost use Rattle.dns_message.specs.Compressed.{compressed_within, question_places, with_record};
 ghost use Rattle.dns_message.specs.Progress.{draft, finished, writing_after, writing_of, writing_start};
-ghost use Rattle.dns_message.specs.Spelling.{opt_count, question_octets};
+ghost use Rattle.dns_message.specs.Spelling.{opt_count};
 
 use crate::compressed_data::write_record;
 use crate::edns::Edns;
@@ -13,7 +13,7 @@ use crate::limit::{GREATEST_LIMIT, LEAST_LIMIT};
 use crate::message::Message;
 use crate::question::Question;
 use crate::record_refs::RecordRefs;
-use crate::writing::{asked, finish_message, write_header};
+use crate::writing::{finish_message, write_start};
 use dns_name::Octets;
 use dns_record::{Record, RecordRef};
 use packed_names::Places;
@@ -55,6 +55,7 @@ impl<'n> MessageWriter<'n> {
     ///
     /// The key seeds a hash of the names' suffixes, and is to be unknown to those who send the names: see [`Places::new`].
     #[inline(always)]
+    #[tactic(auto, unfolding(crate::specs::Spelling::start_octets))]
     pub fn start(
         alloc: Global,
         key: u64,
@@ -73,21 +74,19 @@ impl<'n> MessageWriter<'n> {
             additionals) }
     {
         let mut octets = Octets::with_capacity(alloc, room.min(limit))?;
-        let mut places = Places::new(alloc, key);
-        write_header(
+        write_start(
             &mut octets,
             header,
-            usize::from(question.is_some()),
+            question,
             answers,
             authorities,
             additionals,
         )?;
-        write_first_question(&mut octets, &mut places, question)?;
         Ok(MessageWriter {
             alloc,
             limit,
             octets,
-            places,
+            places: first_places(alloc, key, question),
             is_beyond: false,
         })
     }
@@ -95,6 +94,14 @@ impl<'n> MessageWriter<'n> {
     /// Writes a record at the end of the message, its owner and the names in its data compressed. It belongs to the first section that
     /// lacks records. An `Err` leaves maybe a part of it behind what was written before, and the message is of no use.
     pub fn write(&mut self, rr: RecordRef<'n>) -> Result<(), AllocError>
+        ensures { OnOk result (self.new ≡ writing_after self.old (rr.entry ∷ [])) }
+    {
+        self.write_next(rr)
+    }
+
+    // The same. Where records are written one after another it is no call, so that none is copied.
+    #[inline(always)]
+    fn write_next(&mut self, rr: RecordRef<'n>) -> Result<(), AllocError>
         ensures { OnOk result (self.new ≡ writing_after self.old (rr.entry ∷ [])) }
     {
         if self.is_beyond {
@@ -123,7 +130,7 @@ impl<'n> MessageWriter<'n> {
         ensures { OnOk result (self.new ≡ writing_after self.old (map (aged seconds) records.entry)) }
     {
         for rr in records {
-            self.write_aged(&rr, seconds)?;
+            self.write_next(aged_ref(&rr, seconds))?;
         }
         Ok(())
     }
@@ -175,24 +182,17 @@ fn ended(
     Ok(out)
 }
 
-// Writes the question in full behind the header, where there is one. Its name is the first of the message.
-#[tactic(auto, unfolding(crate::specs::Spelling::question_octets))]
-fn write_first_question<'n>(
-    out: &mut Octets,
-    places: &mut Places<'n>,
-    question: Option<&'n Question>,
-) -> Result<(), AllocError>
-    requires header { length out.old ≡ 12 }
-    requires first { places.old ≡ [] }
-    ensures octets { OnOk result (out.new ≡ out.old ++ question_octets (option_copied question.entry)) }
-    ensures places { OnOk result (places.new ≡ question_places (option_copied question.entry)) }
+// How many octets the header takes (RFC 1035, section 4.1.1). The question's name stands behind it.
+const HEADER_OCTETS: u16 = 12;
+
+// The places of the question's name, which stands in full behind the header, where there is a question.
+#[inline(always)]
+fn first_places<'n>(alloc: Global, key: u64, question: Option<&'n Question>) -> Places<'n>
+    ensures { result ≡ question_places (option_copied question.entry) }
 {
     match question {
-        None => Ok(()),
-        Some(question) => {
-            places.write_full(out, &question.name)?;
-            out.append(&asked(question.qtype, question.qclass))
-        }
+        None => Places::new(alloc, key),
+        Some(question) => Places::of_name(alloc, key, &question.name, HEADER_OCTETS),
     }
 }
 
@@ -280,6 +280,7 @@ pub fn record_ref<'n>(rr: &'n Record) -> RecordRef<'n>
 }
 
 // A record that came so many seconds ago, where it lies.
+#[inline(always)]
 fn aged_ref<'n>(rr: &RecordRef<'n>, seconds: u32) -> RecordRef<'n>
     ensures { result ≡ aged seconds rr.now }
 {

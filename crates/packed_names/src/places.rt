@@ -63,6 +63,27 @@ impl<'n> Places<'n> {
         }
     }
 
+    /// The places of a name that stands in full at the offset, before all others, as the question's name. It takes no memory. The
+    /// key is that of [`Places::new`].
+    #[inline(always)]
+    pub fn of_name(alloc: Global, key: u64, name: &'n Name, start: u16) -> Self
+        ensures { result ≡ new_places_in_full [] start name.now }
+    {
+        let octets = name.octets();
+        let end = reach(usize::from(start), octets.len());
+        Places {
+            alloc,
+            key,
+            heads: Vec::new(alloc),
+            suffixes: Vec::new(alloc),
+            recent: RecentNames::of_one(RecentName {
+                octets,
+                start,
+                end: end as u16,
+            }),
+        }
+    }
+
     /// Forgets all places, and keeps their room.
     pub fn clear(&mut self)
         ensures { self.new ≡ [] }
@@ -109,6 +130,7 @@ impl<'n> Places<'n> {
 
     /// Writes a name that is given as it is written in full, as in the data of a record ([`split_name`](crate::split_name)),
     /// the way [`Places::write_name`] does.
+    #[inline(always)]
     pub fn write_octets(&mut self, out: &mut Octets, octets: &'n [u8]) -> Result<(), AllocError>
         requires { IsWire octets.now }
         ensures octets { OnOk result (out.new
@@ -121,6 +143,19 @@ impl<'n> Places<'n> {
         if octets.len() < 2 {
             return self.write_root(out);
         }
+        self.write_labels(out, octets)
+    }
+
+    // Writes a name that is given as it is written in full, compressed.
+    fn write_labels(&mut self, out: &mut Octets, octets: &'n [u8]) -> Result<(), AllocError>
+        requires { IsWire octets.now }
+        ensures octets { OnOk result (out.new
+            ≡ out.old ++ compressed_octets self.old (labels_in octets.now)) }
+        ensures places { OnOk result (self.new
+            ≡ self.old ++ new_places self.old (length out.old) (labels_in octets.now)) }
+        ensures same { OnErr result (out.new ≡ out.old) }
+        ensures none { OnErr result (self.new ≡ []) }
+    {
         let start = out.len();
         match write_compressed(
             self.alloc,
@@ -188,6 +223,7 @@ impl<'n> Places<'n> {
 }
 
 // The offset of a whole name, if it is the first of the table or, without a table, of the recent names.
+#[inline(always)]
 fn known_offset<'n>(
     key: u64,
     heads: &[u16],

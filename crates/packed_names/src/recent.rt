@@ -56,6 +56,16 @@ impl<'n> RecentNames<'n> {
         }
     }
 
+    /// This name alone.
+    #[inline(always)]
+    pub(crate) fn of_one(name: RecentName<'n>) -> Self
+        ensures { result ≡ name.entry ∷ [] }
+    {
+        let mut names = RecentNames::new();
+        names.push(name);
+        names
+    }
+
     /// The names.
     #[inline(always)]
     pub(crate) fn as_slice(&self) -> &[RecentName<'n>]
@@ -158,6 +168,7 @@ fn offset_among<'n>(names: &[RecentName<'n>], octets: &[u8]) -> Option<u16>
 }
 
 /// The offset of a whole name, if it is the first of the names. `None` says nothing.
+#[inline(always)]
 pub(crate) fn offset_if_first<'n>(names: &[RecentName<'n>], octets: &[u8]) -> Option<u16>
     requires names { AllByRecursion IsRecentName names.now }
     requires wire { IsWire octets.now }

@@ -1,5 +1,5 @@
 use Rattle.dns_message.proofs.ProgressSteps.{beyond_more, record_written}
-use Rattle.dns_message.proofs.message_writer.MessageWriter.write.Goals as goal
+use Rattle.dns_message.proofs.message_writer.MessageWriter.write_next.Goals as goal
 
 pub returns-then-self : goal.returns-then-self
 returns-then-self c = beyond_more c.self.inside.limit c.self.inside.octets c.self.inside.places c.self.inside.is_beyond c.args.self.now c.args.rr c.self.view_is c.if-self.true
