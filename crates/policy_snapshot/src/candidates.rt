@@ -126,14 +126,14 @@ fn for_addresses(summary: &PrefixSummary, addresses: &[Addr]) -> Zones
 }
 
 // The zones that may have a rule whose pattern matches the name.
-fn matching(summary: &NameSummary, name: &LookupName<'_>) -> Zones
+fn matching(summary: &NameSummary, name: &LookupName) -> Zones
     ensures { (n : ℕ) → has_zone result n ≡ may_match summary.now n name.now }
 {
     matching_from::<Brand>(Blank::new(1), summary, name)
 }
 
 // The same with a new ledger for the count of steps.
-fn matching_from<L: Ledger>(blank: Blank, summary: &NameSummary, name: &LookupName<'_>) -> Zones
+fn matching_from<L: Ledger>(blank: Blank, summary: &NameSummary, name: &LookupName) -> Zones
     requires name { blank.name ≡ L.name }
     requires parts { blank.parts ≡ L.parts }
     requires some { 0 < blank.parts }

@@ -19,7 +19,7 @@ ghost use Rattle.policy_snapshot.specs.Stands.{policy_in};
 
 use crate::candidates::{a_zone_that_is_no_candidate_has_no_hit, candidates};
 use crate::laws::nothing_unasked_could_matter;
-use crate::overriding::ruled_hit;
+use crate::overriding::{hit_under_override, ruled_hit};
 use crate::questions::{is_known, unknown_address, unknown_owner};
 use crate::sight::Sight;
 use crate::snapshot::Snapshot;
@@ -63,14 +63,13 @@ impl Snapshot {
         case_does_not_matter();
         // called for its clause: the rows of the zones are rows
         let _zones = self.zones();
-        let lower = name.lower(alloc)?;
         let servers = self.servers_for_rules(alloc, facts, name)?;
         let addresses = self.addresses_for_rules(alloc, facts, &servers)?;
         let sight = Sight {
             position,
             client: query.client,
             name,
-            lower: &LookupName::of(&lower),
+            lower: &LookupName::of_lower(name),
             records: facts.records(&query.question.name, query.question.qtype),
             servers: servers.as_slice(),
             addresses: addresses.as_slice(),
@@ -229,8 +228,22 @@ impl Snapshot {
         }
     }
 
-    // The best hit of the first zone that has one.
+    // The best hit of the first zone that has one. Of one zone alone the summaries would tell no more than it does.
+    #[inline(always)]
     fn first_hit(&self, sight: &Sight<'_>) -> Option<Hit<'_>>
+        requires name { sight.now.lower.now ≡ lowered sight.now.name.now }
+        requires servers { All AreInOrder (map (λ list. list.now) sight.now.servers.now) }
+        ensures { option_map hit_seen result
+            ≡ form.zones_hit self.now.overrides 1 (sight_seen sight.now) self.now.zones }
+    {
+        match self.zones() {
+            [zone] => hit_under_override(self.overrides(), 1, zone, sight),
+            _ => self.first_candidate_hit(sight),
+        }
+    }
+
+    // The same by the summaries: zones that are no candidates aren't looked at.
+    fn first_candidate_hit(&self, sight: &Sight<'_>) -> Option<Hit<'_>>
         requires name { sight.now.lower.now ≡ lowered sight.now.name.now }
         requires servers { All AreInOrder (map (λ list. list.now) sight.now.servers.now) }
         ensures { option_map hit_seen result

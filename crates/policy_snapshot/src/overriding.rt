@@ -40,9 +40,27 @@ pub(crate) fn ruled_hit<'a>(
     ensures { option_map hit_seen result
         ≡ form.ruled_hit overrides.now number (sight_seen sight.now) zone.now }
 {
-    if !candidates.has(number) {
-        return None;
+    if candidates.has(number) {
+        hit_under_override(overrides, number, zone, sight)
+    } else {
+        None
     }
+}
+
+/// The same, whether the zone is a candidate or not. It isn't looked at where it is disabled.
+pub(crate) fn hit_under_override<'a>(
+    overrides: &'a Overrides,
+    number: u32,
+    zone: &'a Zone,
+    sight: &Sight<'_>,
+) -> Option<Hit<'a>>
+    requires some { 1 ≤ number }
+    requires within { number ≤ ZONE_LIMIT }
+    requires name { sight.now.lower.now ≡ lowered sight.now.name.now }
+    requires servers { All AreInOrder (map (λ list. list.now) sight.now.servers.now) }
+    ensures { option_map hit_seen result
+        ≡ form.ruled_hit overrides.now number (sight_seen sight.now) zone.now }
+{
     let over = overrides.at(number);
     if !over.is_ruling() {
         return None;

@@ -14,7 +14,7 @@ pub(crate) struct Sight<'a> {
     /// The name at the position.
     pub(crate) name: &'a Name,
     /// That name in lower case, as rules are looked up by it.
-    pub(crate) lower: &'a LookupName<'a>,
+    pub(crate) lower: &'a LookupName,
     /// The records of the answer to the query.
     pub(crate) records: RecordRefs<'a>,
     /// The servers of the name.

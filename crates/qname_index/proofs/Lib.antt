@@ -14,3 +14,4 @@ pub mod Listed
 pub mod Written
 pub mod Filled
 pub mod Comparing
+pub mod Lowering

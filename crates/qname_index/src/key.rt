@@ -1,7 +1,8 @@
 //! The octets by which a name stands in a trie.
 
-ghost use Rattle.std.specs.Prelude.{◌≡◌, ◌+◌, ◌≤◌, ◌++◌, length};
-ghost use Rattle.dns_name.specs.Labels.{IsName, label_octets, name_octets};
+ghost use Rattle.std.specs.Prelude.{◌≡◌, ◌+◌, ◌≤◌, ◌++◌, length, map};
+ghost use Rattle.std.specs.Char.{to_ascii_lowercase};
+ghost use Rattle.dns_name.specs.Labels.{IsName, label_octets, lowered, name_octets};
 ghost use Rattle.qname_index.specs.Key.{name_key};
 ghost use Rattle.qname_index.specs.Patterns.{name_in};
 
@@ -32,9 +33,11 @@ impl Model for Key {
 
 impl Key {
     /// The key of a name. It takes no memory.
+    #[inline(always)]
     pub fn of(name: &Name) -> Key
         ensures key { result ≡ name_key name.now }
         ensures short { length (name_key name.now) ≤ 254 }
+        ensures name { IsName name.now }
     {
         let mut key = Key {
             octets: [0; ROOM],
@@ -44,6 +47,17 @@ impl Key {
         while let Some(label) = labels.next_label() {
             key.put_before(label);
         }
+        key
+    }
+
+    /// The key of the name in lower case. It takes no memory.
+    #[inline(always)]
+    pub fn of_lower(name: &Name) -> Key
+        ensures key { result ≡ name_key (lowered name.now) }
+        ensures short { length (name_key (lowered name.now)) ≤ 254 }
+    {
+        let mut key = Key::of(name);
+        key.make_lower();
         key
     }
 
@@ -64,6 +78,14 @@ impl Key {
             rest = behind;
         }
         written
+    }
+
+    // Puts all octets in lower case.
+    #[inline(always)]
+    fn make_lower(&mut self)
+        ensures { self.new ≡ map to_ascii_lowercase self.old }
+    {
+        self.octets[self.start..].make_ascii_lowercase();
     }
 
     // Puts a label behind its length in front.

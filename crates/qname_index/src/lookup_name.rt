@@ -8,43 +8,42 @@ use crate::key::Key;
 use dns_name::Name;
 use std::marker::Model;
 
-/// A name in lower case with the octets by which tries look it up, so that these are made once for many look-ups. Contracts see the
+/// A name in lower case, as the octets by which tries look it up, so that these are made once for many look-ups. Contracts see the
 /// name. It lies on the stack.
 #[derive(Drop)]
-pub struct LookupName<'n> {
-    name: &'n Name,
+pub struct LookupName {
     key: Key,
 }
 
-impl<'n> Model for LookupName<'n> {
+impl Model for LookupName {
     ghost use Rattle.dns_name.specs.Labels.{Name};
     ghost use Rattle.qname_index.specs.Lookup.{IsLookup};
+    ghost use Rattle.qname_index.specs.Patterns.{name_in};
 
     ghost Value = { Name };
 
-    ghost view = { λ l. l.name.now };
+    ghost view = { λ l. name_in l.key };
 
-    ghost invariant = { λ l. IsLookup l.name.now l.key };
+    ghost invariant = { λ l. IsLookup (name_in l.key) l.key };
 }
 
-impl<'n> LookupName<'n> {
-    /// The name, which is in lower case ([`Name::lower`]), with its octets. It takes no memory.
-    pub fn of(name: &'n Name) -> Self
+impl LookupName {
+    /// The name, which is in lower case ([`Name::lower`]). It takes no memory.
+    pub fn of(name: &Name) -> Self
         requires { lowered name.now ≡ name.now }
         ensures { result ≡ name.now }
     {
-        LookupName {
-            name,
-            key: Key::of(name),
-        }
+        LookupName { key: Key::of(name) }
     }
 
-    /// The name.
-    pub fn name(&self) -> &'n Name
-        ensures same { result.now ≡ self.now }
-        ensures lower { lowered self.now ≡ self.now }
+    /// The name in lower case, however it is written. It takes no memory.
+    #[inline(always)]
+    pub fn of_lower(name: &Name) -> Self
+        ensures { result ≡ lowered name.now }
     {
-        self.name
+        LookupName {
+            key: Key::of_lower(name),
+        }
     }
 
     // The octets by which it is looked up.

@@ -163,7 +163,7 @@ impl<N: Copy + Drop, M: Mark> NameTrie<N, M> {
     /// one of the longest base. It takes no memory, and looks at no more than 256 nodes.
     pub fn best<L: Ledger>(
         &self,
-        name: &LookupName<'_>,
+        name: &LookupName,
         steps: &mut Steps<L>,
     ) -> Option<Found<'_, N, M>>
         ensures found { option_map found_pattern result ≡ best_acting M.acts name.now self.now }
@@ -203,7 +203,7 @@ impl<N: Copy + Drop, M: Mark> NameTrie<N, M> {
 
 impl<N: NumberSet, M: Mark> NameTrie<N, M> {
     /// The union of the sets at all patterns that match the name. It takes no memory, and looks at no more than 256 nodes.
-    pub fn joined<L: Ledger>(&self, name: &LookupName<'_>, steps: &mut Steps<L>) -> N
+    pub fn joined<L: Ledger>(&self, name: &LookupName, steps: &mut Steps<L>) -> N
         ensures found { (n : ℕ) → N.has result n
             ≡ list_any (λ e. matches e.0 name.now && N.has e.1.value n) self.now }
         ensures cost { steps.new ≤ steps.old + 256 }

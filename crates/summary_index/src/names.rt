@@ -112,7 +112,7 @@ impl NameSummary {
 
     /// The zones that have a rule whose pattern matches the name; where the kind isn't listed, those that have rules of it. It takes no
     /// memory, and looks at no more than 256 nodes.
-    pub fn zones_for_name<L: Ledger>(&self, name: &LookupName<'_>, steps: &mut Steps<L>) -> Zones
+    pub fn zones_for_name<L: Ledger>(&self, name: &LookupName, steps: &mut Steps<L>) -> Zones
         ensures zones { (n : ℕ) → has_zone result n ≡ may_fit (λ p. matches p name.now) self.now n }
         ensures cost { steps.new ≤ steps.old + 256 }
     {

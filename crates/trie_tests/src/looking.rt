@@ -13,11 +13,7 @@ use std::marker::Brand;
 use std::sync::ledger::{Blank, Ledger};
 use trie_keys::Steps;
 
-fn name_from<L: Ledger>(
-    blank: Blank,
-    trie: &NameTrie<u32, Sign>,
-    name: &LookupName<'_>,
-) -> Option<u32>
+fn name_from<L: Ledger>(blank: Blank, trie: &NameTrie<u32, Sign>, name: &LookupName) -> Option<u32>
     requires name { blank.name ≡ L.name }
     requires parts { blank.parts ≡ L.parts }
     requires some { 0 < blank.parts }
@@ -39,7 +35,7 @@ pub fn of_name(trie: &NameTrie<u32, Sign>, name: &Name) -> Option<u32>
 fn joined_name_from<L: Ledger>(
     blank: Blank,
     trie: &NameTrie<Numbers, Sign>,
-    name: &LookupName<'_>,
+    name: &LookupName,
 ) -> Numbers
     requires name { blank.name ≡ L.name }
     requires parts { blank.parts ≡ L.parts }

@@ -34,7 +34,7 @@ pub(crate) fn longest<'a>(
 pub(crate) fn best<'a>(
     groups: &'a SharedTable<Held<Group>>,
     patterns: &'a Patterns,
-    name: &LookupName<'_>,
+    name: &LookupName,
 ) -> Option<(PatternRef<'a>, EntryRef<'a>)>
     requires { AreWell groups.now patterns.now }
     ensures { option_map (λ e. (e.0, entry_seen e.1)) result

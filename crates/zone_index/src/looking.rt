@@ -66,7 +66,7 @@ impl IndexedRows {
     }
 
     /// The rule that comes first of those about a query for the name.
-    pub(crate) fn qname(&self, name: &LookupName<'_>) -> Option<(PatternRef<'_>, ActionRef<'_>)>
+    pub(crate) fn qname(&self, name: &LookupName) -> Option<(PatternRef<'_>, ActionRef<'_>)>
         ensures { option_map (λ e. (e.0, action_seen e.1)) result
             ≡ best name.now (rules_in self.now).qname }
     {
@@ -90,7 +90,7 @@ impl IndexedRows {
     }
 
     /// The rule that comes first of those about a name server of this name.
-    pub(crate) fn nsdname(&self, name: &LookupName<'_>) -> Option<(PatternRef<'_>, ActionRef<'_>)>
+    pub(crate) fn nsdname(&self, name: &LookupName) -> Option<(PatternRef<'_>, ActionRef<'_>)>
         ensures { option_map (λ e. (e.0, action_seen e.1)) result
             ≡ best name.now (rules_in self.now).nsdname }
     {

@@ -147,7 +147,7 @@ impl Patterns {
     }
 
     // The first entry in order of precedence whose pattern matches the name, of those that act.
-    pub(crate) fn best(&self, name: &LookupName<'_>) -> Option<Found<'_, u32, Kept>>
+    pub(crate) fn best(&self, name: &LookupName) -> Option<Found<'_, u32, Kept>>
         ensures { option_map found_pattern result ≡ best_acting kept_acts name.now self.now }
     {
         best_from::<Brand>(Blank::new(1), &self.trie, name)
@@ -158,7 +158,7 @@ impl Patterns {
 fn best_from<'a, L: Ledger>(
     blank: Blank,
     trie: &'a NameTrie<u32, Kept>,
-    name: &LookupName<'_>,
+    name: &LookupName,
 ) -> Option<Found<'a, u32, Kept>>
     requires name { blank.name ≡ L.name }
     requires parts { blank.parts ≡ L.parts }

@@ -67,7 +67,7 @@ impl<'a> Rules<'a> {
     }
 
     /// The rule that comes first of those about a query for the name.
-    pub fn qname(&self, name: &LookupName<'_>) -> Option<(PatternRef<'a>, ActionRef<'a>)>
+    pub fn qname(&self, name: &LookupName) -> Option<(PatternRef<'a>, ActionRef<'a>)>
         ensures { option_map (λ e. (e.0, action_seen e.1)) result ≡ best name.now self.now.qname }
     {
         self.rows.qname(name)
@@ -87,7 +87,7 @@ impl<'a> Rules<'a> {
     }
 
     /// The rule that comes first of those about a name server of this name.
-    pub fn nsdname(&self, name: &LookupName<'_>) -> Option<(PatternRef<'a>, ActionRef<'a>)>
+    pub fn nsdname(&self, name: &LookupName) -> Option<(PatternRef<'a>, ActionRef<'a>)>
         ensures { option_map (λ e. (e.0, action_seen e.1)) result ≡ best name.now self.now.nsdname }
     {
         self.rows.nsdname(name)

@@ -238,7 +238,7 @@ impl TriggerIndex {
     }
 
     /// The rule that comes first of those about a query for the name.
-    pub fn qname(&self, name: &LookupName<'_>) -> Option<(PatternRef<'_>, EntryRef<'_>)>
+    pub fn qname(&self, name: &LookupName) -> Option<(PatternRef<'_>, EntryRef<'_>)>
         ensures { option_map (λ e. (e.0, entry_seen e.1)) result
             ≡ best_rule name.now self.now.rules.qname }
     {
@@ -254,7 +254,7 @@ impl TriggerIndex {
     }
 
     /// The rule that comes first of those about a name server of this name.
-    pub fn nsdname(&self, name: &LookupName<'_>) -> Option<(PatternRef<'_>, EntryRef<'_>)>
+    pub fn nsdname(&self, name: &LookupName) -> Option<(PatternRef<'_>, EntryRef<'_>)>
         ensures { option_map (λ e. (e.0, entry_seen e.1)) result
             ≡ best_rule name.now self.now.rules.nsdname }
     {

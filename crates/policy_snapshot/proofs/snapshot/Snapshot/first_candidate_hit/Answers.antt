@@ -4,7 +4,7 @@ use Rattle.policy_snapshot.specs.Lookup.{ruled_hit, zones_hit}
 use Rattle.policy_snapshot.specs.Sight.{sight_seen}
 use Rattle.policy_snapshot.proofs.CandidateLoops.{none_hit, passed_here}
 use Rattle.policy_snapshot.proofs.HitLoops.{hit_here, hit_later, hit_nowhere}
-use Rattle.policy_snapshot.proofs.snapshot.Snapshot.first_hit.Goals as goal
+use Rattle.policy_snapshot.proofs.snapshot.Snapshot.first_candidate_hit.Goals as goal
 
 pub loop-zone-init : goal.loop-zone-init
 loop-zone-init c = record { count = refl; same = refl }
