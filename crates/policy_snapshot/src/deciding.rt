@@ -44,6 +44,7 @@ impl Snapshot {
     /// time is that of some look-ups in what is known of all zones together, and in each zone up to that of the hit that may have
     /// one; where some zone has rules about name servers, also that of looking at the known NS records of the name and those above
     /// it, and at the addresses of their targets.
+    #[inline(always)]
     pub fn best(
         &self,
         alloc: Global,
@@ -79,6 +80,7 @@ impl Snapshot {
 
     /// The question that must be asked at a position of the chain of aliases, where this name stands, before it is known which
     /// rule decides there; `hit` is the best hit there by what is known. `None` where nothing that isn't known could matter.
+    #[inline(always)]
     pub fn pending(
         &self,
         alloc: Global,
@@ -102,6 +104,7 @@ impl Snapshot {
     }
 
     // The question of `pending`.
+    #[inline(always)]
     fn next_question(
         &self,
         alloc: Global,

@@ -20,6 +20,7 @@ use zone_index::{Rules, Zone};
 
 /// The best hit among the rules of a zone of this number. Its time is that of some look-ups, linear in the number of
 /// records, servers and addresses where the zone has rules about them.
+#[inline(always)]
 pub(crate) fn zone_hit<'a>(number: u32, zone: &'a Zone, sight: &Sight<'_>) -> Option<Hit<'a>>
     requires name { sight.now.lower.now ≡ lowered sight.now.name.now }
     requires servers { All AreInOrder (map (λ list. list.now) sight.now.servers.now) }
@@ -32,6 +33,7 @@ pub(crate) fn zone_hit<'a>(number: u32, zone: &'a Zone, sight: &Sight<'_>) -> Op
 }
 
 // The best hit among rules.
+#[inline(always)]
 fn rules_hit<'a>(
     number: u32,
     soa: &'a Record,

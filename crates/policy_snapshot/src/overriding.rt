@@ -48,6 +48,7 @@ pub(crate) fn ruled_hit<'a>(
 }
 
 /// The same, whether the zone is a candidate or not. It isn't looked at where it is disabled.
+#[inline(always)]
 pub(crate) fn hit_under_override<'a>(
     overrides: &'a Overrides,
     number: u32,
@@ -72,6 +73,7 @@ pub(crate) fn hit_under_override<'a>(
 }
 
 // The hit with the action that the override puts into the place of its own.
+#[inline(always)]
 fn overridden<'a>(over: &'a Override, hit: Hit<'a>) -> Hit<'a>
     ensures { hit_seen result ≡ form.hit_under over.now (hit_seen hit.entry) }
 {

@@ -83,6 +83,7 @@ impl Session {
     }
 
     // What is done at this point, and whether the query passes its own name.
+    #[inline(always)]
     fn next_turn(&self) -> Result<(Turn, bool), AllocError>
         ensures turn { IfOk result (λ turn. turn.0 ≡ turn_of self.now) }
         ensures passes { IfOk result

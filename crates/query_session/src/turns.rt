@@ -22,6 +22,7 @@ use upstream_link::{FACT_LIMIT, Fact, Facts, chain, main_question};
 
 /// What is done about a query, and whether it passes its own name: nothing is hit there, and nothing is pending. Where it is known
 /// to, the rules aren't looked at for that name.
+#[inline(always)]
 pub(crate) fn turn_about(
     alloc: Global,
     key: u64,
@@ -43,6 +44,7 @@ pub(crate) fn turn_about(
 }
 
 // A question is asked while there is room for one fact more.
+#[inline(always)]
 fn limited(
     alloc: Global,
     key: u64,
@@ -67,6 +69,7 @@ fn limited(
 }
 
 // What is done about a query, however many facts are known, and whether it passes its own name.
+#[inline(always)]
 fn unlimited_turn(
     alloc: Global,
     key: u64,
