@@ -19,6 +19,8 @@ run meanwhile.
 """
 
 import argparse
+import collections
+import itertools
 import os
 import pathlib
 import re
@@ -38,16 +40,19 @@ REFUSED = 5
 HITS, PASSES = 1_000, 4_000
 CONNECTIONS = 100
 KEPT_CHANGES = 200
+KEPT_ADDED = 100
 # what memory may grow by behind the first tenth of the time: a part of it, or so much
 GROWS_PART, GROWS_BYTES = 0.02, 1 << 20
 
 
 class ChangingPrimary(peers.Primary):
-    """A primary that answers IXFR (RFC 1995) out of its last changes: each adds a rule and takes out an older one."""
+    """A primary that answers IXFR (RFC 1995) out of its last changes: each adds a rule and takes out an older one. What a change or its
+    transfer costs depends on that change alone: `rules` stays as it is, and `added` has the names that changes added, oldest first."""
 
     def __init__(self, port, rules):
         self.lock = threading.Lock()
-        self.steps = {}
+        self.added = collections.deque()
+        self.steps = {}  # the records of the step from a serial to the next
         self.whole = self.in_steps = 0
         super().__init__(port, rules)
 
@@ -65,33 +70,37 @@ class ChangingPrimary(peers.Primary):
                     connection.sendall(message)
                 return
         with self.lock:
-            serial, rules = self.serial, list(self.rules)
+            serial, added = self.serial, list(self.added)
         self.whole += 1
-        for message in wire.transfer(request, peers.ZONE, serial, rules):
+        for message in wire.transfer(request, peers.ZONE, serial, itertools.chain(self.rules, added)):
             connection.sendall(message)
 
     def records_from(self, ours):
         """The records of the steps from a serial on; None where they aren't kept any more."""
-        newest = wire.record(peers.ZONE, wire.SOA, wire.soa_data(self.serial))
+        newest = soa(self.serial)
         if ours == self.serial:
             return [newest]
         if any(serial not in self.steps for serial in range(ours, self.serial)):
             return None
-        records = [newest]
-        for serial in range(ours, self.serial):
-            gone, come = self.steps[serial]
-            records += [wire.record(peers.ZONE, wire.SOA, wire.soa_data(serial)), *map(wire.rule, gone)]
-            records += [wire.record(peers.ZONE, wire.SOA, wire.soa_data(serial + 1)), *map(wire.rule, come)]
-        return [*records, newest]
+        steps = (self.steps[serial] for serial in range(ours, self.serial))
+        return [newest, *itertools.chain.from_iterable(steps), newest]
 
     def next_change(self):
         with self.lock:
-            come, gone = f"new{self.serial}.example", f"new{self.serial - 100}.example"
-            gone = [gone] if gone in self.rules else []
-            self.rules = [rule for rule in self.rules if rule not in gone] + [come]
-            self.steps[self.serial] = ([f"{rule}.{peers.ZONE}" for rule in gone], [f"{come}.{peers.ZONE}"])
+            come = f"new{self.serial}.example"
+            gone = [self.added.popleft()] if len(self.added) == KEPT_ADDED else []
+            self.added.append(come)
+            self.steps[self.serial] = [soa(self.serial), *map(row, gone), soa(self.serial + 1), row(come)]
             self.steps.pop(self.serial - KEPT_CHANGES, None)
             self.serial += 1
+
+
+def soa(serial):
+    return wire.record(peers.ZONE, wire.SOA, wire.soa_data(serial))
+
+
+def row(name):
+    return wire.rule(f"{name}.{peers.ZONE}")
 
 
 def write_files(folder, upstream, hits):
