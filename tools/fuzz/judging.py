@@ -3,7 +3,9 @@
 `fault_of` takes a request and its reply. It asks dnspython, a reader of messages by others, for a second reading. Three things that may
 stand in a reply dnspython refuses, though the standard doesn't; they are changed in a copy before it reads that, and counted:
 
-- `opcode`: an opcode that dnspython has no name for (RFC 6895, section 2.2) becomes 0; the reply is a header alone.
+- `opcode`: an opcode that dnspython has no name for (RFC 6895, section 2.2) becomes 0, and so does that of an update, whose question
+  dnspython takes only as a zone of type SOA (RFC 2136, section 2.3). The reply is a header alone or, to a client that may not ask, a
+  header and the question.
 - `data TYPEn`: the data of a record that passes as octets (RFC 3597, section 3), of a type and class whose form dnspython knows and this
   data doesn't have. The record gets the type 65280, which has no form (RFC 6895, section 3.1). Never of a type that `rpz` reads itself:
   A and AAAA of class IN, NS, MD, MF, CNAME, SOA, MB, MG, MR, PTR, MINFO, MX, SRV and DNAME.
@@ -26,6 +28,7 @@ TSIG = 250
 PLACED = (TYPES["OPT"], TSIG)
 RCODES = {reading.NOERROR, reading.SERVFAIL, reading.NXDOMAIN}
 Z_BITS = 0x0070
+READ_OPCODES = set(dns.opcode.Opcode) - {dns.opcode.UPDATE}
 
 
 class Wrong(Exception):
@@ -110,7 +113,7 @@ def judge_elsewhere(reply, message, figures):
 def elsewhere(reply, message, figures):
     """The reply as dnspython reads it."""
     copy = bytearray(reply)
-    if message.opcode() not in set(dns.opcode.Opcode):
+    if message.opcode() not in READ_OPCODES:
         copy[2] &= 0x87
         figures.count("exempt", "opcode")
     try:
