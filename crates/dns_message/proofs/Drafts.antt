@@ -103,7 +103,7 @@ data_places before between known places parts rdata r e f = f ∙ ap (λ (n : �
 
 -- ---- a record behind what is written
 
-record_is : (before between new : List ℕ) (places known last : List Place) (r : PlainRecord) (name : Name) → name ≡ r.owner → between ≡ before ++ compressed_octets places name → known ≡ places ++ new_places places (length before) name
+pub record_is : (before between new : List ℕ) (places known last : List Place) (r : PlainRecord) (name : Name) → name ≡ r.owner → between ≡ before ++ compressed_octets places name → known ≡ places ++ new_places places (length before) name
     → (let written = data_by (compressed_layout r.rtype r.class) known (length between + 10) r.rdata in new ≡ (between ++ field_octets r (length written.octets)) ++ written.octets → last ≡ written.places → draft new last ≡ with_record (draft before places) r)
 unfolding with_record
 record_is before between new places known last r name owner e f g h =

@@ -22,3 +22,4 @@ pub mod Drafts
 pub mod Fronts
 pub mod ProgressSteps
 pub mod Outside
+pub mod AlikeLemmas

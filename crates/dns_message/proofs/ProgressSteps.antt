@@ -22,12 +22,12 @@ unfolding progress_after
 progress_append limit p [] b = refl
 progress_append limit p (r ∷ a) b = progress_append limit (progress_with limit p r) a b
 
-abbrev writing : ℕ → Progress → Writing
+abbrev pub writing : ℕ → Progress → Writing
 writing limit p = record { limit = limit; progress = p }
 
 -- ---- the end
 
-beyond_stays : (limit : ℕ) (rs : List PlainRecord) → progress_after limit beyond rs ≡ beyond
+pub beyond_stays : (limit : ℕ) (rs : List PlainRecord) → progress_after limit beyond rs ≡ beyond
 unfolding progress_after
 beyond_stays limit [] = refl
 beyond_stays limit (r ∷ rs) = beyond_stays limit rs

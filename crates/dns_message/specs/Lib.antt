@@ -10,3 +10,4 @@ pub mod Aged
 pub mod Written
 pub mod Compressed
 pub mod Progress
+pub mod Alike

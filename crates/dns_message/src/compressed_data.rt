@@ -53,8 +53,8 @@ fn compressed_layout(rtype: u16, class: u16) -> Option<&'static [Part]>
     layout(rtype, class)
 }
 
-// The types whose data have names that are compressed.
-fn has_compressed_names(rtype: u16) -> bool
+/// The types whose data have names that are compressed.
+pub(crate) fn has_compressed_names(rtype: u16) -> bool
     ensures { result ≡ form.has_compressed_names rtype }
 {
     matches!(
@@ -176,10 +176,10 @@ fn write_plain<'n>(
     }
 }
 
-// Writes a pointer to the owner of a record, the fields behind it and these data. Those of an address of version 4 are written with
-// what stands before them.
+/// Writes a pointer to the owner of a record, the fields behind it and these data. Those of an address of version 4 are written with
+/// what stands before them.
 #[inline(always)]
-fn write_pointed(
+pub(crate) fn write_pointed(
     out: &mut Octets,
     offset: u16,
     rtype: u16,

@@ -2,6 +2,7 @@
 //! compressed; and the triage of requests.
 #![tactic(auto)]
 
+mod alike_records;
 mod compressed_data;
 mod edns;
 mod fault;

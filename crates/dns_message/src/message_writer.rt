@@ -6,6 +6,7 @@ ghost use Rattle.dns_message.specs.Compressed.{compressed_within, question_place
 ghost use Rattle.dns_message.specs.Progress.{draft, finished, writing_after, writing_of, writing_start};
 ghost use Rattle.dns_message.specs.Spelling.{opt_count};
 
+use crate::alike_records::{known_owner, write_alike};
 use crate::compressed_data::write_record;
 use crate::edns::Edns;
 use crate::header::Header;
@@ -121,12 +122,34 @@ impl<'n> MessageWriter<'n> {
         self.write(aged_ref(rr, seconds))
     }
 
-    /// Writes records that came so many seconds ago, one after another.
+    /// Writes records that came so many seconds ago, one after another. Where they are known to have one owner, it is looked up once.
     pub fn write_all_aged(
         &mut self,
         records: RecordRefs<'n>,
         seconds: u32,
     ) -> Result<(), AllocError>
+        ensures { OnOk result (self.new ≡ writing_after self.old (map (aged seconds) records.entry)) }
+    {
+        if self.is_beyond {
+            return Ok(());
+        }
+        match known_owner(&self.places, &records) {
+            Some(offset) => {
+                self.is_beyond = write_alike(
+                    &mut self.octets,
+                    self.limit,
+                    offset,
+                    records,
+                    seconds,
+                )?;
+                Ok(())
+            }
+            None => self.write_each_aged(records, seconds),
+        }
+    }
+
+    // The same, each record by itself.
+    fn write_each_aged(&mut self, records: RecordRefs<'n>, seconds: u32) -> Result<(), AllocError>
         ensures { OnOk result (self.new ≡ writing_after self.old (map (aged seconds) records.entry)) }
     {
         for rr in records {

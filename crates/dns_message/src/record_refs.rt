@@ -1,7 +1,9 @@
 //! Records that lie in octets of others, one after another.
 
-ghost use Rattle.std.specs.Prelude.{◌≡◌, [], ◌+◌, ◌≤◌, length, drop};
-ghost use Rattle.std.specs.List.{flat_map};
+ghost use Rattle.std.specs.Prelude.{◌≡◌, [], ◌+◌, ◌-◌, ◌≤◌, true, length, take, drop, IfSome};
+ghost use Rattle.std.specs.List.{AllByRecursion, flat_map};
+ghost use Rattle.dns_name.specs.Wire.{IsWire, labels_in};
+ghost use Rattle.dns_message.specs.Alike.{AreAlike, IsAlike};
 ghost use Rattle.dns_message.specs.Written.{AreWritten, BeginsRecord, first_in, lasting_octets, records_in};
 
 use dns_record::RecordRef;
@@ -24,35 +26,44 @@ pub struct RecordRefs<'a> {
     // All records one after another, but for their TTLs.
     octets: &'a [u8],
     spans: &'a [RecordSpan],
+    // The records have one owner, and no names in their data are compressed.
+    is_alike: bool,
 }
 
 impl<'a> Model for RecordRefs<'a> {
-    ghost use Rattle.std.specs.Prelude.{List};
+    ghost use Rattle.std.specs.Prelude.{◌≡◌, List, true};
     ghost use Rattle.dns_record.specs.Record.{PlainRecord};
+    ghost use Rattle.dns_message.specs.Alike.{AreAlike};
     ghost use Rattle.dns_message.specs.Written.{AreWritten, records_in};
 
     ghost Value = { List PlainRecord };
 
     ghost view = { λ r. records_in r.octets.now r.spans.now };
 
-    ghost invariant = { λ r. AreWritten r.octets.now r.spans.now
-        (records_in r.octets.now r.spans.now) };
+    ghost invariant = { λ r. AreWritten r.octets.now r.spans.now (records_in r.octets.now r.spans.now)
+        × (r.is_alike ≡ true → AreAlike (records_in r.octets.now r.spans.now)) };
 }
 
 impl<'a> RecordRefs<'a> {
-    /// The records that are written so.
-    pub(crate) fn new(octets: &'a [u8], spans: &'a [RecordSpan]) -> Self
-        requires { AreWritten octets.now spans.now (records_in octets.now spans.now) }
+    /// The records that are written so, and whether it is known that they have one owner, and no names in their data that are
+    /// compressed.
+    pub(crate) fn new(octets: &'a [u8], spans: &'a [RecordSpan], is_alike: bool) -> Self
+        requires written { AreWritten octets.now spans.now (records_in octets.now spans.now) }
+        requires alike { is_alike ≡ true → AreAlike (records_in octets.now spans.now) }
         ensures { result ≡ records_in octets.now spans.now }
     {
-        RecordRefs { octets, spans }
+        RecordRefs {
+            octets,
+            spans,
+            is_alike,
+        }
     }
 
     /// No records.
     pub fn none() -> Self
         ensures { result ≡ [] }
     {
-        RecordRefs::new(&[], &[])
+        RecordRefs::new(&[], &[], false)
     }
 
     /// The same records once more, from the first one that is left.
@@ -62,6 +73,7 @@ impl<'a> RecordRefs<'a> {
         RecordRefs {
             octets: self.octets,
             spans: self.spans,
+            is_alike: self.is_alike,
         }
     }
 
@@ -78,6 +90,19 @@ impl<'a> RecordRefs<'a> {
     {
         self.octets.len()
     }
+
+    /// The owner of the first record, where it is known that all have it, and no names in their data that are compressed.
+    pub(crate) fn alike_owner(&self) -> Option<&'a [u8]>
+        ensures wire { IfSome result (λ owner. IsWire owner.now) }
+        ensures alike { IfSome result
+            (λ owner. AllByRecursion (IsAlike (labels_in owner.now)) self.now) }
+    {
+        if !self.is_alike {
+            return None;
+        }
+        let (span, _others) = self.spans.split_first()?;
+        Some(first_owner(self.octets, span))
+    }
 }
 
 impl<'a> Iterator for RecordRefs<'a> {
@@ -89,6 +114,7 @@ impl<'a> Iterator for RecordRefs<'a> {
 
     ghost remaining = { item_count (λ s. s) };
 
+    #[inline(always)]
     fn next(&mut self) -> Option<RecordRef<'a>> {
         let (span, spans) = self.spans.split_first()?;
         let record = first_record(self.octets, span);
@@ -99,6 +125,7 @@ impl<'a> Iterator for RecordRefs<'a> {
 }
 
 // The record that these octets begin with.
+#[inline(always)]
 #[tactic(auto, using(crate::proofs::InPlace::data_at))]
 fn first_record<'a>(octets: &'a [u8], span: &RecordSpan) -> RecordRef<'a>
     requires { BeginsRecord octets.now span.now }
@@ -115,7 +142,17 @@ fn first_record<'a>(octets: &'a [u8], span: &RecordSpan) -> RecordRef<'a>
     )
 }
 
+// The owner of the record that these octets begin with.
+fn first_owner<'a>(octets: &'a [u8], span: &RecordSpan) -> &'a [u8]
+    requires { BeginsRecord octets.now span.now }
+    ensures owner { result.now ≡ take (span.now.front - 4) octets.now }
+    ensures wire { IsWire result.now }
+{
+    &octets[..usize::from(span.front) - 4]
+}
+
 // What stands behind the record that these octets begin with.
+#[inline(always)]
 fn behind<'a>(octets: &'a [u8], span: &RecordSpan) -> &'a [u8]
     requires { span.now.front + span.now.back ≤ length octets.now }
     ensures { result.now ≡ drop (span.now.front + span.now.back) octets.now }

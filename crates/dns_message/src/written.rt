@@ -4,6 +4,7 @@ ghost use Rattle.std.specs.Prelude.{◌≡◌, [], ◌∷◌, ◌++◌, ◌+◌,
 ghost use Rattle.dns_record.specs.Record.{IsRecord};
 ghost use Rattle.dns_message.specs.Written.{lasting_octets, span_of};
 
+use crate::alike_records::are_alike;
 use crate::record_refs::{RecordRefs, RecordSpan};
 use dns_name::Octets;
 use dns_record::Record;
@@ -18,19 +19,22 @@ pub struct WrittenRecords {
     // All records one after another, but for their TTLs.
     octets: Octets,
     spans: Vec<RecordSpan>,
+    // The records have one owner, and no names in their data are compressed.
+    is_alike: bool,
 }
 
 impl Model for WrittenRecords {
-    ghost use Rattle.std.specs.Prelude.{List};
+    ghost use Rattle.std.specs.Prelude.{◌≡◌, List, true};
     ghost use Rattle.dns_record.specs.Record.{PlainRecord};
+    ghost use Rattle.dns_message.specs.Alike.{AreAlike};
     ghost use Rattle.dns_message.specs.Written.{AreWritten, records_in};
 
     ghost Value = { List PlainRecord };
 
     ghost view = { λ w. records_in w.octets w.spans.items };
 
-    ghost invariant = { λ w. AreWritten w.octets w.spans.items
-        (records_in w.octets w.spans.items) };
+    ghost invariant = { λ w. AreWritten w.octets w.spans.items (records_in w.octets w.spans.items)
+        × (w.is_alike ≡ true → AreAlike (records_in w.octets w.spans.items)) };
 }
 
 impl WrittenRecords {
@@ -43,14 +47,18 @@ impl WrittenRecords {
         for rr in records {
             push_record(&mut octets, &mut spans, rr)?;
         }
-        Ok(WrittenRecords { octets, spans })
+        Ok(WrittenRecords {
+            octets,
+            spans,
+            is_alike: are_alike(records),
+        })
     }
 
     /// The records, where they lie.
     pub fn records(&self) -> RecordRefs<'_>
         ensures { result ≡ self.now }
     {
-        RecordRefs::new(self.octets.as_slice(), self.spans.as_slice())
+        RecordRefs::new(self.octets.as_slice(), self.spans.as_slice(), self.is_alike)
     }
 }
 

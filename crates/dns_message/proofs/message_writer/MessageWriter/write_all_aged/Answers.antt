@@ -1,11 +1,7 @@
-use Rattle.std.proofs.Common.{ap, ◌∙◌, [], ◌∷◌}
-use Rattle.dns_record.specs.Record.{PlainRecord}
-use Rattle.dns_message.specs.Progress.{writing_after}
-use Rattle.dns_message.proofs.ProgressSteps.{aged_done, aged_more}
+use Rattle.std.proofs.Common.{map}
+use Rattle.dns_message.specs.Aged.{aged}
+use Rattle.dns_message.proofs.AlikeLemmas.{beyond_all}
 use Rattle.dns_message.proofs.message_writer.MessageWriter.write_all_aged.Goals as goal
 
-pub loop-rr-preserved : goal.loop-rr-preserved
-loop-rr-preserved c = (tt, tt, aged_more c.args.seconds c.loop-rr.self c.write_next.new.self _ c.in-Some.rr c.loop-rr.rr-iterator c.next.new.self c.in-Some.ensures.steps (c.in_ok-write_next.ensures ∙ ap (λ (r : PlainRecord). writing_after c.loop-rr.self (r ∷ [])) c.aged_ref.ensures) c.loop-rr.invariant.2)
-
-pub returns : goal.returns
-returns c = aged_done c.args.seconds c.loop-rr.self _ c.loop-rr.rr-iterator c.in-None.ensures.steps.0 c.loop-rr.invariant.2
+pub returns-then-self : goal.returns-then-self
+returns-then-self c = beyond_all c.self.inside.limit c.self.inside.octets c.self.inside.places c.self.inside.is_beyond c.args.self.now (map (aged c.args.seconds) c.args.records) c.self.view_is c.if-self.true

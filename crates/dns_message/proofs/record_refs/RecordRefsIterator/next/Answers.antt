@@ -1,17 +1,20 @@
 use Rattle.std.proofs.Common.{List, length, sym, ap, ◌∙◌, rules}
 use Rattle.dns_record.specs.Record.{PlainRecord}
+use Rattle.dns_message.proofs.AlikeLemmas.{others_alike}
 use Rattle.dns_message.proofs.InPlace.{first_at, one_less}
 use Rattle.dns_message.proofs.record_refs.RecordRefsIterator.next.Goals as goal
 
 pub first_record-record-requires : goal.first_record-record-requires
-first_record-record-requires c = (first_at c.self.inside.octets.now c.self.inside.spans.now c.in_ok-span.span.now c.in_ok-span.spans.now c.in_ok-span.ensures.cases.0 c.self.invariant).begins
+first_record-record-requires c = (first_at c.self.inside.octets.now c.self.inside.spans.now c.in_ok-span.span.now c.in_ok-span.spans.now c.in_ok-span.ensures.cases.0 c.self.invariant.0).begins
 
 pub behind-self-inside-requires : goal.behind-self-inside-requires
-behind-self-inside-requires c = (first_at c.self.inside.octets.now c.self.inside.spans.now c.in_ok-span.span.now c.in_ok-span.spans.now c.in_ok-span.ensures.cases.0 c.self.invariant).begins.room
+behind-self-inside-requires c = (first_at c.self.inside.octets.now c.self.inside.spans.now c.in_ok-span.span.now c.in_ok-span.spans.now c.in_ok-span.ensures.cases.0 c.self.invariant.0).begins.room
 
 pub invariant_of-self : goal.invariant_of-self
-invariant_of-self c =
-    rw c.behind-self-inside.ensures (first_at c.self.inside.octets.now c.self.inside.spans.now c.in_ok-span.span.now c.in_ok-span.spans.now c.in_ok-span.ensures.cases.0 c.self.invariant).others
+invariant_of-self c = (
+  rw c.behind-self-inside.ensures (first_at c.self.inside.octets.now c.self.inside.spans.now c.in_ok-span.span.now c.in_ok-span.spans.now c.in_ok-span.ensures.cases.0 c.self.invariant.0).others,
+  λ t. others_alike c.self.inside.octets.now c.self.inside.spans.now c.in_ok-span.span.now c.in_ok-span.spans.now c.behind-self-inside.result.now c.in_ok-span.ensures.cases.0 c.behind-self-inside.ensures (c.self.invariant.1 t),
+)
 
 pub returns-clause-steps : goal.returns-clause-steps
 returns-clause-steps c =

@@ -1,7 +1,7 @@
 use Rattle.std.proofs.Common.{◌≡◌, map}
 use Rattle.dns_message.specs.Aged.{aged}
 use Rattle.dns_message.specs.Progress.{writing_after}
-use Rattle.dns_message.proofs.message_writer.MessageWriter.write_all_aged.Given as goal
+use Rattle.dns_message.proofs.message_writer.MessageWriter.write_each_aged.Given as goal
 
 abbrev pub invariant-loop-rr : goal.invariant-loop-rr
 invariant-loop-rr l =
