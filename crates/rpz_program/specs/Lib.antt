@@ -6,6 +6,7 @@ pub mod Status
 pub mod ServedLine
 pub mod Turns
 pub mod Serving
+pub mod Starting
 pub mod Turning
 pub mod Sums
 pub mod Loading

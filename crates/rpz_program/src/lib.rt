@@ -2,7 +2,10 @@
 //! sink and memory.
 #![tactic(auto)]
 
+mod answerers;
 mod answering;
+mod answering_workers;
+mod askers;
 mod feeds;
 mod holding;
 pub mod laws;
@@ -22,7 +25,9 @@ mod showing;
 mod stage;
 mod starting;
 pub mod status;
+mod streamers;
 mod sums;
+mod tasks;
 mod turning;
 
 pub use feeds::STREAM_WORKERS;

@@ -3,11 +3,11 @@
 ghost use Rattle.std.specs.Prelude.{◌≤◌};
 ghost use Rattle.rpz_words.specs.declared.settings.TheConstants.{LEAST_CACHE, MOST_CACHE};
 
-use answer_cache::{SHARDS, SharedCache};
+use answer_cache::{SHARDS, Shared, SharedCache};
 use edge_io::Link;
 use std::alloc::{AllocError, Global};
 use std::hash::RandomState;
-use std::sync::Arc;
+use std::sync::{Arc, Wait};
 
 /// The cache that all workers of a server share.
 pub type ServerCache<L> = Arc<SharedCache<L>, Global>;
@@ -23,4 +23,12 @@ pub(crate) fn open_cache<L: Link>(
 {
     let cache = SharedCache::open(alloc, (entries / SHARDS) as usize, hashers)?;
     Ok(Arc::new(alloc, cache)?)
+}
+
+/// A hold on the cache that all workers share.
+pub(crate) fn hold<L: Link, R: Wait + Copy + Drop>(
+    rt: &R,
+    cache: &ServerCache<L>,
+) -> Result<Shared<R, L>, AllocError> {
+    Ok(Shared::new(*rt, Arc::try_clone(cache)?))
 }
