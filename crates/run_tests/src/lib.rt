@@ -21,4 +21,6 @@ mod replays;
 #[cfg(test)]
 mod runs;
 #[cfg(test)]
+mod sockets;
+#[cfg(test)]
 mod versions;

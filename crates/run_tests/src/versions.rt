@@ -1,17 +1,10 @@
 //! A server of both versions of IP, with its primary and its upstream on version 6, and of version 4 alone the clients that may ask.
 
 use crate::asserts::assert_same;
-use crate::cases::{CURRENT, DENIAL, DENIED, NEVER, NOTIFIED, NOTIFY, TRANSFER};
-use crate::runs::run_line;
-use rpz_net::NetWires;
-use rpz_program::status::Status;
-use std::alloc::Global;
+use crate::cases::{CURRENT, DENIAL, DENIED, NOTIFIED, NOTIFY, TRANSFER};
+use crate::sockets::{assert_serves, gets_over_tcp, send_zone};
 use std::io::{Read, Write};
 use std::net::{IpAddr, Ipv4Addr, Ipv6Addr, Net, SocketAddr, TcpListener, TcpStream, UdpSocket};
-use std::process::Abort;
-use std::random::RandomSource;
-use std::sync::Wait;
-use std::thread::Threads;
 use std::time::{Clock, Duration};
 use std::{io, thread};
 
@@ -50,15 +43,6 @@ impl Version {
     }
 }
 
-// The primary sends this to the next that asks for its zone.
-fn send_zone(primary: &TcpListener, transfer: &[u8]) -> io::Result<()> {
-    let (mut stream, _) = primary.accept()?;
-    let (mut length, mut request) = ([0; 2], [0; 255]);
-    stream.read_exact(&mut length)?;
-    stream.read_exact(&mut request[..usize::from(length[1])])?;
-    stream.write_all(transfer)
-}
-
 // The upstream answers the next question, without records.
 fn answer_question(upstream: &TcpListener) -> io::Result<()> {
     let (mut stream, _) = upstream.accept()?;
@@ -82,21 +66,6 @@ fn gets(client: &UdpSocket, version: Version, reply: &[u8]) -> io::Result<bool> 
     let mut bytes = [0; 512];
     let (len, from) = client.recv_from(&mut bytes)?;
     Ok(from == version.at(29174) && &bytes[..len] == reply)
-}
-
-// Whether `DENIED` gets this reply over TCP, both behind their lengths.
-fn gets_over_tcp<R: Net<Stream = TcpStream>>(
-    rt: &R,
-    to: SocketAddr,
-    reply: &[u8],
-) -> io::Result<bool> {
-    let mut client = rt.connect(to)?;
-    client.write_all(&[0, (DENIED.len() % 256) as u8])?;
-    client.write_all(DENIED)?;
-    let mut bytes = [0; 512];
-    let framed = (2 + reply.len()).min(bytes.len());
-    client.read_exact(&mut bytes[..framed])?;
-    Ok(usize::from(bytes[1]) == reply.len() && &bytes[2..framed] == reply)
 }
 
 // Whether a query gets this reply over either transport.
@@ -136,36 +105,17 @@ fn outside<R: Net<Listener = TcpListener, Stream = TcpStream> + Clock>(
     Ok([is_answered, is_refused, is_heard, has_passed, goes_on])
 }
 
-fn serve_and_ask<
-    R: Net<Listener = TcpListener, Stream = TcpStream>
-        + Threads
-        + Wait
-        + Abort
-        + Clock
-        + RandomSource
-        + Copy
-        + Drop
-        + Send
-        + Sync
-        + 'static,
->(rt: R, alloc: Global, primary: &TcpListener) {
-    let upstream = rt.bind(Version::V6.at(29175)).expect(&rt, "no error");
-    let mut wires = NetWires::new(rt, alloc);
-    let (asked, served) = thread::join(
-        &rt,
-        || outside(&rt, primary, &upstream),
-        || run_line(rt, alloc, LINE, &mut wires, NEVER, NEVER),
-    );
-    let (status, written) = served;
-    assert_same(&rt, status, Status::Done);
-    assert_same(&rt, written.as_slice(), WRITTEN);
-    assert_same(&rt, asked.expect(&rt, "no error"), [true; 5]);
-}
-
 // Nothing is shown where the host has no version 6 on its loopback.
 #[test]
 fn a_server_of_both_versions_answers_whom_it_may(rt: HostRuntime) {
-    if let Ok(primary) = rt.bind(Version::V6.at(29176)) {
-        serve_and_ask(rt, rt.alloc(), &primary);
-    }
+    let Ok(primary) = rt.bind(Version::V6.at(29176)) else {
+        return;
+    };
+    let upstream = rt.bind(Version::V6.at(29175)).expect(&rt, "no error");
+    let (asked, ()) = thread::join(
+        &rt,
+        || outside(&rt, &primary, &upstream),
+        || assert_serves(rt, rt.alloc(), LINE, WRITTEN),
+    );
+    assert_same(&rt, asked.expect(&rt, "no error"), [true; 5]);
 }
