@@ -1,6 +1,8 @@
 //! Networks as text: an address and a length.
 
-ghost use Rattle.std.specs.Prelude.{◌≡◌};
+ghost use Rattle.std.specs.Prelude.{◌≡◌, IfOk, IfSome};
+ghost use Rattle.ip_prefix.specs.Bits.{IsAddr};
+ghost use Rattle.allow_list.specs.Network.{IsNetworkOfAddresses};
 ghost use Rattle.address_text.specs.NetworkText.{text_address, length_of, network_text};
 
 use crate::decimal::read_decimal;
@@ -43,7 +45,8 @@ impl From<NetworkFault> for NetworkTextFault {
 /// one (RFC 4291, section 2.5.5.2).
 #[tactic(auto, unfolding(crate::specs::NetworkText::network_text))]
 pub fn read_network(text: &[u8]) -> Result<Network, NetworkTextFault>
-    ensures { result ≡ network_text text.now }
+    ensures value { result ≡ network_text text.now }
+    ensures of_addresses { IfOk result IsNetworkOfAddresses }
 {
     let Some((addr, length)) = split_first(text, b'/') else {
         return Err(NetworkTextFault::Form);
@@ -56,7 +59,8 @@ pub fn read_network(text: &[u8]) -> Result<Network, NetworkTextFault>
 /// The address that a text writes: with a colon one of version 6, as [`read_v6`] reads it, else one of version 4, as
 /// [`read_v4`] does.
 pub fn read_address(text: &[u8]) -> Option<Addr>
-    ensures { result ≡ text_address text.now }
+    ensures value { result ≡ text_address text.now }
+    ensures bits { IfSome result IsAddr }
 {
     if has_byte(text, b':') {
         return Some(Addr::V6(read_v6(text)?));
