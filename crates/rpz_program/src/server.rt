@@ -57,8 +57,9 @@ fn reader_count(settings: &Settings) -> usize
 
 /// Serves as the settings say: opens the cache that the workers share, opens the endpoints, at once or once the zones were loaded, orders
 /// all zones, starts the workers, takes one wake after another, and writes the line that sums up what became of the arrivals. Where the
-/// cache finds no memory, nothing was bound yet. A client outside the list of who may ask gets REFUSED, and is looked up nowhere. However it ends, the workers that were started are stopped and gathered first. `hashers` makes the hash of the cache:
-/// where strangers pick the questions, one with a random seed.
+/// cache finds no memory, nothing was bound yet. A client outside the list of who may ask gets REFUSED, and is looked up nowhere. However
+/// it ends, the workers that were started are stopped and gathered first. `hashers` makes the hash of the cache: where strangers pick the
+/// questions, one with a random seed.
 pub fn serve<
     W: Wires,
     P: Spawner<Report>,
