@@ -3,12 +3,12 @@ use Rattle.std.proofs.Common.{◌≡◌, ℕ, zero, suc, ◌+◌, ◌-◌, ◌<�
 use Rattle.std.proofs.lemmas.List.{map_push, take_all, take_more, take-take, take-append-drop, drop-drop, drop_all, drop_more, get_or-take, length-take-le}
 use Rattle.std.specs.BTreeMap.{insert_entry}
 use Rattle.std.specs.List.{AllByRecursion}
-use Rattle.octet_trie.specs.Copies.{stands_all, AreAll, IsKeyAt}
-use Rattle.octet_trie.specs.Edits.{IsCommon, GoesOn}
+use Rattle.octet_trie.specs.Copies.{stands_all, IsKeyAt}
+use Rattle.octet_trie.specs.Edits.{IsCommon}
 use Rattle.octet_trie.specs.ListKeys.{octet_keys, symbols, entry_key}
 use Rattle.octet_trie.specs.Listed.{AllBeginWith, AreInOrder, AreListed, AreShort, HasOctetAt, entries_from}
 use Rattle.octet_trie.specs.Made.{some_count, with_own, IsMade, IsKidMade, AreKidsMade}
-use Rattle.octet_trie.specs.Nodes.{PlainNode, Sub, Stored, name_of, key_of, kids_of, joined, list_of, stands, IsKid, AreKids, IsNode, Extends}
+use Rattle.octet_trie.specs.Nodes.{PlainNode, Sub, Stored, name_of, kids_of, joined, list_of, stands, AreKids, IsNode, Extends}
 use Rattle.octet_trie.specs.Plain.{plain}
 use Rattle.octet_trie.specs.Trie.{IsTrie, found_entry}
 use Rattle.octet_trie.specs.declared.node.Node.{Node}

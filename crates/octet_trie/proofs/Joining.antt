@@ -15,11 +15,6 @@ any_chained result below own after before whole e f w = e ∙ ap (λ b. below ||
 pub any_settled : (result own before whole : Bool) → result ≡ (own || before) → whole ≡ own → result ≡ (whole || before)
 any_settled result own before whole e w = e ∙ ap (λ b. b || before) (sym w)
 
--- behind nothing
-any_alone : (result whole before : Bool) → result ≡ (whole || before) → before ≡ false → result ≡ whole
-any_alone result true before e f = e
-any_alone result false before e f = e ∙ f
-
 if_some : {X : Type 0} (b : Bool) (x : X) → is_some (cond b (Some x) None) ≡ b
 if_some true x = refl
 if_some false x = refl
@@ -28,9 +23,8 @@ module _ {V : Type 0} (passes : V → Bool) where
   abbrev any : List ℕ → List (List ℕ × V) → Bool
   any octets es = list_any (λ e. fits octets e.0 && passes e.1) es
 
-  -- at the root, where nothing was found before
-  pub any_in : (octets : List ℕ) (es entries : List (List ℕ × V)) (result before : Bool) → result ≡ (any octets es || before) → before ≡ false → es ≡ entries → result ≡ any octets entries
-  any_in octets es entries result before e none view = any_alone result (any octets es) before e none ∙ ap (any octets) view
+  pub any_in : (octets : List ℕ) (es entries : List (List ℕ × V)) (result : Bool) → result ≡ any octets es → es ≡ entries → result ≡ any octets entries
+  any_in octets es entries result e view = e ∙ ap (any octets) view
 
   some_acting : (key : List ℕ) (v : Option V) → is_some (acting passes key v) ≡ some_passes passes v
   some_acting key None = refl

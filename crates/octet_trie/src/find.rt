@@ -37,38 +37,18 @@ pub(crate) fn find_kid<N: Copy + Drop, M: Mark>(
         (λ place. KidAt (kids_of store.now.subs (plain M.present node.now)) symbol place)
         (λ place. GapAt (kids_of store.now.subs (plain M.present node.now)) symbol place) }
 {
-    find_between(store, node, symbol, 0, u32::from(node.count))
-}
-
-// The same, where those before one place have smaller symbols, and those from another on have greater ones.
-fn find_between<N: Copy + Drop, M: Mark>(
-    store: &Store<N, M>,
-    node: &Node<N, M>,
-    symbol: u8,
-    low: u32,
-    high: u32,
-) -> Result<u32, u32>
-    requires node { IsNode store.now (plain M.present node.now) }
-    requires order { low ≤ high }
-    requires within { high ≤ node.now.count }
-    requires below { AllByRecursion (λ k. k.symbol < symbol)
-        (take low (kids_of store.now.subs (plain M.present node.now))) }
-    requires above { AllByRecursion (λ k. symbol < k.symbol)
-        (drop high (kids_of store.now.subs (plain M.present node.now))) }
-    ensures { MatchResult result
-        (λ place. KidAt (kids_of store.now.subs (plain M.present node.now)) symbol place)
-        (λ place. GapAt (kids_of store.now.subs (plain M.present node.now)) symbol place) }
-{
-    if low >= high {
-        return Err(low);
+    let mut low = 0;
+    let mut high = u32::from(node.count);
+    while low < high {
+        let middle = low + (high - low) / 2;
+        let kid = store.kid(node, middle);
+        if kid.symbol < symbol {
+            low = middle + 1;
+        } else if kid.symbol > symbol {
+            high = middle;
+        } else {
+            return Ok(middle);
+        }
     }
-    let middle = low + (high - low) / 2;
-    let kid = store.kid(node, middle);
-    if kid.symbol < symbol {
-        find_between(store, node, symbol, middle + 1, high)
-    } else if kid.symbol > symbol {
-        find_between(store, node, symbol, low, middle)
-    } else {
-        Ok(middle)
-    }
+    Err(low)
 }

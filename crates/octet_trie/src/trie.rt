@@ -279,7 +279,7 @@ impl<N: Copy + Drop, M: Mark> OctetTrie<N, M> {
         ensures cost { steps.new ≤ steps.old + 256 }
         ensures ordered { AreEntries octet_keys self.now }
     {
-        match walk::best(&self.store, &self.root, octets, 0, None, steps) {
+        match walk::best(&self.store, &self.root, octets, steps) {
             Some(hit) => Some(OctetFound {
                 key: self.store.read(hit.key, hit.len),
                 wild: hit.wild,
@@ -307,6 +307,6 @@ impl<N: NumberSet, M: Mark> OctetTrie<N, M> {
             ≡ list_any (λ e. fits octets.now e.0 && N.has e.1.value n) self.now }
         ensures cost { steps.new ≤ steps.old + 256 }
     {
-        walk::joined(&self.store, &self.root, octets, 0, N::none(), steps)
+        walk::joined(&self.store, &self.root, octets, steps)
     }
 }

@@ -86,44 +86,38 @@ fn own_or<N: Copy + Drop, M: Mark>(
     }
 }
 
-// The last entry that acts and answers the question for the octets, among those for which the node stands, or else what was
-// found before.
+// The last entry that acts and answers the question for the octets, among those for which the node stands.
 pub(crate) fn best<N: Copy + Drop, M: Mark, L: Ledger>(
     store: &Store<N, M>,
-    node: &Node<N, M>,
+    root: &Node<N, M>,
     octets: &[u8],
-    from: usize,
-    found: Option<Hit<N, M>>,
     steps: &mut Steps<L>,
 ) -> Option<Hit<N, M>>
-    requires node { IsNode store.now (plain M.present node.now) }
-    requires here { from ≤ node.now.len }
-    requires there { from ≤ length octets.now }
-    requires same { take from (name_of store.now.octets (plain M.present node.now)) ≡ take from
-        octets.now }
-    requires whole { IfSome found (λ h. StandsWhole store.now.octets h.key h.len) }
-    ensures found { option_map (entry_of store.now.octets) result ≡ option_else
-        (last_where (λ e. fits octets.now e.0 && M.acts e.1.mark)
-        (stands store.now (plain M.present node.now)).list)
-        (option_map (entry_of store.now.octets) found) }
+    requires node { IsNode store.now (plain M.present root.now) }
+    ensures found { option_map (entry_of store.now.octets) result
+        ≡ last_where (λ e. fits octets.now e.0 && M.acts e.1.mark)
+        (stands store.now (plain M.present root.now)).list }
     ensures whole { IfSome result (λ h. StandsWhole store.now.octets h.key h.len) }
-    ensures cost { steps.new + node.now.len ≤ steps.old + 255 }
+    ensures cost { steps.new + root.now.len ≤ steps.old + 255 }
 {
-    steps.tick();
-    let same = common(store.name(node), octets, from);
-    if same < node.len as usize {
-        found
-    } else if same < octets.len() {
-        let found = own_or(store, node, true, found);
-        match find_kid(store, node, octets[same]) {
-            Ok(place) => {
-                let kid = store.kid(node, place);
-                best(store, &kid, octets, same + 1, found, steps)
-            }
-            Err(_) => found,
+    let mut node = *root;
+    let mut from = 0;
+    let mut found = None;
+    loop {
+        steps.tick();
+        let same = common(store.name(&node), octets, from);
+        if same < node.len as usize {
+            return found;
         }
-    } else {
-        own_or(store, node, false, found)
+        if same >= octets.len() {
+            return own_or(store, &node, false, found);
+        }
+        found = own_or(store, &node, true, found);
+        let Ok(place) = find_kid(store, &node, octets[same]) else {
+            return found;
+        };
+        node = store.kid(&node, place);
+        from = same + 1;
     }
 }
 
@@ -139,40 +133,36 @@ fn own_and<N: NumberSet, M: Mark>(node: &Node<N, M>, wild: bool, found: N) -> N
     }
 }
 
-// The union of the sets of all entries that answer the question for the octets, among those for which the node stands, and of what
-// was found before.
+// The union of the sets of all entries that answer the question for the octets, among those for which the node stands.
 pub(crate) fn joined<N: NumberSet, M: Mark, L: Ledger>(
     store: &Store<N, M>,
-    node: &Node<N, M>,
+    root: &Node<N, M>,
     octets: &[u8],
-    from: usize,
-    found: N,
     steps: &mut Steps<L>,
 ) -> N
-    requires node { IsNode store.now (plain M.present node.now) }
-    requires here { from ≤ node.now.len }
-    requires there { from ≤ length octets.now }
-    requires same { take from (name_of store.now.octets (plain M.present node.now)) ≡ take from
-        octets.now }
+    requires node { IsNode store.now (plain M.present root.now) }
     ensures found { (n : ℕ) → N.has result n
-        ≡ (list_any (λ e. fits octets.now e.0 && N.has e.1.value n)
-        (stands store.now (plain M.present node.now)).list || N.has found n) }
-    ensures cost { steps.new + node.now.len ≤ steps.old + 255 }
+        ≡ list_any (λ e. fits octets.now e.0 && N.has e.1.value n)
+        (stands store.now (plain M.present root.now)).list }
+    ensures cost { steps.new + root.now.len ≤ steps.old + 255 }
 {
-    steps.tick();
-    let same = common(store.name(node), octets, from);
-    if same < node.len as usize {
-        found
-    } else if same < octets.len() {
-        let found = own_and(node, true, found);
-        match find_kid(store, node, octets[same]) {
-            Ok(place) => {
-                let kid = store.kid(node, place);
-                joined(store, &kid, octets, same + 1, found, steps)
-            }
-            Err(_) => found,
+    let mut node = *root;
+    let mut from = 0;
+    let mut found = N::none();
+    loop {
+        steps.tick();
+        let same = common(store.name(&node), octets, from);
+        if same < node.len as usize {
+            return found;
         }
-    } else {
-        own_and(node, false, found)
+        if same >= octets.len() {
+            return own_and(&node, false, found);
+        }
+        found = own_and(&node, true, found);
+        let Ok(place) = find_kid(store, &node, octets[same]) else {
+            return found;
+        };
+        node = store.kid(&node, place);
+        from = same + 1;
     }
 }

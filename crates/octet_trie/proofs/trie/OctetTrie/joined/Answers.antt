@@ -3,4 +3,4 @@ use Rattle.octet_trie.proofs.trie.OctetTrie.joined.Goals as goal
 
 pub returns-clause-found : goal.returns-clause-found
 returns-clause-found g c = λ n.
-    any_in (λ v. g.N.NumberSet.has v.value n) c.args.octets.now _ _ _ _ (c.joined.ensures.found n) (c.none.ensures n) c.self.view_is
+    any_in (λ v. g.N.NumberSet.has v.value n) c.args.octets.now _ _ _ (c.joined.ensures.found n) c.self.view_is

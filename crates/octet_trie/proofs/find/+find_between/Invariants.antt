@@ -1,5 +1,0 @@
-use Rattle.std.proofs.Common.{◌-◌}
-use Rattle.octet_trie.proofs.find.+find_between.Given as goal
-
-abbrev pub decreases-find_between : goal.decreases-find_between
-decreases-find_between g l = l.high - l.low
