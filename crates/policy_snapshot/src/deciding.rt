@@ -66,11 +66,13 @@ impl Snapshot {
         let _zones = self.zones();
         let servers = self.servers_for_rules(alloc, facts, name)?;
         let addresses = self.addresses_for_rules(alloc, facts, &servers)?;
+        let mut lower = LookupName::root();
+        lower.set_lower(name);
         let sight = Sight {
             position,
             client: query.client,
             name,
-            lower: &LookupName::of_lower(name),
+            lower: &lower,
             records: facts.records(&query.question.name, query.question.qtype),
             servers: servers.as_slice(),
             addresses: addresses.as_slice(),

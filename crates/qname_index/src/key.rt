@@ -1,6 +1,6 @@
 //! The octets by which a name stands in a trie.
 
-ghost use Rattle.std.specs.Prelude.{◌≡◌, ◌+◌, ◌≤◌, ◌++◌, length, map};
+ghost use Rattle.std.specs.Prelude.{◌≡◌, [], ◌+◌, ◌≤◌, ◌++◌, length, map};
 ghost use Rattle.std.specs.Char.{to_ascii_lowercase};
 ghost use Rattle.dns_name.specs.Labels.{IsName, label_octets, lowered, name_octets};
 ghost use Rattle.qname_index.specs.Key.{name_key};
@@ -39,26 +39,51 @@ impl Key {
         ensures short { length (name_key name.now) ≤ 254 }
         ensures name { IsName name.now }
     {
-        let mut key = Key {
-            octets: [0; ROOM],
-            start: ROOM,
-        };
-        let mut labels = name.labels();
-        while let Some(label) = labels.next_label() {
-            key.put_before(label);
-        }
+        let mut key = Key::root();
+        key.put(name);
         key
     }
 
-    /// The key of the name in lower case. It takes no memory.
+    // The key of the root, which has no octets. It takes no memory.
     #[inline(always)]
-    pub fn of_lower(name: &Name) -> Key
-        ensures key { result ≡ name_key (lowered name.now) }
+    pub(crate) fn root() -> Key
+        ensures { result ≡ [] }
+    {
+        Key {
+            octets: [0; ROOM],
+            start: ROOM,
+        }
+    }
+
+    // Makes it the key of the root.
+    fn clear(&mut self)
+        ensures { self.new ≡ [] }
+    {
+        self.start = ROOM;
+    }
+
+    // Makes it the key of a name.
+    #[inline(always)]
+    fn put(&mut self, name: &Name)
+        ensures key { self.new ≡ name_key name.now }
+        ensures short { length (name_key name.now) ≤ 254 }
+        ensures name { IsName name.now }
+    {
+        self.clear();
+        let mut labels = name.labels();
+        while let Some(label) = labels.next_label() {
+            self.put_before(label);
+        }
+    }
+
+    // Makes it the key of the name in lower case.
+    #[inline(always)]
+    pub(crate) fn put_lower(&mut self, name: &Name)
+        ensures key { self.new ≡ name_key (lowered name.now) }
         ensures short { length (name_key (lowered name.now)) ≤ 254 }
     {
-        let mut key = Key::of(name);
-        key.make_lower();
-        key
+        self.put(name);
+        self.make_lower();
     }
 
     // The name of which the octets are the key, as it is written. It takes no memory.

@@ -1,6 +1,6 @@
 //! A name that is looked up in tries.
 
-ghost use Rattle.std.specs.Prelude.{◌≡◌};
+ghost use Rattle.std.specs.Prelude.{◌≡◌, []};
 ghost use Rattle.dns_name.specs.Labels.{lowered};
 ghost use Rattle.qname_index.specs.Key.{name_key};
 
@@ -36,14 +36,20 @@ impl LookupName {
         LookupName { key: Key::of(name) }
     }
 
-    /// The name in lower case, however it is written. It takes no memory.
+    /// The root. It takes no memory.
     #[inline(always)]
-    pub fn of_lower(name: &Name) -> Self
-        ensures { result ≡ lowered name.now }
+    pub fn root() -> Self
+        ensures { result ≡ [] }
     {
-        LookupName {
-            key: Key::of_lower(name),
-        }
+        LookupName { key: Key::root() }
+    }
+
+    /// Makes it this name in lower case, however it is written. It is made where it lies, since a copy costs as much as a short look-up.
+    #[inline(always)]
+    pub fn set_lower(&mut self, name: &Name)
+        ensures { self.new ≡ lowered name.now }
+    {
+        self.key.put_lower(name);
     }
 
     // The octets by which it is looked up.
