@@ -85,8 +85,28 @@ fn rules_hit<'a>(
     addresses_hit(number, soa, rules, sight.position, sight.addresses)
 }
 
-// The best hit of the rules about names of servers, for servers in lists.
+// The best hit of the rules about names of servers, for servers in lists. Where no zone has such rules there are no lists.
+#[inline(always)]
 fn servers_hit<'a>(
+    number: u32,
+    soa: &'a Record,
+    rules: &Rules<'a>,
+    position: u32,
+    lists: &[&Names],
+) -> Option<Hit<'a>>
+    requires { All AreInOrder (map (λ list. list.now) lists.now) }
+    ensures { option_map hit_seen result
+        ≡ best_over (best_over (form.server_hit position number soa.now rules.now))
+        (map (λ list. list.now) lists.now) }
+{
+    if lists.is_empty() {
+        return None;
+    }
+    lists_hit(number, soa, rules, position, lists)
+}
+
+// The same, however many lists there are.
+fn lists_hit<'a>(
     number: u32,
     soa: &'a Record,
     rules: &Rules<'a>,
@@ -140,8 +160,26 @@ fn names_hit<'a>(
     best
 }
 
-// The best hit of the rules about addresses of servers.
+// The best hit of the rules about addresses of servers. Where no zone has such rules there are no addresses.
+#[inline(always)]
 fn addresses_hit<'a>(
+    number: u32,
+    soa: &'a Record,
+    rules: &Rules<'a>,
+    position: u32,
+    addresses: &[Addr],
+) -> Option<Hit<'a>>
+    ensures { option_map hit_seen result
+        ≡ best_over (form.address_hit position number soa.now rules.now) addresses.now }
+{
+    if addresses.is_empty() {
+        return None;
+    }
+    each_address_hit(number, soa, rules, position, addresses)
+}
+
+// The same, however many addresses there are.
+fn each_address_hit<'a>(
     number: u32,
     soa: &'a Record,
     rules: &Rules<'a>,

@@ -133,6 +133,11 @@ pub none_without_rules : {V : Type 0} (owner : List (List ℕ)) (records : List 
 none_without_rules owner records [] none = refl
 none_without_rules owner records (e ∷ es) none = cc none
 
+-- without rules a look-up by address finds nothing
+pub none_about_clients : {V : Type 0} (addr : Addr) (entries : List (PlainPrefix × V)) → has_some entries ≡ false → None ≡ longest addr entries
+none_about_clients addr [] none = refl
+none_about_clients addr (e ∷ es) none = cc none
+
 -- all of them
 pub all_done : {V : Type 0} (owner : List (List ℕ)) (done left records : List PlainRecord) (entries : List (PlainPrefix × V)) (first : Option PlainPrefix) → done ++ left ≡ records → left ≡ []
     → first ≡ key_in (first_about owner done entries) → first ≡ key_in (first_about owner records entries)

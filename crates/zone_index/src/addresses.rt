@@ -19,7 +19,7 @@ use dns_name::Name;
 use dns_record::RecordRef;
 use ip_prefix::{Addr, Prefix};
 use std::cmp::Ordering;
-use trigger_codec::{Kind, Trigger};
+use trigger_codec::Trigger;
 
 /// The prefix of the rule that comes first of those whose prefix contains some address that the records hold for the
 /// name.
@@ -90,9 +90,6 @@ pub(crate) fn first_about<'a>(
     ensures { option_map (λ e. (e.0, action_seen e.1)) result
         ≡ first_of owner.now records.now (rules_in rows.now).response_ip }
 {
-    if !rows.has(Kind::ResponseIp) {
-        return None;
-    }
     let prefix = first_prefix(rows, owner, records)?;
     match rows.rule(&Trigger::ResponseIp(prefix)) {
         None => None,

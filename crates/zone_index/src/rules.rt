@@ -59,10 +59,15 @@ impl<'a> Rules<'a> {
         self.rows.has(kind)
     }
 
-    /// The rule that comes first of those about a client of this address. This look-up, and the others, take no memory.
+    /// The rule that comes first of those about a client of this address. This look-up, and the others, take no memory. Few zones have
+    /// such rules, so it is first asked whether there are any.
+    #[inline(always)]
     pub fn client_ip(&self, addr: Addr) -> Option<(Prefix, ActionRef<'a>)>
         ensures { option_map (λ e. (e.0, action_seen e.1)) result ≡ longest addr self.now.client_ip }
     {
+        if !self.has(Kind::ClientIp) {
+            return None;
+        }
         self.rows.client_ip(addr)
     }
 
@@ -75,6 +80,7 @@ impl<'a> Rules<'a> {
 
     /// The rule that comes first of those about an answer: its prefix contains some address that the records hold
     /// for the name. Its time is linear in the number of records.
+    #[inline(always)]
     pub fn response_ip(
         &self,
         owner: &Name,
@@ -83,6 +89,9 @@ impl<'a> Rules<'a> {
         ensures { option_map (λ e. (e.0, action_seen e.1)) result
             ≡ first_of owner.now records.now self.now.response_ip }
     {
+        if !self.has(Kind::ResponseIp) {
+            return None;
+        }
         first_about(self.rows, owner, records)
     }
 

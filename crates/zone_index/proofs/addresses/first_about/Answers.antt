@@ -1,10 +1,7 @@
-use Rattle.std.proofs.Common.{sym, ap, ◌∙◌, option_map}
+use Rattle.std.proofs.Common.{ap, ◌∙◌, option_map}
 use Rattle.zone_index.specs.Placed.{rules_in}
-use Rattle.zone_index.proofs.FirstRule.{none_without_rules, rule_at}
+use Rattle.zone_index.proofs.FirstRule.{rule_at}
 use Rattle.zone_index.proofs.addresses.first_about.Goals as goal
-
-pub returns-then-not-has : goal.returns-then-not-has
-returns-then-not-has c = none_without_rules c.args.owner.now c.args.records.now (rules_in c.args.rows.now).response_ip (sym c.has.ensures ∙ c.if-not-has.true)
 
 pub returns-in-None : goal.returns-in-None
 returns-in-None c =

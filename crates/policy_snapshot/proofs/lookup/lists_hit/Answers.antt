@@ -5,8 +5,8 @@ use Rattle.rpz_precedence.specs.Seen.{hit_seen}
 use Rattle.upstream_link.specs.Known.{AreInOrder}
 use Rattle.policy_snapshot.specs.Lookup.{better, best_over, server_hit}
 use Rattle.policy_snapshot.proofs.ListLoops.{holds_at, kept, taken, left, none_taken}
-use Rattle.policy_snapshot.proofs.lookup.servers_hit.Goals.{in-Some+then-goes_before, in-Some+else-goes_before, in_default}
-use Rattle.policy_snapshot.proofs.lookup.servers_hit.Goals as goal
+use Rattle.policy_snapshot.proofs.lookup.lists_hit.Goals.{in-Some+then-goes_before, in-Some+else-goes_before, in_default}
+use Rattle.policy_snapshot.proofs.lookup.lists_hit.Goals as goal
 
 pub names_hit-requires : goal.names_hit-requires
 names_hit-requires c =
