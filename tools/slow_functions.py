@@ -1,7 +1,7 @@
 #!/usr/bin/env python3
 """slow_functions.py CRATE [COUNT]: the functions whose proofs took longest in the last check of a crate, and the part of each that did.
 
-CRATE is a crate's folder, as crates/rpz_net, in which `rt check --jobs 1` has run from nothing (remove its out/incremental first; of its
+CRATE is a crate's folder, as crates/net_clients, in which `rt check --jobs 1` has run from nothing (remove its out/incremental first; of its
 tests with `--test`). The check leaves a file for each module that it has proved; the time between one file and the next is counted for
 the function of the second. Beside other checks each second is too long, and with more than one job the times mean nothing. What the
 parts are says docs/PROVING.md. Behind the list stand the sums by parts, and what the `drop` of types of crates below took (Destruct).

@@ -4,7 +4,7 @@ use crate::asserts::assert_same;
 use crate::loopback::{Host, at};
 use edge_io::{ConnectionLimits, Sink, Source, read_frame, write_frame};
 use ip_prefix::Transport;
-use rpz_net::address_of;
+use net_base::address_of;
 use server_io::{Arrival, Inlet, Peer, Received, Replies, StreamEnd, Wires};
 use std::alloc::Global;
 use std::io;

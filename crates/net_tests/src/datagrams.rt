@@ -4,7 +4,7 @@ use crate::asserts::assert_same;
 use crate::loopback::{Host, at, peer_at};
 use edge_io::{Sink, Source};
 use ip_prefix::Transport;
-use rpz_net::address_of;
+use net_base::address_of;
 use server_io::{Arrival, Inlet, Received, Replies, SendError, Wake, WireError, Wires};
 use std::io;
 use std::net::UdpSocket;

@@ -3,7 +3,8 @@
 use crate::asserts::assert_same;
 use crate::loopback::{Host, at, at_v6, has_v6};
 use edge_io::{Sink, Source};
-use rpz_net::{NetWires, address_of};
+use net_base::address_of;
+use net_wires::NetWires;
 use server_io::{Arrival, Inlet, Received, Wake, Wires};
 use std::net::{Net, UdpSocket};
 use std::process::Abort;

@@ -1,4 +1,4 @@
-//! Tests of the sockets of `rpz_net` on the loopback, and nothing else. They show what no proof can: what goes there and back, that
+//! Tests of the sockets of the four net crates on the loopback, and nothing else. They show what no proof can: what goes there and back, that
 //! each limit of time holds, and which calls fail.
 #![tactic(auto)]
 

@@ -6,7 +6,7 @@ use crate::ends::has_ended;
 use crate::loopback::{Host, NOTIFY, at, at_v6, has_v6};
 use edge_io::{Endpoint, LISTEN_LIMIT, Sink, Source};
 use ip_prefix::{Addr, Transport};
-use rpz_net::address_of;
+use net_base::address_of;
 use server_io::{Arrival, Inlet, Peer, Received, Replies, Wake, WireError, Wires};
 use std::alloc::Global;
 use std::io;

@@ -2,7 +2,7 @@
 
 use edge_io::Endpoint;
 use ip_prefix::Addr;
-use rpz_net::address_of;
+use net_base::address_of;
 use server_io::Peer;
 use std::net::{Net, TcpListener, TcpStream, UdpSocket};
 use std::process::Abort;

@@ -5,7 +5,7 @@ use crate::datagrams::received;
 use crate::ends::has_ended;
 use crate::loopback::{Host, NOTIFY, at, peer_at};
 use ip_prefix::Transport;
-use rpz_net::address_of;
+use net_base::address_of;
 use server_io::{Wake, Wires};
 use std::io;
 use std::io::{Read, Write};

@@ -2,7 +2,8 @@
 
 use crate::asserts::assert_same;
 use crate::loopback::{Host, at};
-use rpz_net::{NetWires, address_of};
+use net_base::address_of;
+use net_wires::NetWires;
 use server_io::{Order, OrderEnd, Wake, WireError, Wires};
 use std::io::{Read, Write};
 use std::net::{Net, TcpListener};

@@ -26,7 +26,7 @@ use crate::upstreams::{
     an_upstream_that_closes_gets_one_question_each, answers_come_in_any_order,
     many_askers_share_few_connections,
 };
-use rpz_net::NetWires;
+use net_wires::NetWires;
 use server_io::Wires;
 use std::alloc::Global;
 use std::net::{Net, TcpListener, TcpStream};

@@ -4,7 +4,7 @@ use crate::asserts::assert_same;
 use crate::loopback::at;
 use edge_io::{Clock, Endpoint, Ids};
 use ip_prefix::Addr;
-use rpz_net::{RandomIds, SystemClock, address_of, peer_of};
+use net_base::{RandomIds, SystemClock, address_of, peer_of};
 use server_io::Peer;
 use std::net::SocketAddr;
 

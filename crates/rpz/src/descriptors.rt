@@ -2,7 +2,9 @@
 
 use libc::RLIMIT_NOFILE;
 use libc::types::rlimit;
-use rpz_net::limits::{NEW_CONNECTIONS, ORDERS_MOST, UPSTREAM_ALL_CONNECTIONS};
+use net_clients::limits::NEW_CONNECTIONS;
+use net_upstream::limits::UPSTREAM_ALL_CONNECTIONS;
+use net_wires::limits::ORDERS_MOST;
 
 // Standard input, output and error, and what waits for the connections of clients.
 const OWN: u64 = 14;

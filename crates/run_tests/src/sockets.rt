@@ -3,7 +3,7 @@
 use crate::asserts::assert_same;
 use crate::cases::{DENIED, NEVER};
 use crate::runs::run_line;
-use rpz_net::NetWires;
+use net_wires::NetWires;
 use rpz_program::status::Status;
 use std::alloc::Global;
 use std::io;
