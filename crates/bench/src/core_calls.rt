@@ -5,7 +5,7 @@ use crate::samples::{CLIENT_ADDR, DENIED_QUERY, QUERY, origin};
 use crate::sheet::Sheet;
 use crate::transfer_calls::WHOLE;
 use crate::tried::{Tried, after, beside, made_changed_twice};
-use allow_list::AllowList;
+use networks::AllowList;
 use dns_name::Octets;
 use ip_prefix::{Addr, Transport};
 use policy_override::{Override, ZoneSet};

@@ -3,20 +3,20 @@
 use crate::bench_error::BenchError;
 use crate::sheet::Sheet;
 use crate::tried::{Tried, after, changed_twice, made_changed_twice};
-use key_list::{KeyList, Keyed, numbers_of};
-use row_list::RowList;
+use packed_lists::{KeyList, Keyed, numbers_of};
+use packed_lists::RowList;
 use std::alloc::{AllocError, Global};
 
 /// The names of these calls.
-pub const NAMES: &str = "key_list::KeyList::push\n\
-    key_list::KeyList::sorted\n\
-    key_list::numbers_of\n\
-    row_list::RowList::push\n\
-    row_list::RowList::push::full\n\
-    row_list::RowList::remove\n\
-    row_list::RowList::remove::full\n\
-    row_list::RowList::share\n\
-    row_list::RowList::rebuilt\n";
+pub const NAMES: &str = "packed_lists::KeyList::push\n\
+    packed_lists::KeyList::sorted\n\
+    packed_lists::numbers_of\n\
+    packed_lists::RowList::push\n\
+    packed_lists::RowList::push::full\n\
+    packed_lists::RowList::remove\n\
+    packed_lists::RowList::remove::full\n\
+    packed_lists::RowList::share\n\
+    packed_lists::RowList::rebuilt\n";
 
 // So many rows fill a block.
 const BLOCK: u32 = 512;
@@ -53,8 +53,8 @@ fn numbers(alloc: Global, list: &KeyList) -> Result<Vec<u32>, AllocError> {
 impl Tried for KeyList {
     fn once(&mut self, alloc: Global, sheet: &mut Sheet, call: &str) -> Result<(), BenchError> {
         match call {
-            "key_list::KeyList::sorted" => sorted(alloc, sheet, self),
-            "key_list::numbers_of" => sheet.show_result(numbers(alloc, self)),
+            "packed_lists::KeyList::sorted" => sorted(alloc, sheet, self),
+            "packed_lists::numbers_of" => sheet.show_result(numbers(alloc, self)),
             _ => {
                 self.push(b"\x07example", 7)?;
                 show_kept(alloc, sheet, self)
@@ -98,9 +98,9 @@ fn remove_first(list: &mut RowList) -> Result<(), BenchError> {
 impl Tried for RowList {
     fn once(&mut self, _alloc: Global, sheet: &mut Sheet, call: &str) -> Result<(), BenchError> {
         match call {
-            "row_list::RowList::share" => return show_made(sheet, self.share()),
-            "row_list::RowList::rebuilt" => return show_made(sheet, self.rebuilt()),
-            "row_list::RowList::remove" | "row_list::RowList::remove::full" => {
+            "packed_lists::RowList::share" => return show_made(sheet, self.share()),
+            "packed_lists::RowList::rebuilt" => return show_made(sheet, self.rebuilt()),
+            "packed_lists::RowList::remove" | "packed_lists::RowList::remove::full" => {
                 remove_first(self)?;
             }
             _ => sheet.show(&push(self)?),
@@ -140,9 +140,9 @@ fn make_list(alloc: Global, count: u32) -> Result<RowList, AllocError> {
 // How many rows there are before the call.
 fn count_of(call: &str) -> u32 {
     match call {
-        "row_list::RowList::push" => 0,
-        "row_list::RowList::push::full" => BLOCK,
-        "row_list::RowList::remove" => 2,
+        "packed_lists::RowList::push" => 0,
+        "packed_lists::RowList::push::full" => BLOCK,
+        "packed_lists::RowList::remove" => 2,
         _ => BLOCK + 1,
     }
 }
@@ -150,8 +150,8 @@ fn count_of(call: &str) -> u32 {
 /// Does the call of this name twice.
 pub fn twice(alloc: Global, sheet: &mut Sheet, call: &str) -> Result<(), BenchError> {
     match call {
-        "key_list::KeyList::push" => changed_twice(alloc, sheet, call, KeyList::new(alloc)),
-        "key_list::KeyList::sorted" | "key_list::numbers_of" => {
+        "packed_lists::KeyList::push" => changed_twice(alloc, sheet, call, KeyList::new(alloc)),
+        "packed_lists::KeyList::sorted" | "packed_lists::numbers_of" => {
             made_changed_twice(alloc, sheet, call, make_keys(alloc))
         }
         _ => made_changed_twice(alloc, sheet, call, make_list(alloc, count_of(call))),

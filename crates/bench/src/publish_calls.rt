@@ -10,7 +10,7 @@ use crate::samples::{DENIED, origin, steps, whole};
 use crate::sheet::Sheet;
 use crate::transfer_calls::{STEPS, WHOLE};
 use crate::worker_calls::work_twice;
-use allow_list::AllowList;
+use networks::AllowList;
 use policy_override::as_given;
 use policy_publish::{Parts, PolicyReader, Publisher, StoreName, start_store};
 use std::alloc::Global;

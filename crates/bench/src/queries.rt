@@ -12,7 +12,7 @@
 use crate::bench_error::BenchError;
 use crate::stream::read_stream;
 use crate::tried::beside;
-use allow_list::AllowList;
+use networks::AllowList;
 use dns_name::Octets;
 use edge_io::{FRAME_MAX, Sink, Source, WriterSink, read_frame, write_all};
 use policy_override::ZoneSets;

@@ -4,7 +4,7 @@ use crate::bench_error::BenchError;
 use crate::samples::{QUERY, origin};
 use crate::sheet::Sheet;
 use crate::tried::{Tried, after, beside, changed_twice, made_twice};
-use allow_list::AllowList;
+use networks::AllowList;
 use dns_name::Octets;
 use policy_override::{Override, ZoneSet, ZoneSets};
 use script_codec::{ScriptState, Shown, read_line, write_shown};

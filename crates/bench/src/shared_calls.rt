@@ -3,20 +3,20 @@
 use crate::bench_error::BenchError;
 use crate::sheet::Sheet;
 use crate::tried::{Tried, after, made_changed_twice};
-use shared_list::{Held, Share, SharedList, SharedOctets, SharedTable};
+use packed_lists::{Held, Share, SharedList, SharedOctets, SharedTable};
 use std::alloc::{AllocError, Global};
 
 /// The names of these calls.
-pub const NAMES: &str = "shared_list::SharedList::push\n\
-    shared_list::SharedList::push::full\n\
-    shared_list::SharedList::share\n\
-    shared_list::SharedOctets::push\n\
-    shared_list::SharedOctets::push::full\n\
-    shared_list::SharedOctets::share\n\
-    shared_list::SharedTable::push\n\
-    shared_list::SharedTable::push::full\n\
-    shared_list::SharedTable::set\n\
-    shared_list::SharedTable::share\n";
+pub const NAMES: &str = "packed_lists::SharedList::push\n\
+    packed_lists::SharedList::push::full\n\
+    packed_lists::SharedList::share\n\
+    packed_lists::SharedOctets::push\n\
+    packed_lists::SharedOctets::push::full\n\
+    packed_lists::SharedOctets::share\n\
+    packed_lists::SharedTable::push\n\
+    packed_lists::SharedTable::push::full\n\
+    packed_lists::SharedTable::set\n\
+    packed_lists::SharedTable::share\n";
 
 /// A list of numbers, and a table of some that are held.
 type Numbers = SharedList<u32>;
@@ -47,7 +47,7 @@ fn show_table(sheet: &mut Sheet, table: &Table) {
 
 impl Tried for SharedList<u32> {
     fn once(&mut self, _alloc: Global, sheet: &mut Sheet, call: &str) -> Result<(), BenchError> {
-        if call == "shared_list::SharedList::share" {
+        if call == "packed_lists::SharedList::share" {
             show_numbers(sheet, &self.share()?);
             return Ok(());
         }
@@ -68,7 +68,7 @@ fn push_string(sheet: &mut Sheet, octets: &mut SharedOctets) -> Result<(), Bench
 
 impl Tried for SharedOctets {
     fn once(&mut self, _alloc: Global, sheet: &mut Sheet, call: &str) -> Result<(), BenchError> {
-        if call == "shared_list::SharedOctets::share" {
+        if call == "packed_lists::SharedOctets::share" {
             let mut other = self.share()?;
             return push_string(sheet, &mut other);
         }
@@ -94,11 +94,11 @@ fn push_held(alloc: Global, table: &mut Table, number: u32) -> Result<(), AllocE
 impl Tried for SharedTable<Held<u32>> {
     fn once(&mut self, alloc: Global, sheet: &mut Sheet, call: &str) -> Result<(), BenchError> {
         match call {
-            "shared_list::SharedTable::share" => {
+            "packed_lists::SharedTable::share" => {
                 show_table(sheet, &self.share()?);
                 return Ok(());
             }
-            "shared_list::SharedTable::set" => set_first(alloc, self)?,
+            "packed_lists::SharedTable::set" => set_first(alloc, self)?,
             _ => push_held(alloc, self, 7)?,
         }
         show_table(sheet, self);
@@ -151,12 +151,12 @@ fn make_table(alloc: Global, count: u32) -> Result<Table, AllocError> {
 // How many there are before the call, where a block is full with so many.
 fn count_of(call: &str, block: u32) -> u32 {
     match call {
-        "shared_list::SharedList::push"
-        | "shared_list::SharedOctets::push"
-        | "shared_list::SharedTable::push" => 0,
-        "shared_list::SharedList::push::full"
-        | "shared_list::SharedOctets::push::full"
-        | "shared_list::SharedTable::push::full" => block,
+        "packed_lists::SharedList::push"
+        | "packed_lists::SharedOctets::push"
+        | "packed_lists::SharedTable::push" => 0,
+        "packed_lists::SharedList::push::full"
+        | "packed_lists::SharedOctets::push::full"
+        | "packed_lists::SharedTable::push::full" => block,
         _ => block.saturating_add(1),
     }
 }
@@ -164,15 +164,15 @@ fn count_of(call: &str, block: u32) -> u32 {
 /// Does the call of this name twice.
 pub fn twice(alloc: Global, sheet: &mut Sheet, call: &str) -> Result<(), BenchError> {
     match call {
-        "shared_list::SharedList::push"
-        | "shared_list::SharedList::push::full"
-        | "shared_list::SharedList::share" => {
+        "packed_lists::SharedList::push"
+        | "packed_lists::SharedList::push::full"
+        | "packed_lists::SharedList::share" => {
             let numbers = make_numbers(alloc, count_of(call, LIST_BLOCK));
             made_changed_twice(alloc, sheet, call, numbers)
         }
-        "shared_list::SharedOctets::push"
-        | "shared_list::SharedOctets::push::full"
-        | "shared_list::SharedOctets::share" => {
+        "packed_lists::SharedOctets::push"
+        | "packed_lists::SharedOctets::push::full"
+        | "packed_lists::SharedOctets::share" => {
             let octets = make_octets(alloc, count_of(call, STRINGS));
             made_changed_twice(alloc, sheet, call, octets)
         }

@@ -8,7 +8,7 @@
 ghost use Rattle.std.specs.Prelude.{◌≡◌};
 
 use crate::bench_error::BenchError;
-use allow_list::AllowList;
+use networks::AllowList;
 use axfr_apply::{Taken, TransferError, TransferFault, Wanted};
 use dns_name::Name;
 use edge_io::Source;

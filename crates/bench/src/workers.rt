@@ -16,7 +16,7 @@ use crate::serving::{Input, serve};
 use crate::stream::read_stream;
 use crate::tried::{after, beside};
 use crate::words::Plan;
-use allow_list::AllowList;
+use networks::AllowList;
 use dns_name::{Name, Octets};
 use edge_io::{Source, read_frame};
 use policy_override::as_given;

@@ -2,12 +2,12 @@
 
 #[test]
 fn laws_do_nothing() {
-    allow_list::laws::who_may_ask();
-    allow_list::laws::another_version_is_never_in();
-    allow_list::laws::a_network_has_no_bit_behind_its_length();
-    allow_list::laws::a_network_is_found_by_its_value();
-    address_text::laws::a_text_is_read_by_its_cases();
-    address_text::laws::what_is_written_is_read_back();
+    networks::laws::who_may_ask();
+    networks::laws::another_version_is_never_in();
+    networks::laws::a_network_has_no_bit_behind_its_length();
+    networks::laws::a_network_is_found_by_its_value();
+    networks::laws::a_text_is_read_by_its_cases();
+    networks::laws::what_is_written_is_read_back();
     dns_record::laws::a_number_is_read_where_it_stands();
     dns_record::laws::a_record_is_read_where_it_stands();
     dns_record::laws::a_record_is_read_by_its_grammar();

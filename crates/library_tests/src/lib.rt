@@ -1,6 +1,6 @@
 //! Tests of the libraries below, and nothing else. They show what neither a proof nor a scenario can: that a read or
-//! a write which fails is reported, that a generic function works at a concrete type, and that the functions which no
-//! script reaches give their values, and succeed where memory suffices.
+//! a write which fails is reported, that a generic function works at a concrete type, and that functions which no
+//! script reaches give their values, and succeed if memory suffices.
 #![tactic(auto)]
 
 #[cfg(test)]
@@ -19,12 +19,17 @@ mod laws;
 mod links;
 #[cfg(test)]
 mod load_runs;
+pub mod looking;
 #[cfg(test)]
 mod names;
 #[cfg(test)]
 mod packed;
 #[cfg(test)]
+mod pattern_tries;
+#[cfg(test)]
 mod polls;
+#[cfg(test)]
+mod prefix_tries;
 #[cfg(test)]
 mod records;
 #[cfg(test)]
@@ -37,6 +42,8 @@ mod row_samples;
 mod rules;
 #[cfg(test)]
 mod script_lines;
+mod sets;
+pub mod sign;
 #[cfg(test)]
 mod texts_of_addresses;
 #[cfg(test)]

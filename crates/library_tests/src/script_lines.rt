@@ -1,7 +1,7 @@
 //! Lines of a script with their number.
 
 use crate::asserts::assert_same;
-use allow_list::AllowList;
+use networks::AllowList;
 use dns_name::Name;
 use policy_override::{Override, ZoneSet, ZoneSets};
 use script_codec::{Line, ScriptState, read_line};

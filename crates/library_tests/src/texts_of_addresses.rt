@@ -1,10 +1,10 @@
 //! Texts of addresses, beside the library's reader and the examples of RFC 5952, and of networks.
 
 use crate::asserts::assert_same;
-use address_text::{
+use networks::{
     AddressText, NetworkTextFault, is_mapped, read_address, read_network, read_v4, read_v6,
 };
-use allow_list::{AllowList, Network, NetworkFault};
+use networks::{AllowList, Network, NetworkFault};
 use ip_prefix::Addr;
 use std::alloc::{AllocError, Global};
 use std::net::Ipv6Addr;

@@ -4,7 +4,7 @@ use Rattle.std.proofs.lemmas.List.{get_or_at}
 use Rattle.octet_trie.specs.ListKeys.{symbols}
 use Rattle.octet_trie.specs.Nodes.{PlainNode, Sub, Stored, name_of, key_of, kids_of, list_of, sub_of, stands, AreKids, IsNode, subs_from, AreNodes, IsAt, Extends}
 use Rattle.octet_trie.proofs.Stretches.{stretch_kept}
-use Rattle.shared_list.specs.Octets.{StandsWhole}
+use Rattle.packed_lists.specs.Octets.{StandsWhole}
 
 some_same : {A : Type 0} (x y : A) → Some x ≡ Some y → x ≡ y
 some_same x y e = cc e

@@ -7,7 +7,7 @@ use Rattle.octet_trie.specs.Written.{stored, AreStored, IsWritten}
 use Rattle.octet_trie.specs.declared.node.Node.{Node}
 use Rattle.octet_trie.proofs.Numbers.{length_subs, node_at, nodes_push, subs_push, nodes_more, subs_more}
 use Rattle.octet_trie.proofs.Stretches.{map_length}
-use Rattle.shared_list.specs.Octets.{IsPut}
+use Rattle.packed_lists.specs.Octets.{IsPut}
 use Rattle.trie_keys.specs.declared.marked.Marked.{Marked}
 
 module _ {X Y : Type 0} (f : X → Y) where

@@ -4,7 +4,7 @@ use Rattle.std.specs.List.{AllByRecursion}
 use Rattle.octet_trie.specs.Nodes.{PlainNode, Sub, Stored, stands, IsNode, Extends}
 use Rattle.octet_trie.specs.Plain.{plain}
 use Rattle.octet_trie.specs.declared.node.Node.{Node}
-use Rattle.shared_list.specs.Octets.{StandsWhole}
+use Rattle.packed_lists.specs.Octets.{StandsWhole}
 use Rattle.trie_keys.specs.declared.marked.Marked.{Marked}
 
 -- a node stands for what another stands for among others

@@ -2,7 +2,7 @@
 use Rattle.std.specs.Prelude.{◌≡◌, ℕ, ◌+◌, ◌<◌, ◌≤◌, Bool, cond, Option, Some, None, List, [], ◌∷◌, ◌++◌, length, take, drop, slice_index_or}
 use Rattle.std.specs.List.{AllByRecursion, flat_map}
 use Rattle.octet_trie.specs.ListKeys.{octet_keys, symbols}
-use Rattle.shared_list.specs.Octets.{StandsWhole}
+use Rattle.packed_lists.specs.Octets.{StandsWhole}
 use Rattle.trie_keys.specs.Keys.{Under}
 use Rattle.trie_keys.specs.Scan.{own}
 

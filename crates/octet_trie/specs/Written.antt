@@ -3,7 +3,7 @@ use Rattle.std.specs.Prelude.{◌≡◌, ℕ, Bool, List, [], ◌++◌, length, 
 use Rattle.octet_trie.specs.Nodes.{Stored, subs_from, AreNodes}
 use Rattle.octet_trie.specs.Plain.{plain}
 use Rattle.octet_trie.specs.declared.node.Node.{Node}
-use Rattle.shared_list.specs.Octets.{StandsWhole}
+use Rattle.packed_lists.specs.Octets.{StandsWhole}
 use Rattle.trie_keys.specs.declared.marked.Marked.{Marked}
 
 module _ {N M : Type 0} where

@@ -4,10 +4,10 @@ ghost use Rattle.std.specs.Prelude.{◌≡◌, ◌+◌, ◌<◌, ◌≤◌, ◌^
 ghost use Rattle.octet_trie.specs.Nodes.{IsAt, IsNode, name_of, stands};
 ghost use Rattle.octet_trie.specs.Plain.{plain};
 ghost use Rattle.octet_trie.specs.Written.{IsWritten};
-ghost use Rattle.shared_list.specs.Octets.{StandsWhole};
+ghost use Rattle.packed_lists.specs.Octets.{StandsWhole};
 
 use crate::node::Node;
-use shared_list::{Share, SharedList, SharedOctets};
+use packed_lists::{Share, SharedList, SharedOctets};
 use std::alloc::{AllocError, Global};
 use std::marker::Model;
 use trie_keys::{Mark, Marked};

@@ -9,7 +9,7 @@ ghost use Rattle.octet_trie.specs.Fits.{acting, entry_of, fits, some_passes};
 ghost use Rattle.octet_trie.specs.ListKeys.{entry_key, octet_keys};
 ghost use Rattle.octet_trie.specs.Nodes.{IsNode, name_of, stands, value_of};
 ghost use Rattle.octet_trie.specs.Plain.{plain};
-ghost use Rattle.shared_list.specs.Octets.{StandsWhole};
+ghost use Rattle.packed_lists.specs.Octets.{StandsWhole};
 ghost use Rattle.trie_keys.specs.Scan.{last_where, option_else};
 
 use crate::find::{common, find_kid};

@@ -12,7 +12,7 @@ use Rattle.server_io.specs.declared.wake.Wake.TheVariants as wake
 use Rattle.ip_prefix.specs.declared.Transport.{Transport}
 use Rattle.axfr_apply.specs.declared.fault.TransferFault.TheVariants.{Cut, EndedEarly, ReadFault}
 use Rattle.axfr_apply.specs.Reading.{TransferOutcome, outcome_of}
-use Rattle.allow_list.specs.Allowed.{is_allowed}
+use Rattle.networks.specs.Allowed.{is_allowed}
 use Rattle.notify_poll.specs.Notifying.{Answer, answer_to, as_notified, brought_forward}
 use Rattle.notify_poll.specs.declared.notifying.Notified.{Notified}
 use Rattle.notify_poll.specs.declared.notifying.Notified.TheVariants.{Reply, Silent}

@@ -7,7 +7,7 @@ use axfr_apply::{Taken, TransferError};
 use ixfr_apply::{Fed, TransferReader};
 use server_io::Order;
 use std::marker::Model;
-use taken_messages::TakenMessages;
+use ghost_values::TakenMessages;
 
 /// A transfer that was ordered and has not ended. Contracts see its order, what was asked for, and the messages that came of it; of these
 /// it keeps what they say of the zone.

@@ -4,7 +4,7 @@ ghost use Rattle.std.specs.Prelude.{◌≡◌, IfOk};
 ghost use Rattle.std.specs.Arc.{arc_value};
 
 use crate::front::StoreName;
-use allow_list::AllowList;
+use networks::AllowList;
 use ip_prefix::Addr;
 use std::alloc::{AllocError, Global};
 use std::marker::{Model, PhantomData};
@@ -31,7 +31,7 @@ impl<N: StoreName> Model for Allowed<N> {
 }
 
 impl<N: StoreName> Allowed<N> {
-    ghost use Rattle.allow_list.specs.Allowed.{is_allowed};
+    ghost use Rattle.networks.specs.Allowed.{is_allowed};
 
     // The list of the store.
     pub(crate) fn new(alloc: Global, list: AllowList) -> Result<Allowed<N>, AllocError>

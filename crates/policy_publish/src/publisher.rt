@@ -71,7 +71,7 @@ impl<N: StoreName> Publisher<N> {
     ghost use Rattle.ixfr_apply.specs.Offer.{wanted_of};
     ghost use Rattle.policy_snapshot.specs.Policy.{zone_at};
     ghost use Rattle.policy_snapshot.specs.Stands.{StandsFor};
-    ghost use Rattle.allow_list.specs.Allowed.{is_allowed};
+    ghost use Rattle.networks.specs.Allowed.{is_allowed};
     ghost use Rattle.policy_publish.specs.Publishing.{Publishes};
 
     // It publishes the first version once, so that its queue has room from then on.

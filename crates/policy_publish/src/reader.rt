@@ -114,7 +114,7 @@ fn enter<N: StoreName>(
 impl<N: StoreName> PolicyReader<N> {
     ghost use Rattle.std.specs.Prelude.{◌≡◌, OnOk, OnErr, IfOk, IsTrue};
     ghost use Rattle.policy_snapshot.specs.Stands.{StandsFor};
-    ghost use Rattle.allow_list.specs.Allowed.{is_allowed};
+    ghost use Rattle.networks.specs.Allowed.{is_allowed};
     ghost use Rattle.policy_publish.specs.Lists.{GoesOn, WasTold, KeepsTold};
 
     // A reader that has seen and was told the entries of the front.

@@ -11,7 +11,7 @@ use crate::front::{Front, Line, LogWriter, StoreName, open_book};
 use crate::publisher::Publisher;
 use crate::reader::PolicyReader;
 use crate::shown::Shown;
-use allow_list::AllowList;
+use networks::AllowList;
 use ixfr_apply::Marks;
 use policy_override::{ZoneSet, ZoneSets, origins_of};
 use policy_snapshot::Snapshot;

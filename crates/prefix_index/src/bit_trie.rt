@@ -17,7 +17,7 @@ use crate::put::put;
 use crate::take::take;
 use crate::walk;
 use ip_prefix::Prefix;
-use shared_list::{Share, SharedList};
+use packed_lists::{Share, SharedList};
 use std::alloc::{AllocError, Global};
 use std::marker::Model;
 use std::sync::ledger::Ledger;

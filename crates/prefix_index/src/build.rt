@@ -9,7 +9,7 @@ ghost use Rattle.prefix_index.specs.Trie.{ArePresent, AreValid};
 
 use crate::key::Key;
 use crate::node::{Node, push_branch, push_value};
-use shared_list::SharedList;
+use packed_lists::SharedList;
 use std::alloc::AllocError;
 use trie_keys::{Mark, Marked};
 

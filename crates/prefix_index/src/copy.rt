@@ -6,7 +6,7 @@ ghost use Rattle.prefix_index.specs.PlainNode.{plain_nodes};
 
 use crate::key::Key;
 use crate::node::{Node, node_at, push};
-use shared_list::SharedList;
+use packed_lists::SharedList;
 use std::alloc::AllocError;
 use trie_keys::Mark;
 

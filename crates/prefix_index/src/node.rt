@@ -5,7 +5,7 @@ ghost use Rattle.prefix_index.specs.Nodes.{AreWell, IsAt, IsNode, Pushed, subs_o
 ghost use Rattle.prefix_index.specs.PlainNode.{node_of, plain_node, plain_nodes, value_of};
 
 use crate::key::Key;
-use shared_list::SharedList;
+use packed_lists::SharedList;
 use std::alloc::AllocError;
 use trie_keys::{Mark, Marked};
 

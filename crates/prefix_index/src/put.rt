@@ -6,7 +6,7 @@ ghost use Rattle.prefix_index.specs.PlainNode.{plain_node, plain_nodes};
 
 use crate::key::Key;
 use crate::node::{Node, node_at, push, push_branch, push_value};
-use shared_list::SharedList;
+use packed_lists::SharedList;
 use std::alloc::AllocError;
 use trie_keys::{Mark, Marked};
 

@@ -6,7 +6,7 @@ ghost use Rattle.prefix_index.specs.PlainNode.{node_of, plain_nodes, value_of};
 
 use crate::key::Key;
 use crate::node::{Node, node_at, push, push_branch};
-use shared_list::SharedList;
+use packed_lists::SharedList;
 use std::alloc::AllocError;
 use trie_keys::{Mark, Marked};
 

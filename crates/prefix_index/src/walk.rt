@@ -10,7 +10,7 @@ ghost use Rattle.prefix_index.specs.Walk.{acts_at, any_has, depth, last_hit, own
 
 use crate::key::Key;
 use crate::node::{Node, node_at};
-use shared_list::SharedList;
+use packed_lists::SharedList;
 use std::alloc::AllocError;
 use std::sync::ledger::Ledger;
 use trie_keys::{Mark, Marked, NumberSet, Steps};

@@ -10,7 +10,7 @@ use Rattle.answer_cache.proofs.Apart.{apart_kept, apart_none}
 use Rattle.answer_cache.proofs.Touched.{among_kept}
 use Rattle.ip_prefix.specs.declared.Addr.{Addr}
 use Rattle.ip_prefix.specs.Prefix.{PlainPrefix}
-use Rattle.allow_list.specs.Allowed.{is_allowed}
+use Rattle.networks.specs.Allowed.{is_allowed}
 use Rattle.ip_prefix.specs.declared.Transport.{Transport}
 use Rattle.dns_message.specs.declared.fault.MessageFault.{MessageFault}
 use Rattle.dns_message.specs.declared.message.Message.{Message}

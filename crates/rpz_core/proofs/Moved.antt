@@ -3,7 +3,7 @@ use Rattle.std.proofs.Common.{◌≡◌, ℕ, List, Option, Some, None, Result, 
 use Rattle.std.specs.Option.{unwrap_or}
 use Rattle.zone_rows.specs.declared.zone.PlainZone.{PlainZone}
 use Rattle.ip_prefix.specs.declared.Addr.{Addr}
-use Rattle.allow_list.specs.Allowed.{is_allowed}
+use Rattle.networks.specs.Allowed.{is_allowed}
 use Rattle.notify_poll.specs.Notifying.{answer_to, brought_forward}
 use Rattle.notify_poll.specs.Timers.{due_zone}
 use Rattle.policy_snapshot.specs.Policy.{zone_at}

@@ -3,7 +3,7 @@ use Rattle.std.proofs.Common.{◌≡◌, ℕ, zero, suc, Bool, true, false, if�
 use Rattle.std.specs.Prelude.{◌==◌, not, slice_get}
 use Rattle.ip_prefix.specs.declared.Addr.{Addr}
 use Rattle.ip_prefix.specs.declared.Transport.{Transport}
-use Rattle.allow_list.specs.Allowed.{is_allowed}
+use Rattle.networks.specs.Allowed.{is_allowed}
 use Rattle.dns_name.specs.Labels.{Name}
 use Rattle.dns_message.specs.declared.request.Incoming.{Incoming}
 use Rattle.dns_message.specs.declared.triage.TheConstants.{NOT_IMPLEMENTED}

@@ -9,7 +9,7 @@ use Rattle.axfr_apply.specs.declared.taken.Taken.TheVariants as taken
 use Rattle.axfr_apply.specs.Reading.{TransferOutcome}
 use Rattle.ixfr_apply.specs.Stream.{reading}
 use Rattle.ip_prefix.specs.Prefix.{PlainPrefix}
-use Rattle.allow_list.specs.Allowed.{is_allowed}
+use Rattle.networks.specs.Allowed.{is_allowed}
 use Rattle.policy_override.specs.declared.zone_set.ZoneSet.{ZoneSet}
 use Rattle.policy_override.specs.ZoneSet.{origins_in, overrides_in}
 use Rattle.policy_snapshot.specs.declared.entry.Entry.{Entry}

@@ -5,7 +5,7 @@ use Rattle.dns_message.specs.declared.request.Incoming.{Incoming}
 use Rattle.dns_message.specs.Request.{incoming_of}
 use Rattle.ip_prefix.specs.declared.Addr.{Addr}
 use Rattle.ip_prefix.specs.Prefix.{PlainPrefix}
-use Rattle.allow_list.specs.Allowed.{is_allowed}
+use Rattle.networks.specs.Allowed.{is_allowed}
 use Rattle.ip_prefix.specs.declared.Transport.{Transport}
 use Rattle.upstream_link.specs.declared.fact.Fact.TheVariants.{Broken}
 use Rattle.upstream_link.specs.declared.fact.AnswerFault.TheVariants.{Failed}

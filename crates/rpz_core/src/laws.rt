@@ -7,7 +7,7 @@ ghost use Rattle.dns_message.specs.declared.request.Incoming.{Incoming};
 ghost use Rattle.ip_prefix.specs.declared.Addr.{Addr};
 ghost use Rattle.ip_prefix.specs.declared.Transport.{Transport};
 ghost use Rattle.ip_prefix.specs.Prefix.{PlainPrefix};
-ghost use Rattle.allow_list.specs.Allowed.{is_allowed};
+ghost use Rattle.networks.specs.Allowed.{is_allowed};
 ghost use Rattle.notify_poll.specs.Notifying.{answer_to, changed_at, is_of_primary};
 ghost use Rattle.notify_poll.specs.Timers.{after_poll};
 ghost use Rattle.notify_poll.specs.declared.timer.Polling.TheVariants.{Faulty};

@@ -13,7 +13,7 @@ use crate::event::{CoreError, CoreFault, Event, Output};
 use crate::laws::the_core_does_what_the_world_does;
 use crate::offer::{Offered, read_offer};
 use crate::sessions::{Sessions, WORKERS};
-use allow_list::AllowList;
+use networks::AllowList;
 use dns_name::{Name, Octets};
 use ip_prefix::Addr;
 use ixfr_apply::{Marks, wanted};

@@ -3,7 +3,7 @@
 ghost use Rattle.std.specs.Prelude.{◌≡◌, ℕ, false, List, Some, Ok, IsOk};
 ghost use Rattle.ip_prefix.specs.declared.Addr.{Addr};
 ghost use Rattle.ip_prefix.specs.declared.Transport.{Transport};
-ghost use Rattle.allow_list.specs.Allowed.{is_allowed};
+ghost use Rattle.networks.specs.Allowed.{is_allowed};
 ghost use Rattle.script_codec.specs.declared.line.Line.{Line};
 ghost use Rattle.script_codec.specs.declared.line.Line.TheVariants.{Query};
 ghost use Rattle.script_codec.specs.Line.{unnumbered_line};

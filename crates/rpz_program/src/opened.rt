@@ -4,7 +4,7 @@ ghost use Rattle.std.specs.Prelude.{◌≡◌, ◌≤◌, ◌<◌, length, OnOk}
 ghost use Rattle.zone_rows.specs.declared.zone.TheConstants.{ZONE_LIMIT};
 ghost use Rattle.rpz_program.specs.Opened.{no_zones, with_network, with_primary, with_open_zone};
 
-use allow_list::{AllowList, Network};
+use networks::{AllowList, Network};
 use ip_prefix::Addr;
 use policy_override::{ZoneSet, ZoneSets};
 use std::alloc::{AllocError, Global};

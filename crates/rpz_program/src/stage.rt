@@ -9,7 +9,7 @@ ghost use Rattle.rpz_program.specs.Stage.{new_stage, stage_event, stage_line, st
 
 use crate::answering::answer_event;
 use crate::opened::Opened;
-use allow_list::Network;
+use networks::Network;
 use dns_name::Octets;
 use ip_prefix::{Addr, Transport};
 use policy_override::ZoneSet;

@@ -11,15 +11,15 @@ use Rattle.std.proofs.lemmas.Option.{cond_some}
 use Rattle.ip_prefix.specs.declared.Addr.{Addr}
 use Rattle.ip_prefix.specs.declared.Addr.TheVariants.{V4, V6}
 use Rattle.ip_prefix.specs.Bits.{IsAddr}
-use Rattle.address_text.specs.Decimal as decimal_form
-use Rattle.address_text.specs.Decimal.{decimal_of, is_number, value_of}
-use Rattle.address_text.specs.Dotted.{dotted_of, has_leading_zero, is_octet_dot, octet_of, tail_of, v4_number}
-use Rattle.address_text.specs.Grammar as grammar
-use Rattle.address_text.specs.Grammar.{IsGroup, AreGroups, AreLastGroups, IsV6Text, MayBe}
-use Rattle.address_text.specs.Mapped.{is_mapped_number}
-use Rattle.address_text.specs.NetworkText.{text_address}
-use Rattle.address_text.specs.V6.{is_colon, number_of_groups, v6_number}
-use Rattle.address_text.specs.Written.{addr_text}
+use Rattle.networks.specs.Decimal as decimal_form
+use Rattle.networks.specs.Decimal.{decimal_of, is_number, value_of}
+use Rattle.networks.specs.Dotted.{dotted_of, has_leading_zero, is_octet_dot, octet_of, tail_of, v4_number}
+use Rattle.networks.specs.Grammar as grammar
+use Rattle.networks.specs.Grammar.{IsGroup, AreGroups, AreLastGroups, IsV6Text, MayBe}
+use Rattle.networks.specs.Mapped.{is_mapped_number}
+use Rattle.networks.specs.NetworkText.{text_address}
+use Rattle.networks.specs.V6.{is_colon, number_of_groups, v6_number}
+use Rattle.networks.specs.Written.{addr_text}
 use Rattle.edge_io.specs.declared.endpoint.Endpoint.{Endpoint}
 use Rattle.script_codec.specs.Field.{number_field}
 use Rattle.rpz_words.specs.declared.endpoint_text.TheConstants.{PORT_DIGITS, PORT_LIMIT}

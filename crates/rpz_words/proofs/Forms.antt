@@ -5,12 +5,12 @@ use Rattle.std.specs.List.{before_first, after_first}
 use Rattle.std.specs.Option.{ok_or}
 use Rattle.std.specs.Result.{result_ok}
 use Rattle.std.proofs.lemmas.Bool.{and_left, and_right, or_parts, ltb-false}
-use Rattle.address_text.specs.Dotted.{v4_number}
-use Rattle.address_text.specs.Mapped.{is_mapped_number}
-use Rattle.address_text.specs.Optional.{none_if}
-use Rattle.address_text.specs.V6.{is_colon, v6_number}
+use Rattle.networks.specs.Dotted.{v4_number}
+use Rattle.networks.specs.Mapped.{is_mapped_number}
+use Rattle.networks.specs.Optional.{none_if}
+use Rattle.networks.specs.V6.{is_colon, v6_number}
 use Rattle.edge_io.specs.declared.endpoint.Endpoint.{Endpoint}
-use Rattle.address_text.specs.Decimal.{is_number}
+use Rattle.networks.specs.Decimal.{is_number}
 use Rattle.script_codec.specs.Field.{number_field}
 use Rattle.rpz_words.specs.declared.endpoint_text.TheConstants.{PORT_DIGITS, PORT_LIMIT}
 use Rattle.rpz_words.specs.declared.usage_cause.EndpointFault.TheVariants.{Address, Mapped, Port}

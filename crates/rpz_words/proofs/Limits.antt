@@ -15,9 +15,9 @@ use Rattle.dns_name.specs.Labels.{lowered}
 use Rattle.ip_prefix.specs.declared.Addr.{Addr}
 use Rattle.ip_prefix.specs.declared.Addr.TheVariants.{V4, V6}
 use Rattle.ip_prefix.specs.Prefix.{PlainPrefix}
-use Rattle.allow_list.specs.Allowed.{is_same_addr, is_same_network}
-use Rattle.allow_list.specs.declared.list.TheConstants.{NETWORK_LIMIT}
-use Rattle.address_text.specs.NetworkText.{network_text}
+use Rattle.networks.specs.Allowed.{is_same_addr, is_same_network}
+use Rattle.networks.specs.declared.allow_list.TheConstants.{NETWORK_LIMIT}
+use Rattle.networks.specs.NetworkText.{network_text}
 use Rattle.edge_io.specs.declared.endpoint.Endpoint.{Endpoint}
 use Rattle.edge_io.specs.declared.limits.TheConstants.{LISTEN_LIMIT}
 use Rattle.zone_rows.specs.declared.zone.TheConstants.{ZONE_LIMIT}

@@ -1,7 +1,7 @@
 -- Values that may be missing, one behind another, taken apart.
 use Rattle.std.proofs.Common.{◌≡◌, Bool, true, false, Option, Some, None, refl}
 use Rattle.std.specs.Option.{option_and_then}
-use Rattle.address_text.specs.Optional.{◌>>=◌, none_if}
+use Rattle.networks.specs.Optional.{◌>>=◌, none_if}
 
 -- where the whole has a value, its first part has one, and what follows
 pub bind_some : {A B : Type 0} (o : Option A) (f : A → Option B) (y : B) → o >>= f ≡ Some y → (x : A) × (o ≡ Some x) × (f x ≡ Some y)

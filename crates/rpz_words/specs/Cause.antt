@@ -1,7 +1,7 @@
 -- Why words ask for nothing, as text.
 use Rattle.std.specs.Prelude.{ℕ, List, ◌++◌, codes, decimal}
-use Rattle.address_text.specs.declared.network.NetworkTextFault.{NetworkTextFault}
-use Rattle.address_text.specs.declared.network.NetworkTextFault.TheVariants as network
+use Rattle.networks.specs.declared.network_text.NetworkTextFault.{NetworkTextFault}
+use Rattle.networks.specs.declared.network_text.NetworkTextFault.TheVariants as network
 use Rattle.rpz_words.specs.declared.usage_cause.AllowFault.{AllowFault}
 use Rattle.rpz_words.specs.declared.usage_cause.AllowFault.TheVariants as allow
 use Rattle.rpz_words.specs.declared.usage_cause.Argument.{Argument}

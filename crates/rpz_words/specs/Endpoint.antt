@@ -5,10 +5,10 @@ use Rattle.std.specs.Option.{ok_or}
 use Rattle.ip_prefix.specs.Bits.{IsAddr}
 use Rattle.ip_prefix.specs.declared.Addr.{Addr}
 use Rattle.ip_prefix.specs.declared.Addr.TheVariants.{V4, V6}
-use Rattle.address_text.specs.Dotted.{v4_number}
-use Rattle.address_text.specs.Mapped.{is_mapped_number}
-use Rattle.address_text.specs.V6.{is_colon, v6_number}
-use Rattle.address_text.specs.Written.{addr_text}
+use Rattle.networks.specs.Dotted.{v4_number}
+use Rattle.networks.specs.Mapped.{is_mapped_number}
+use Rattle.networks.specs.V6.{is_colon, v6_number}
+use Rattle.networks.specs.Written.{addr_text}
 use Rattle.edge_io.specs.declared.endpoint.Endpoint.{Endpoint}
 use Rattle.rpz_words.specs.declared.endpoint_text.TheConstants.{PORT_LIMIT}
 use Rattle.rpz_words.specs.declared.usage_cause.EndpointFault.{EndpointFault}

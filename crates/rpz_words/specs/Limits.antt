@@ -1,6 +1,6 @@
 -- What holds of what words ask for.
 use Rattle.std.specs.Prelude.{◌≤◌, ◌≢◌, length, AllPairs, IfSome}
-use Rattle.allow_list.specs.declared.list.TheConstants.{NETWORK_LIMIT}
+use Rattle.networks.specs.declared.allow_list.TheConstants.{NETWORK_LIMIT}
 use Rattle.edge_io.specs.declared.limits.TheConstants.{LISTEN_LIMIT}
 use Rattle.zone_rows.specs.declared.zone.TheConstants.{ZONE_LIMIT}
 use Rattle.rpz_words.specs.declared.command.Command.{Command}

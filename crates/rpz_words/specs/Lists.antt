@@ -2,10 +2,10 @@
 use Rattle.std.specs.Prelude.{ℕ, ◌+◌, ◌==◌, ◌&&◌, ◌||◌, Bool, false, nat_lt, List, [], ◌∷◌, length, Option, Some, None, Result, Ok}
 use Rattle.std.specs.List.{list_any, slice_split}
 use Rattle.ip_prefix.specs.Prefix.{PlainPrefix}
-use Rattle.allow_list.specs.Allowed.{is_same_addr, is_same_network}
-use Rattle.allow_list.specs.declared.list.TheConstants.{NETWORK_LIMIT}
-use Rattle.address_text.specs.NetworkText.{network_text}
-use Rattle.address_text.specs.declared.network.NetworkTextFault.{NetworkTextFault}
+use Rattle.networks.specs.Allowed.{is_same_addr, is_same_network}
+use Rattle.networks.specs.declared.allow_list.TheConstants.{NETWORK_LIMIT}
+use Rattle.networks.specs.NetworkText.{network_text}
+use Rattle.networks.specs.declared.network_text.NetworkTextFault.{NetworkTextFault}
 use Rattle.edge_io.specs.declared.endpoint.Endpoint.{Endpoint}
 use Rattle.edge_io.specs.declared.limits.TheConstants.{LISTEN_LIMIT}
 use Rattle.rpz_words.specs.declared.usage_cause.AllowFault.TheVariants as allow

@@ -4,7 +4,7 @@ use Rattle.std.specs.List.{list_any, before_first, after_first}
 use Rattle.std.specs.Option.{ok_or, option_map}
 use Rattle.std.specs.Result.{result_ok}
 use Rattle.std.specs.Str.{bytes_eq}
-use Rattle.address_text.specs.V6.{is_colon}
+use Rattle.networks.specs.V6.{is_colon}
 use Rattle.dns_name.specs.Labels.{Name}
 use Rattle.dns_name.specs.Text.{text_name}
 use Rattle.policy_override.specs.Override.{named_override}

@@ -2,16 +2,16 @@
 
 ghost use Rattle.std.specs.Prelude.{◌≡◌, map, IfOk};
 ghost use Rattle.std.specs.Result.{result_map_both};
-ghost use Rattle.allow_list.specs.Allowed.{has_network, is_same_network};
-ghost use Rattle.address_text.specs.NetworkText.{network_text};
+ghost use Rattle.networks.specs.Allowed.{has_network, is_same_network};
+ghost use Rattle.networks.specs.NetworkText.{network_text};
 ghost use Rattle.rpz_words.specs.Lists.{allow_fault, each_of, has_twice, networks_of};
 ghost use Rattle.rpz_words.specs.Outcome.{Gives, or_said};
 
 use crate::cutting::comma_parts;
 use crate::usage_cause::{AllowFault, UsageCause};
 use crate::words_error::WordsError;
-use address_text::read_network;
-use allow_list::{AllowList, NETWORK_LIMIT, Network};
+use networks::read_network;
+use networks::{AllowList, NETWORK_LIMIT, Network};
 use std::alloc::{AllocError, Global};
 
 /// The networks that the value of `--allow` writes: 1 to 64 with commas between them, none twice.

@@ -28,7 +28,7 @@ use crate::values::{count_to, number_between, number_to, read_turns};
 use crate::words_error::WordsError;
 use crate::zone_words::read_zones;
 use crate::zones::Zones;
-use allow_list::AllowList;
+use networks::AllowList;
 use clap::ArgMatches;
 use clap::error::ErrorKind;
 use edge_io::{ConnectionLimits, Endpoint};

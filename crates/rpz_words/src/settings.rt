@@ -2,7 +2,7 @@
 
 use crate::endpoints::Endpoints;
 use crate::zones::Zones;
-use allow_list::AllowList;
+use networks::AllowList;
 use edge_io::{ConnectionLimits, Endpoint, LOAD_QUERY_LIMIT, LOAD_RULE_LIMIT};
 
 /// The most workers of a server.

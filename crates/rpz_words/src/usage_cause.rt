@@ -3,7 +3,7 @@
 ghost use Rattle.std.specs.Prelude.{◌≡◌, Some};
 ghost use Rattle.rpz_words.specs.Cause.{allow_text, argument_text, cause_text, endpoint_word, list_text, network_word, zone_word, zones_word};
 
-use address_text::NetworkTextFault;
+use networks::NetworkTextFault;
 use std::fmt::{self, Display};
 
 /// An argument or an option whose value is a number or a word.

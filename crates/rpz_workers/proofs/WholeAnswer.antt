@@ -2,7 +2,7 @@
 use Rattle.std.proofs.Common.{◌≡◌, ℕ, Bool, List, Ok, refl, ap, ◌∙◌, subst}
 use Rattle.std.specs.declared.alloc.AllocError.{AllocError}
 use Rattle.policy_override.specs.declared.zone_set.ZoneSet.{ZoneSet}
-use Rattle.allow_list.specs.Allowed.{is_allowed}
+use Rattle.networks.specs.Allowed.{is_allowed}
 use Rattle.dns_message.specs.declared.request.Incoming.{Incoming}
 use Rattle.dns_message.specs.Request.{incoming_of}
 use Rattle.policy_snapshot.specs.declared.entry.Entry.{Entry}

@@ -3,7 +3,7 @@ use Rattle.std.specs.Prelude.{◌≡◌, ◌≤◌, ◌⊎◌, ℕ, Bool, true, 
 use Rattle.policy_publish.specs.Stores.{Store}
 use mathlib.Core.List.{IsPrefix}
 use Rattle.edge_io.specs.Chain.{Chain, Stage}
-use Rattle.allow_list.specs.Allowed.{is_allowed}
+use Rattle.networks.specs.Allowed.{is_allowed}
 use Rattle.dns_message.specs.Request.{incoming_of}
 use Rattle.dns_message.specs.declared.request.Incoming.{Incoming}
 use Rattle.dns_message.specs.declared.question.Question.{Question}

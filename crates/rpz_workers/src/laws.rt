@@ -3,7 +3,7 @@
 ghost use Rattle.std.specs.Prelude.{◌≡◌, ◌-◌, ℕ, Bool, false, List, [], take, Some};
 ghost use Rattle.std.specs.List.{AllByRecursion};
 ghost use Rattle.edge_io.specs.Chain.{Chain, Stage};
-ghost use Rattle.allow_list.specs.Allowed.{is_allowed};
+ghost use Rattle.networks.specs.Allowed.{is_allowed};
 ghost use Rattle.dns_message.specs.declared.question.Question.{Question};
 ghost use Rattle.dns_message.specs.declared.request.Incoming.{Incoming};
 ghost use Rattle.upstream_link.specs.declared.facts.TheConstants.{FACT_LIMIT};

@@ -6,7 +6,7 @@ use Rattle.dns_name.specs.Labels.{IsLabel, IsName, name_octets}
 use Rattle.dns_name.specs.Text.{has_label_lengths, has_text_bytes, text_labels, text_name, without_last_dot}
 use Rattle.dns_name.specs.declared.limits.TheConstants.{LABEL_LIMIT, NAME_LIMIT}
 use Rattle.ip_prefix.specs.Prefix.{PlainPrefix}
-use Rattle.allow_list.specs.declared.list.TheConstants.{NETWORK_LIMIT}
+use Rattle.networks.specs.declared.allow_list.TheConstants.{NETWORK_LIMIT}
 use Rattle.zone_rows.specs.declared.zone.TheConstants.{ZONE_LIMIT}
 use Rattle.dns_name.specs.declared.fault.TextFault.{TextFault}
 use Rattle.script_codec.specs.declared.field.TheConstants.{MESSAGE_BYTES}

@@ -3,12 +3,12 @@ use Rattle.std.proofs.Common.{◌≡◌, ℕ, ltb, Bool, true, false, not, if◌
 use Rattle.std.specs.List.{before_first, after_first, list_any}
 use Rattle.ip_prefix.specs.declared.Addr.{Addr}
 use Rattle.ip_prefix.specs.Prefix.{PlainPrefix, has_host_bits, width}
-use Rattle.allow_list.specs.declared.network.NetworkFault.{NetworkFault}
-use Rattle.allow_list.specs.declared.network.NetworkFault.TheVariants.{Length, HostBits}
-use Rattle.allow_list.specs.Network.{IsNetwork, network_of}
-use Rattle.address_text.specs.declared.network.NetworkTextFault.{NetworkTextFault}
-use Rattle.address_text.specs.declared.network.NetworkTextFault.TheVariants as fault
-use Rattle.address_text.specs.NetworkText.{◌>>=◌, text_address, as_text_fault, fault_if, is_slash, length_of, network_text, or_fault}
+use Rattle.networks.specs.declared.network.NetworkFault.{NetworkFault}
+use Rattle.networks.specs.declared.network.NetworkFault.TheVariants.{Length, HostBits}
+use Rattle.networks.specs.Network.{IsNetwork, network_of}
+use Rattle.networks.specs.declared.network_text.NetworkTextFault.{NetworkTextFault}
+use Rattle.networks.specs.declared.network_text.NetworkTextFault.TheVariants as fault
+use Rattle.networks.specs.NetworkText.{◌>>=◌, text_address, as_text_fault, fault_if, is_slash, length_of, network_text, or_fault}
 use Rattle.script_codec.specs.declared.line_fault.LineFault.TheVariants as why
 use Rattle.script_codec.specs.Field.{network_field, or_refused}
 

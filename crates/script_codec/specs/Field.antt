@@ -10,9 +10,9 @@ use Rattle.ip_prefix.specs.declared.Addr.TheVariants as addr
 use Rattle.ip_prefix.specs.declared.Transport.{Transport}
 use Rattle.ip_prefix.specs.declared.Transport.TheVariants as transport
 use Rattle.ip_prefix.specs.Prefix.{PlainPrefix}
-use Rattle.address_text.specs.Decimal.{decimal_of}
-use Rattle.address_text.specs.Dotted.{v4_number}
-use Rattle.address_text.specs.NetworkText.{network_text}
+use Rattle.networks.specs.Decimal.{decimal_of}
+use Rattle.networks.specs.Dotted.{v4_number}
+use Rattle.networks.specs.NetworkText.{network_text}
 use Rattle.script_codec.specs.declared.field.TheConstants.{MESSAGE_BYTES, NUMBER_BOUND, NUMBER_DIGITS}
 use Rattle.script_codec.specs.declared.state.TheConstants.{WORKERS}
 use Rattle.script_codec.specs.declared.line_fault.LineFault.{LineFault}

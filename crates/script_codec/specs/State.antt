@@ -3,8 +3,8 @@ use Rattle.std.specs.Prelude.{ℕ, ◌-◌, nat_le, Bool, false, List, length, O
 use Rattle.dns_name.specs.Labels.{Name}
 use Rattle.ip_prefix.specs.declared.Addr.{Addr}
 use Rattle.ip_prefix.specs.Prefix.{PlainPrefix}
-use Rattle.allow_list.specs.declared.list.TheConstants.{NETWORK_LIMIT}
-use Rattle.allow_list.specs.Allowed.{has_network}
+use Rattle.networks.specs.declared.allow_list.TheConstants.{NETWORK_LIMIT}
+use Rattle.networks.specs.Allowed.{has_network}
 use Rattle.script_codec.specs.declared.state.ScriptState.{ScriptState}
 use Rattle.script_codec.specs.declared.state.ScriptState.TheVariants.{Opening, Running}
 use Rattle.zone_rows.specs.declared.zone.TheConstants.{ZONE_LIMIT}

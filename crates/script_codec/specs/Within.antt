@@ -2,9 +2,9 @@
 use Rattle.std.specs.Prelude.{◌≡◌, ℕ, ◌≤◌, ◌<◌, true, false, List, length, Option, Some, None}
 use Rattle.dns_name.specs.Labels.{IsName, Name}
 use Rattle.ip_prefix.specs.Prefix.{PlainPrefix}
-use Rattle.allow_list.specs.declared.list.TheConstants.{NETWORK_LIMIT}
-use Rattle.allow_list.specs.Allowed.{has_network}
-use Rattle.allow_list.specs.Network.{IsNetwork}
+use Rattle.networks.specs.declared.allow_list.TheConstants.{NETWORK_LIMIT}
+use Rattle.networks.specs.Allowed.{has_network}
+use Rattle.networks.specs.Network.{IsNetwork}
 use Rattle.zone_rows.specs.declared.zone.TheConstants.{ZONE_LIMIT}
 use Rattle.script_codec.specs.declared.field.TheConstants.{MESSAGE_BYTES}
 use Rattle.script_codec.specs.declared.line.Line.{Line}

@@ -2,15 +2,15 @@
 
 ghost use Rattle.std.specs.Prelude.{◌≡◌, ◌≤◌, IfOk};
 ghost use Rattle.dns_name.specs.Labels.{IsName};
-ghost use Rattle.allow_list.specs.Network.{IsNetwork};
+ghost use Rattle.networks.specs.Network.{IsNetwork};
 ghost use Rattle.script_codec.specs.Outcome.{Gives};
 ghost use Rattle.script_codec.specs.Within.{IsWorker, IsMessage};
 ghost use Rattle.script_codec.specs.Field.{name_field, number_field, zone_field, worker_field, transport_field, v4_field, v6_field, address_field, network_field, bytes_field, message_field};
 
 use crate::line_fault::{LineFault, UnnumberedError};
 use crate::state::WORKERS;
-use address_text::{read_decimal, read_network, read_v4};
-use allow_list::Network;
+use networks::{read_decimal, read_network, read_v4};
+use networks::Network;
 use dns_name::{Name, Octets, TextError};
 use hex::{FromHex, FromHexError};
 use ip_prefix::{Addr, Transport};

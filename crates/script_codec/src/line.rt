@@ -1,6 +1,6 @@
 //! What a line of a script says.
 
-use allow_list::Network;
+use networks::Network;
 use dns_name::{Name, Octets};
 use ip_prefix::{Addr, Transport};
 use policy_override::Override;

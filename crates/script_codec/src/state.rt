@@ -8,7 +8,7 @@ ghost use Rattle.script_codec.specs.State.{opening, state_of, zone_count as zone
 ghost use Rattle.script_codec.specs.Within.{MayAllow, MayHavePrimary, MayOpen};
 
 use crate::line_fault::LineFault;
-use allow_list::{AllowList, NETWORK_LIMIT, Network};
+use networks::{AllowList, NETWORK_LIMIT, Network};
 use dns_name::Name;
 use edge_io::WORKER_LIMIT;
 use ip_prefix::Addr;

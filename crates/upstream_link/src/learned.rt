@@ -9,7 +9,7 @@ use crate::fact::{Fact, fact_of};
 use dns_message::Question;
 use dns_name::Octets;
 use edge_io::Link;
-use proof_only::ProofOnly;
+use ghost_values::ProofOnly;
 use std::alloc::{AllocError, Global};
 use std::marker::{Model, PhantomData};
 use std::sync::Arc;

@@ -14,7 +14,7 @@ use crate::request_limits::{be_late, end_all, fill_all, jostle_one};
 use crate::request_threads::pass_among;
 use crate::requests::order_all;
 use crate::runs::run_all;
-use allow_list::AllowList;
+use networks::AllowList;
 use dns_name::Name;
 use policy_override::{ZoneSets, as_given};
 use policy_publish::{Parts, PolicyReader, Publisher, StoreName, start_store};

@@ -19,8 +19,8 @@ use Rattle.qname_index.proofs.Same.{key_order, key_total}
 use Rattle.qname_index.specs.Best.{pattern_order}
 use Rattle.qname_index.specs.Ranked.{IsPatternKey, pattern_key, ranked_patterns}
 use Rattle.qname_index.specs.Trie.{IsNameTrie}
-use Rattle.row_list.specs.Blocks.{PlainRowList}
-use Rattle.row_list.specs.Stored.{PlainStored}
+use Rattle.packed_lists.specs.Blocks.{PlainRowList}
+use Rattle.packed_lists.specs.Stored.{PlainStored}
 use Rattle.trie_keys.specs.declared.marked.Marked.{Marked}
 use Rattle.trigger_codec.specs.declared.trigger.Kind.{Kind}
 use Rattle.trigger_codec.specs.declared.trigger.Kind.TheVariants as kinds

@@ -11,7 +11,7 @@ use Rattle.std.proofs.lemmas.List.Folds.{list_any-append}
 use Rattle.dns_name.specs.Reading.{◌>>=◌}
 use Rattle.dns_record.specs.Row.{PlainRow, IsRow}
 use Rattle.dns_record.specs.declared.soa.Soa.{Soa}
-use Rattle.row_list.specs.Stored.{PlainStored}
+use Rattle.packed_lists.specs.Stored.{PlainStored}
 use Rattle.trigger_codec.specs.Bases.{IsTrigger}
 use Rattle.trigger_codec.specs.declared.trigger.Trigger.{Trigger}
 use Rattle.action_codec.specs.Action.{action_by}

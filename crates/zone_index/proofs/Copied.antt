@@ -5,8 +5,8 @@ use Rattle.std.proofs.lemmas.Option.{slice_get_within, get_or_from_slice_get}
 use Rattle.std.proofs.lemmas.List.{take_all}
 use Rattle.dns_record.specs.Row.{PlainRow}
 use Rattle.zone_rows.proofs.Places.{take_item}
-use Rattle.row_list.specs.Blocks.{PlainRowList}
-use Rattle.row_list.specs.Stored.{PlainStored}
+use Rattle.packed_lists.specs.Blocks.{PlainRowList}
+use Rattle.packed_lists.specs.Stored.{PlainStored}
 use Rattle.zone_index.specs.Places.{PlainPlaces}
 use Rattle.zone_rows.specs.Stored.{IsStored, plain_row}
 use Rattle.zone_index.specs.Placed.{IsIndexed, PlainIndexed}

@@ -13,9 +13,9 @@ use Rattle.std.proofs.lemmas.List.Kept.{AllPairs-filter}
 use Rattle.dns_record.specs.Row.{PlainRow, IsRow, identity}
 use Rattle.dns_name.specs.Labels.{name_octets}
 use Rattle.dns_name.proofs.WireLemmas.{labels_in-octets, IsWire-octets}
-use Rattle.row_list.specs.Blocks.{PlainRowList, with_row, without_row as list_without}
-use Rattle.row_list.specs.Stored.{PlainStored, NumbersRise, has_number, row_of_number, without_number}
-use Rattle.row_list.proofs.Joined.{rise_more, rise_without}
+use Rattle.packed_lists.specs.Blocks.{PlainRowList, with_row, without_row as list_without}
+use Rattle.packed_lists.specs.Stored.{PlainStored, NumbersRise, has_number, row_of_number, without_number}
+use Rattle.packed_lists.proofs.Joined.{rise_more, rise_without}
 use Rattle.zone_index.specs.Places.{AreRanked, PlainPlaces, entry_at}
 use Rattle.zone_index.specs.declared.place.Place.{Place}
 use Rattle.zone_rows.specs.Distinct.{AreDistinct}

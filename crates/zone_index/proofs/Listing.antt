@@ -3,8 +3,8 @@ use Rattle.std.proofs.Common.{◌≡◌, ℕ, zero, suc, ◌+◌, Result, Ok, Er
 use Rattle.std.specs.List.{AllByRecursion}
 use Rattle.std.specs.Prelude.{All, IfOk, OnOk}
 use Rattle.std.proofs.lemmas.List.{map-append}
-use Rattle.key_list.specs.Keyed.{PlainKeyed}
-use Rattle.row_list.specs.Stored.{PlainStored}
+use Rattle.packed_lists.specs.Keyed.{PlainKeyed}
+use Rattle.packed_lists.specs.Stored.{PlainStored}
 use Rattle.zone_index.specs.Gathering.{IsListed, keyed_rows}
 use Rattle.zone_index.specs.Placed.{row_place}
 use Rattle.zone_index.specs.PlaceOctets.{IsSized, place_octets}

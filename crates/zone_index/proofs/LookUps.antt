@@ -8,8 +8,8 @@ use Rattle.ip_prefix.specs.declared.Addr.{Addr}
 use Rattle.ip_prefix.specs.Prefix.{PlainPrefix}
 use Rattle.prefix_index.specs.Longest.{longest}
 use Rattle.qname_index.specs.Best.{best}
-use Rattle.row_list.specs.Blocks.{PlainRowList}
-use Rattle.row_list.specs.Stored.{NumbersRise}
+use Rattle.packed_lists.specs.Blocks.{PlainRowList}
+use Rattle.packed_lists.specs.Stored.{NumbersRise}
 use Rattle.trigger_codec.specs.declared.trigger.Kind.{Kind}
 use Rattle.trigger_codec.specs.declared.trigger.Trigger.{Trigger}
 use Rattle.zone_index.specs.Entry.{PlainEntry}

@@ -6,10 +6,10 @@ use Rattle.std.specs.Str.{bytes_eq}
 use Rattle.std.proofs.lemmas.Slice.Eq.{bytes_eq-Decides}
 use Rattle.std.proofs.lemmas.List.Elements.{filter_passes}
 use Rattle.std.proofs.lemmas.List.{drop-drop, drop_all, length-append, length-drop, length-map, take_all}
-use Rattle.key_list.specs.Keyed.{IsFirstRun, PlainKeyed, numbers_with}
-use Rattle.key_list.specs.Seen.{keyed_seen}
-use Rattle.key_list.specs.declared.keyed.Keyed.{Keyed}
-use Rattle.row_list.specs.Stored.{PlainStored, NumbersRise, has_number, row_of_number}
+use Rattle.packed_lists.specs.Keyed.{IsFirstRun, PlainKeyed, numbers_with}
+use Rattle.packed_lists.specs.KeysSeen.{keyed_seen}
+use Rattle.packed_lists.specs.declared.keyed.Keyed.{Keyed}
+use Rattle.packed_lists.specs.Stored.{PlainStored, NumbersRise, has_number, row_of_number}
 use Rattle.zone_index.specs.Entry.{PlainEntry}
 use Rattle.zone_index.specs.Places.{PlainPlaces, entry_at, no_places, with_entry}
 use Rattle.zone_index.specs.PlaceOctets.{IsSized, place_octets}

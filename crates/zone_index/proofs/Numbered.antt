@@ -10,7 +10,7 @@ use Rattle.dns_record.specs.Row.{PlainRow, IsRow, AreAlike, identity}
 use Rattle.action_codec.specs.Action.{is_live_type}
 use Rattle.trigger_codec.specs.Decode.{trigger}
 use Rattle.zone_index.specs.declared.place.Place.{Place}
-use Rattle.row_list.specs.Stored.{PlainStored, NumbersRise, has_number, row_of_number, without_number}
+use Rattle.packed_lists.specs.Stored.{PlainStored, NumbersRise, has_number, row_of_number, without_number}
 use Rattle.zone_rows.specs.Repeats.{has_row}
 use Rattle.zone_rows.specs.Steps.{without_row}
 use Rattle.zone_rows.specs.Stored.{IsStored, plain_row}

@@ -10,7 +10,7 @@ use Rattle.std.specs.declared.cmp.Ordering.{Ordering}
 use Rattle.std.proofs.lemmas.List.Elements.{filter-append}
 use Rattle.dns_record.specs.Row.{PlainRow, IsRow}
 use Rattle.prefix_index.specs.Order.{prefix_order_total}
-use Rattle.row_list.specs.Stored.{PlainStored, has_number, without_number}
+use Rattle.packed_lists.specs.Stored.{PlainStored, has_number, without_number}
 use Rattle.trigger_codec.specs.Bases.{IsPattern}
 use Rattle.trigger_codec.specs.declared.trigger.Trigger.{Trigger}
 use Rattle.trigger_codec.specs.declared.trigger.Trigger.TheVariants.{ClientIp, Qname, ResponseIp, NsDname, NsIp}

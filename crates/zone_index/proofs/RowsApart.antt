@@ -9,7 +9,7 @@ use Rattle.std.proofs.lemmas.List.{length-append, length-map}
 use Rattle.std.proofs.lemmas.List.Elements.{All-from_recursion}
 use Rattle.std.proofs.lemmas.List.Kept.{AllPairs-cons}
 use Rattle.dns_record.specs.Row.{PlainRow, identity}
-use Rattle.row_list.specs.Stored.{PlainStored, row_of_number}
+use Rattle.packed_lists.specs.Stored.{PlainStored, row_of_number}
 use Rattle.zone_index.specs.Placed.{IsPlace, is_same_place, row_place, rows_by, stored_at, with_found}
 use Rattle.zone_index.specs.declared.place.Place.{Place}
 use Rattle.zone_rows.specs.Distinct.{AreDistinct}

@@ -7,7 +7,7 @@ use Rattle.action_codec.specs.declared.action.Action.{Action}
 use Rattle.action_codec.specs.declared.action.Action.TheVariants.{NxDomain as NxDomainAction, NoData as NoDataAction, PassThru as PassThruAction, Drop as DropAction, TcpOnly as TcpOnlyAction}
 use Rattle.dns_name.specs.Alike.{PlainPattern}
 use Rattle.dns_record.specs.Row.{PlainRow}
-use Rattle.row_list.specs.Stored.{PlainStored, row_of_number}
+use Rattle.packed_lists.specs.Stored.{PlainStored, row_of_number}
 use Rattle.trigger_codec.specs.declared.trigger.Trigger.{Trigger}
 use Rattle.zone_index.specs.Places.{PlainPlaces, with_entry, without_entry}
 use Rattle.zone_index.specs.declared.does.Does.{Does}

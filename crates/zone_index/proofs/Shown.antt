@@ -17,7 +17,7 @@ use Rattle.ip_prefix.specs.Prefix.{PlainPrefix, contains, prefix_order}
 use Rattle.prefix_index.specs.Longest.{longest}
 use Rattle.prefix_index.specs.Order.{prefix_order_total}
 use Rattle.qname_index.specs.Best.{best, pattern_order}
-use Rattle.row_list.specs.Stored.{PlainStored, NumbersRise, row_of_number}
+use Rattle.packed_lists.specs.Stored.{PlainStored, NumbersRise, row_of_number}
 use Rattle.trigger_codec.specs.Bases.{IsPattern, IsTrigger}
 use Rattle.trigger_codec.specs.declared.trigger.Kind.{Kind}
 use Rattle.trigger_codec.specs.declared.trigger.Kind.TheVariants as kinds

@@ -3,8 +3,8 @@
 use Rattle.std.specs.Prelude.{◌≡◌, ℕ, ◌<◌, List, [], ◌∷◌, length, map}
 use Rattle.std.specs.List.{AllByRecursion}
 use Rattle.dns_name.specs.Labels.{Name}
-use Rattle.key_list.specs.Keyed.{AreInOrder, PlainKeyed, numbers_with}
-use Rattle.row_list.specs.Stored.{PlainStored}
+use Rattle.packed_lists.specs.Keyed.{AreInOrder, PlainKeyed, numbers_with}
+use Rattle.packed_lists.specs.Stored.{PlainStored}
 use Rattle.zone_index.specs.PlaceOctets.{IsSized, place_octets}
 use Rattle.zone_index.specs.Placed.{IsPlace, entry_for, row_place, rows_by, stored_at}
 use Rattle.zone_index.specs.Places.{PlainPlaces, entry_at}

@@ -13,7 +13,7 @@ use Rattle.zone_rows.specs.declared.zone.Content.{Content}
 use Rattle.zone_rows.specs.declared.transfer.Transfer.{Transfer}
 use Rattle.zone_rows.specs.declared.transfer.Transfer.TheVariants.{Whole, Steps}
 use Rattle.zone_rows.specs.declared.zone.TheConstants.{ROW_LIMIT}
-use Rattle.row_list.specs.Blocks.{PlainRowList}
+use Rattle.packed_lists.specs.Blocks.{PlainRowList}
 use Rattle.zone_rows.specs.Distinct.{AreDistinct}
 use Rattle.zone_rows.specs.Repeats.{without_repeats}
 use Rattle.zone_rows.specs.Stepping.{whole_outcome}

@@ -7,7 +7,7 @@ use Rattle.std.specs.Str.{bytes_eq}
 use Rattle.dns_name.specs.Labels.{Name}
 use Rattle.dns_record.specs.Row.{PlainRow, identity}
 use Rattle.qname_index.specs.Best.{pattern_order}
-use Rattle.row_list.specs.Stored.{PlainStored, row_of_number}
+use Rattle.packed_lists.specs.Stored.{PlainStored, row_of_number}
 use Rattle.trigger_codec.specs.Bases.{IsPattern, IsTrigger}
 use Rattle.trigger_codec.specs.Decode.{trigger}
 use Rattle.trigger_codec.specs.declared.trigger.Trigger.{Trigger}

@@ -3,7 +3,7 @@
 ghost use Rattle.std.specs.Prelude.{◌≡◌, ◌+◌, ◌≤◌, ◌||◌, ◌++◌, All as AllOf, length, map, nat_lt, option_copied, IfOk};
 ghost use Rattle.std.specs.List.{AllByRecursion};
 ghost use Rattle.dns_record.specs.Row.{IsRow};
-ghost use Rattle.row_list.specs.Seen.{seen};
+ghost use Rattle.packed_lists.specs.RowsSeen.{seen};
 ghost use Rattle.zone_index.specs.Changes.{ListsTriggers, HasStepRows, held_rows, live_triggers, place_triggers, step_rows, step_triggers};
 ghost use Rattle.zone_index.specs.Indexed.{HasRows, content_of};
 ghost use Rattle.zone_index.specs.Placed.{row_place};
@@ -14,7 +14,7 @@ use crate::loaded::Loaded;
 use crate::place::Place;
 use crate::row_place::stored_place;
 use dns_name::Name;
-use row_list::{RowList, StoredRow};
+use packed_lists::{RowList, StoredRow};
 use std::alloc::{AllocError, Global};
 use trigger_codec::Trigger;
 use zone_rows::{Rows, Step};

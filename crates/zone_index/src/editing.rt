@@ -2,7 +2,7 @@
 
 ghost use Rattle.std.specs.Prelude.{◌≡◌, ◌++◌, [], ◌∷◌, All, map, IfOk};
 ghost use Rattle.dns_name.specs.Labels.{name_octets};
-ghost use Rattle.row_list.specs.Blocks.{with_row, without_row};
+ghost use Rattle.packed_lists.specs.Blocks.{with_row, without_row};
 ghost use Rattle.zone_index.specs.Places.{entry_at};
 ghost use Rattle.zone_index.specs.Placed.{entry_for, numbers_of, other_numbers, put_at, rows_by};
 ghost use Rattle.zone_rows.specs.Stored.{IsStored};
@@ -12,7 +12,7 @@ use crate::place::Place;
 use crate::settling::settle;
 use crate::trigger_index::TriggerIndex;
 use dns_record::Row;
-use row_list::RowList;
+use packed_lists::RowList;
 use std::alloc::{AllocError, Global};
 
 /// Rows, and what stands at each place of theirs.

@@ -2,7 +2,7 @@
 
 ghost use Rattle.std.specs.Prelude.{◌≡◌, All, IfOk};
 ghost use Rattle.dns_record.specs.Row.{identity};
-ghost use Rattle.row_list.specs.Stored.{row_of_number};
+ghost use Rattle.packed_lists.specs.Stored.{row_of_number};
 ghost use Rattle.zone_index.specs.Places.{entry_at};
 ghost use Rattle.zone_index.specs.Placed.{has_identity, number_among, numbers_of};
 ghost use Rattle.zone_rows.specs.Stored.{IsStored};
@@ -11,7 +11,7 @@ use crate::place::Place;
 use crate::trigger_index::TriggerIndex;
 use dns_name::Octets;
 use dns_record::Row;
-use row_list::RowList;
+use packed_lists::RowList;
 use std::alloc::{AllocError, Global};
 use zone_rows::RowRef;
 

@@ -2,8 +2,8 @@
 
 ghost use Rattle.std.specs.Prelude.{◌≡◌, ◌+◌, ◌<◌, ◌≤◌, All, None, Some, true, drop as drop_list, length, map, take, IfOk, IfSome, IsSome, OnOk};
 ghost use Rattle.std.specs.Option.{is_some, option_map};
-ghost use Rattle.key_list.specs.Seen.{keyed_seen};
-ghost use Rattle.row_list.specs.Stored.{row_of_number};
+ghost use Rattle.packed_lists.specs.KeysSeen.{keyed_seen};
+ghost use Rattle.packed_lists.specs.Stored.{row_of_number};
 ghost use Rattle.zone_index.specs.Gathering.{AreGathered, AreKeysOf, AreSized, IsListed, IsRunOf};
 ghost use Rattle.zone_index.specs.Placed.{IsIndexOf, entry_for, put_at, row_place, rows_by};
 ghost use Rattle.zone_index.specs.Places.{entry_at};
@@ -19,8 +19,8 @@ use crate::settling::does_at;
 use crate::trigger_index::TriggerIndex;
 use dns_name::Name;
 use dns_name::laws::{case_does_not_matter, names_of_equal_octets_are_equal};
-use key_list::{KeyList, Keyed, first_run, numbers_of};
-use row_list::RowList;
+use packed_lists::{KeyList, Keyed, first_run, numbers_of};
+use packed_lists::RowList;
 use std::alloc::{AllocError, Global};
 
 // Puts the row at `at` behind those before it.

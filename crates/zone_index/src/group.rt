@@ -8,7 +8,7 @@ use crate::does::Does;
 use crate::entry::EntryRef;
 use crate::kept::Kept;
 use crate::numbers::Numbers;
-use shared_list::{Held, SharedTable};
+use packed_lists::{Held, SharedTable};
 use std::alloc::{AllocError, Global};
 use trie_keys::Marked;
 

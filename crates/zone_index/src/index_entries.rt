@@ -13,7 +13,7 @@ use crate::places::Places;
 use crate::prefix_entries::PrefixEntries;
 use crate::trigger_index::TriggerIndex;
 use crate::usage::Usage;
-use shared_list::{Held, SharedTable};
+use packed_lists::{Held, SharedTable};
 use std::alloc::{AllocError, Global};
 use std::marker::Model;
 

@@ -19,7 +19,7 @@ use dns_name::Name;
 use dns_name::laws::{case_does_not_matter, names_of_equal_octets_are_equal};
 use dns_record::Row;
 use dns_record::laws::rows_of_one_identity_differ_in_the_ttl_alone;
-use row_list::RowList;
+use packed_lists::RowList;
 use std::alloc::{AllocError, Global};
 use std::marker::Model;
 use zone_rows::{RowRef, Rows};

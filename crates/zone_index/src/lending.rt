@@ -12,7 +12,7 @@ use crate::does::DoesRef;
 use crate::entry::EntryRef;
 use crate::numbers::Numbers;
 use action_codec::{ActionRef, LocalPart, LocalRef};
-use row_list::RowList;
+use packed_lists::RowList;
 use zone_rows::RowRef;
 
 // The row of the first of these numbers, as an answer.

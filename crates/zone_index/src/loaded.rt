@@ -18,7 +18,7 @@ use crate::stepping::after_step;
 use crate::zone::Index;
 use dns_name::Name;
 use dns_record::{Record, Soa, serial_newer};
-use row_list::RowList;
+use packed_lists::RowList;
 use std::alloc::{AllocError, Global};
 use zone_rows::laws::without_repeats_stand_the_first_rows;
 use zone_rows::{

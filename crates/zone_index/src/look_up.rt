@@ -12,7 +12,7 @@ use crate::patterns::Patterns;
 use crate::prefixes::Prefixes;
 use ip_prefix::{Addr, Prefix};
 use qname_index::{Found, LookupName, PatternRef};
-use shared_list::{Held, SharedTable};
+use packed_lists::{Held, SharedTable};
 
 /// The rule that comes first of those whose prefix contains the address.
 pub(crate) fn longest<'a>(

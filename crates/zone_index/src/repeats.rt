@@ -1,8 +1,8 @@
 //! Whether rows of a transfer repeat: rows of one identity stand at one place, so that only the rows of a place are compared.
 
 ghost use Rattle.std.specs.Prelude.{◌≡◌, ◌<◌, ◌≤◌, ◌++◌, [], All, true, drop as drop_list, length, map, IfOk, IfSome};
-ghost use Rattle.key_list.specs.Seen.{keyed_seen};
-ghost use Rattle.row_list.specs.Stored.{row_of_number};
+ghost use Rattle.packed_lists.specs.KeysSeen.{keyed_seen};
+ghost use Rattle.packed_lists.specs.Stored.{row_of_number};
 ghost use Rattle.zone_index.specs.Gathering.{AreApart, AreKeysOf, AreSized};
 ghost use Rattle.zone_index.specs.Placed.{rows_by, with_found};
 ghost use Rattle.zone_rows.specs.Distinct.{AreDistinct};
@@ -12,8 +12,8 @@ use crate::place_octets::octets_tell_places_apart;
 use dns_name::Name;
 use dns_name::laws::{case_does_not_matter, names_of_equal_octets_are_equal};
 use dns_record::laws::rows_of_one_identity_differ_in_the_ttl_alone;
-use key_list::{Keyed, first_run, numbers_of};
-use row_list::RowList;
+use packed_lists::{Keyed, first_run, numbers_of};
+use packed_lists::RowList;
 use std::alloc::{AllocError, Global};
 use zone_rows::laws::without_repeats_stand_the_first_rows;
 use zone_rows::{RowRef, Rows};

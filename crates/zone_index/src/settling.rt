@@ -1,8 +1,8 @@
 //! What stands at a place once its rows are others.
 
 ghost use Rattle.std.specs.Prelude.{◌≡◌, ◌++◌, [], All, map, IfOk, IfSome, if◌then◌else◌};
-ghost use Rattle.row_list.specs.Seen.{seen};
-ghost use Rattle.row_list.specs.Stored.{row_of_number};
+ghost use Rattle.packed_lists.specs.RowsSeen.{seen};
+ghost use Rattle.packed_lists.specs.Stored.{row_of_number};
 ghost use Rattle.zone_index.specs.Placed.{does_for, entry_for, is_root_row, one_does, place_action, put_at, rows_by, several_do, with_found};
 ghost use Rattle.zone_rows.specs.Stored.{IsStored, plain_row};
 
@@ -11,7 +11,7 @@ use crate::place::Place;
 use crate::trigger_index::TriggerIndex;
 use action_codec::{Action, action_of};
 use dns_record::{Row, rtype};
-use row_list::{RowList, StoredRow};
+use packed_lists::{RowList, StoredRow};
 use std::alloc::{AllocError, Global};
 use zone_rows::RowRef;
 

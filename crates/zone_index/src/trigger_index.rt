@@ -25,7 +25,7 @@ use crate::usage::Usage;
 use ip_prefix::{Addr, Prefix};
 use octet_trie::OctetFound;
 use qname_index::{LookupName, PatternRef};
-use shared_list::{Held, Share, SharedTable};
+use packed_lists::{Held, Share, SharedTable};
 use std::alloc::{AllocError, Global};
 use std::marker::Model;
 use trie_keys::Marked;

@@ -15,8 +15,8 @@ use Rattle.dns_record.specs.Row.{PlainRow, IsRow, row_of}
 use Rattle.dns_record.specs.declared.fault.RecordError.{RecordError}
 use Rattle.dns_record.specs.declared.fault.RecordError.TheVariants.{Fault}
 use Rattle.dns_record.specs.declared.fault.RecordFault.{RecordFault}
-use Rattle.row_list.specs.Blocks.{PlainRowList, with_row}
-use Rattle.row_list.specs.Stored.{PlainStored, NumbersRise}
+use Rattle.packed_lists.specs.Blocks.{PlainRowList, with_row}
+use Rattle.packed_lists.specs.Stored.{PlainStored, NumbersRise}
 use Rattle.zone_rows.specs.Stored.{IsStored, plain_row, record_of}
 
 pub joined_three : (before a b c : List ℕ) → ((before ++ a) ++ b) ++ c ≡ before ++ ((a ++ b) ++ c)

@@ -3,7 +3,7 @@ use Rattle.dns_name.specs.Wire.{IsWire, labels_in}
 use Rattle.dns_record.specs.declared.class.TheConstants.{IN}
 use Rattle.dns_record.specs.Record.{PlainRecord}
 use Rattle.dns_record.specs.Row.{PlainRow, IsRow}
-use Rattle.row_list.specs.Stored.{PlainStored}
+use Rattle.packed_lists.specs.Stored.{PlainStored}
 
 -- the row: the octets of its owner are a name as it is written
 abbrev pub plain_row : PlainStored → PlainRow

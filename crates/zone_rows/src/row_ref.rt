@@ -4,14 +4,14 @@ ghost use Rattle.std.specs.Prelude.{◌≡◌, ◌++◌, length, take, IfOk, OnO
 ghost use Rattle.dns_name.specs.Labels.{name_octets};
 ghost use Rattle.dns_record.specs.Record.{record_octets};
 ghost use Rattle.dns_record.specs.Row.{IsRow, identity as row_identity};
-ghost use Rattle.row_list.specs.Seen.{seen};
+ghost use Rattle.packed_lists.specs.RowsSeen.{seen};
 ghost use Rattle.zone_rows.specs.Stored.{IsStored, plain_row, record_of};
 
 use dns_name::Octets;
 use dns_record::laws::a_record_is_read_where_it_stands;
 use dns_record::number::push_u16;
 use dns_record::{RecordError, RecordRef, Row, class, read_record};
-use row_list::StoredRow;
+use packed_lists::StoredRow;
 use std::alloc::{AllocError, Global};
 use std::marker::Model;
 
@@ -23,7 +23,7 @@ pub struct RowRef<'a> {
 
 impl<'a> Model for RowRef<'a> {
     ghost use Rattle.dns_record.specs.Row.{PlainRow};
-    ghost use Rattle.row_list.specs.Seen.{seen};
+    ghost use Rattle.packed_lists.specs.RowsSeen.{seen};
     ghost use Rattle.zone_rows.specs.Stored.{IsStored, plain_row};
 
     ghost Value = { PlainRow };

@@ -8,7 +8,7 @@ ghost use Rattle.zone_rows.specs.Stored.{IsStored, plain_row};
 use crate::key_set::KeySet;
 use crate::row_ref::RowRef;
 use dns_record::Row;
-use row_list::RowList;
+use packed_lists::RowList;
 use std::alloc::{AllocError, Global};
 use std::fmt;
 use std::marker::Model;

@@ -1,7 +1,7 @@
 use Rattle.std.proofs.Common.{◌≡◌, ◌+◌, ◌≤◌, ◌&&◌, length, take}
 use Rattle.std.specs.Prelude.{IfSome}
 use Rattle.std.specs.Option.{option_map}
-use Rattle.shared_list.specs.Octets.{StandsWhole}
+use Rattle.packed_lists.specs.Octets.{StandsWhole}
 use Rattle.trie_keys.specs.Scan.{last_where, option_else}
 use Rattle.octet_trie.specs.Fits.{entry_of, fits}
 use Rattle.octet_trie.specs.Nodes.{IsNode, name_of, stands}

@@ -1,6 +1,6 @@
 use Rattle.std.proofs.Common.{◌≡◌, length}
 use Rattle.rpz_words.specs.Lists.{has_twice}
-use Rattle.allow_list.specs.Allowed.{is_same_network}
+use Rattle.networks.specs.Allowed.{is_same_network}
 use Rattle.rpz_words.proofs.allowed.has_repeated.Given as goal
 
 abbrev pub invariant-loop-left : goal.invariant-loop-left

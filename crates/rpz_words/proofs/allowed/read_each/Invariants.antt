@@ -1,5 +1,5 @@
 use Rattle.std.proofs.Common.{◌≡◌, drop}
-use Rattle.address_text.specs.NetworkText.{network_text}
+use Rattle.networks.specs.NetworkText.{network_text}
 use Rattle.rpz_words.specs.Lists.{allow_fault, each_of}
 use Rattle.rpz_words.proofs.EachLemmas.{continued, texts_of}
 use Rattle.rpz_words.proofs.allowed.read_each.Given as goal

@@ -1,4 +1,4 @@
-use Rattle.row_list.specs.Seen.{seen}
+use Rattle.packed_lists.specs.RowsSeen.{seen}
 use Rattle.zone_index.proofs.Changed.{more_triggers}
 use Rattle.zone_index.proofs.changes.push_triggers.Goals as goal
 

@@ -1,8 +1,8 @@
 use Rattle.std.proofs.Common.{sym, subst}
 use Rattle.std.specs.Prelude.{All, not}
 use Rattle.std.proofs.lemmas.List.Elements.{All-filter}
-use Rattle.row_list.specs.Blocks.{PlainRowList}
-use Rattle.row_list.specs.Stored.{has_number}
+use Rattle.packed_lists.specs.Blocks.{PlainRowList}
+use Rattle.packed_lists.specs.Stored.{has_number}
 use Rattle.zone_rows.specs.Stored.{IsStored}
 use Rattle.zone_index.proofs.editing.removed.Goals as goal
 

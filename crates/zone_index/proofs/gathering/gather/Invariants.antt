@@ -1,5 +1,5 @@
 use Rattle.std.proofs.Common.{◌≤◌, ◌-◌, length, map, drop}
-use Rattle.key_list.specs.Seen.{keyed_seen}
+use Rattle.packed_lists.specs.KeysSeen.{keyed_seen}
 use Rattle.zone_index.specs.Gathering.{AreGathered}
 use Rattle.zone_index.proofs.gathering.gather.Given as goal
 

@@ -1,5 +1,5 @@
 use Rattle.std.proofs.Common.{sym, map, subst}
-use Rattle.key_list.specs.Seen.{keyed_seen}
+use Rattle.packed_lists.specs.KeysSeen.{keyed_seen}
 use Rattle.zone_index.specs.Gathering.{AreGathered}
 use Rattle.zone_index.proofs.ManyRows.{AreRows, first_found, its_run, none_yet, one_gathered, rest_seen, run_within, seen_first}
 use Rattle.zone_index.proofs.Numbered.{all_recursion}

@@ -1,5 +1,5 @@
 use Rattle.std.proofs.Common.{◌++◌, ap, ◌∙◌}
-use Rattle.row_list.specs.Seen.{seen}
+use Rattle.packed_lists.specs.RowsSeen.{seen}
 use Rattle.zone_index.proofs.Listing.{row_listed, stored_there, where_ok}
 use Rattle.zone_index.specs.PlaceOctets.{place_octets}
 use Rattle.zone_index.proofs.gathering.list_row.Goals as goal

@@ -1,6 +1,6 @@
 use Rattle.std.proofs.Common.{◌++◌, ◌∷◌, [], ap, ◌∙◌}
 use Rattle.dns_record.specs.Row.{PlainRow}
-use Rattle.row_list.specs.Seen.{seen}
+use Rattle.packed_lists.specs.RowsSeen.{seen}
 use Rattle.zone_index.proofs.Copied.{one_copied, stored_got}
 use Rattle.zone_index.proofs.indexed.copied.Goals as goal
 

@@ -1,5 +1,5 @@
 use Rattle.std.proofs.Common.{map, drop, arith}
-use Rattle.key_list.specs.Seen.{keyed_seen}
+use Rattle.packed_lists.specs.KeysSeen.{keyed_seen}
 use Rattle.zone_index.proofs.ManyRows.{AreRows, each_apart, done_all, none_apart}
 use Rattle.zone_index.proofs.Numbered.{all_recursion}
 use Rattle.zone_index.proofs.RowsApart.{all_distinct}

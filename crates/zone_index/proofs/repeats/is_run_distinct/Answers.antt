@@ -1,7 +1,7 @@
 use Rattle.std.proofs.Common.{map, arith}
 use Rattle.std.proofs.lemmas.List.{length-map}
-use Rattle.key_list.specs.Keyed.{PlainKeyed}
-use Rattle.key_list.specs.Seen.{keyed_seen}
+use Rattle.packed_lists.specs.Keyed.{PlainKeyed}
+use Rattle.packed_lists.specs.KeysSeen.{keyed_seen}
 use Rattle.zone_index.proofs.RowsApart.{alone_distinct}
 use Rattle.zone_index.proofs.repeats.is_run_distinct.Goals as goal
 

@@ -1,6 +1,6 @@
 use Rattle.std.proofs.Common.{sym, ap, ◌∙◌}
 use Rattle.std.specs.Option.{option_map}
-use Rattle.row_list.specs.Seen.{seen}
+use Rattle.packed_lists.specs.RowsSeen.{seen}
 use Rattle.zone_index.proofs.Numbered.{found_stored}
 use Rattle.zone_index.proofs.repeats.push_row.Goals as goal
 

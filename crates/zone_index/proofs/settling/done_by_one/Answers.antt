@@ -1,6 +1,6 @@
 use Rattle.std.proofs.Common.{sym, ap, ◌∙◌, arith, slice_index_or}
 use Rattle.std.specs.Option.{option_map}
-use Rattle.row_list.specs.Seen.{seen}
+use Rattle.packed_lists.specs.RowsSeen.{seen}
 use Rattle.zone_index.proofs.Settled.{one_number, other_does, rule_does}
 use Rattle.zone_index.proofs.settling.done_by_one.Goals as goal
 

@@ -1,5 +1,0 @@
-use Rattle.allow_list.proofs.ListLemmas.{network_found}
-use Rattle.allow_list.proofs.laws.a_network_is_found_by_its_value.Goals as goal
-
-pub returns : goal.returns
-returns c = network_found

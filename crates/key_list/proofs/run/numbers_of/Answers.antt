@@ -1,7 +1,0 @@
-use Rattle.std.proofs.Common.{map, ap, ◌∙◌}
-use Rattle.std.proofs.lemmas.List.{take_all}
-use Rattle.key_list.proofs.Runs.{numbers_seen}
-use Rattle.key_list.proofs.run.numbers_of.Goals as goal
-
-pub returns : goal.returns
-returns c = c.loop-keyed.invariant ∙ ap (map (λ k. k.number)) (take_all _ _ c.loop-keyed-test.false) ∙ numbers_seen c.args.keys.now

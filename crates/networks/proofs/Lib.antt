@@ -1,0 +1,13 @@
+pub mod ListLemmas
+pub mod ColonLemmas
+pub mod CutLemmas
+pub mod DecimalLemmas
+pub mod ElisionLemmas
+pub mod FieldLemmas
+pub mod GroupLemmas
+pub mod HexLemmas
+pub mod NumberLemmas
+pub mod OnlyLemmas
+pub mod ReadLemmas
+pub mod StdLemmas
+pub mod WrittenLemmas

@@ -1,0 +1,12 @@
+pub mod Allowed
+pub mod Network
+pub mod Decimal
+pub mod Dotted
+pub mod Grammar
+pub mod Groups
+pub mod Mapped
+pub mod NetworkText
+pub mod Optional
+pub mod Split
+pub mod V6
+pub mod Written

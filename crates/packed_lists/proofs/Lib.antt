@@ -1,0 +1,7 @@
+pub mod Blocks
+pub mod Cutting
+pub mod Runs
+pub mod Sorting
+pub mod Packing
+pub mod Rising
+pub mod Joined

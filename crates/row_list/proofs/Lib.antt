@@ -1,3 +1,0 @@
-pub mod Packing
-pub mod Rising
-pub mod Joined

@@ -1,9 +1,0 @@
-use Rattle.std.proofs.Common.{◌++◌, ◌∷◌, [], ap, arith}
-use Rattle.row_list.specs.Blocks.{PlainRowList}
-use Rattle.row_list.proofs.Joined.{indexed_higher}
-use Rattle.row_list.proofs.list.RowList.skip_to.Goals as goal
-
-pub invariant_of-self : goal.invariant_of-self
-invariant_of-self c =
-    indexed_higher c.self.inside.firsts c.self.inside.starts (c.self.inside.blocks ++ c.self.inside.tail ∷ []) c.self.inside.next c.args.next c.self.invariant
-    (omega (arith, c.requires, ap (λ (v : PlainRowList). v.next) c.self.view_is)) (omega arith)

@@ -1,4 +1,0 @@
-pub mod Stored
-pub mod Seen
-pub mod Packed
-pub mod Blocks

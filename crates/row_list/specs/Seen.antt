@@ -1,6 +1,0 @@
--- A row that is lent, as a value.
-use Rattle.row_list.specs.Stored.{PlainStored}
-use Rattle.row_list.specs.declared.stored_row.StoredRow.{StoredRow}
-
-abbrev pub seen : StoredRow → PlainStored
-seen v = record { number = v.number; owner = v.owner.now; rtype = v.rtype; ttl = v.ttl; rdata = v.rdata.now }

@@ -1,5 +1,0 @@
-use Rattle.std.proofs.Common.{◌≡◌, map, take}
-use Rattle.shared_list.proofs.table.share_groups.Given as goal
-
-abbrev pub invariant-loop-group : goal.invariant-loop-group
-invariant-loop-group g l = map (λ b. b.value) l.full.items ≡ map (λ b. b.value) (take l.group-index l.groups.items)

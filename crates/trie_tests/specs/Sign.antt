@@ -1,8 +1,0 @@
--- What the marks of tests say.
-use Rattle.std.specs.Prelude.{Bool, true, false}
-use Rattle.trie_tests.specs.declared.sign.Sign.{Sign}
-use Rattle.trie_tests.specs.declared.sign.Sign.TheVariants.{Absent, There}
-
-abbrev pub is_there : Sign → Bool
-is_there Absent = false
-is_there There = true
