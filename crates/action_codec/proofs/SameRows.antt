@@ -12,7 +12,8 @@ use Rattle.dns_record.specs.Number.{number_octets}
 use Rattle.dns_record.specs.Row.{PlainRow, IsRow, AreAlike, identity}
 use Rattle.action_codec.specs.Laws.{HasOneFor, HaveOneTtl, HaveSameRows}
 use Rattle.action_codec.specs.Local.{data_key, rule_rows}
-use Rattle.action_codec.proofs.RowOrders.{by_data, by_owner, by_data_total, same_data, same_name, both_no_later}
+use Rattle.action_codec.proofs.RowOrders.{by_data, by_owner, by_data_total, same_data, both_no_later}
+use Rattle.dns_name.proofs.Orders.{alike_from_equal as same_name}
 use Rattle.action_codec.proofs.PlacedRows.{IsIn, StandsFor, HasFor, at_in, rule_rows-sorted, in_rule_rows, rule_rows_has}
 
 -- ---- sorted lists of which each has one for each row of the other

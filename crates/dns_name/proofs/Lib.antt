@@ -8,3 +8,4 @@ pub mod TextLaw
 pub mod AlikeLemmas
 pub mod OrderLemmas
 pub mod PartLemmas
+pub mod Orders

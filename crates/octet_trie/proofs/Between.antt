@@ -13,8 +13,8 @@ use Rattle.octet_trie.proofs.Kinship.{AllBelow, AllAbove, behind_joined, before_
 use Rattle.octet_trie.proofs.ListLaws.{list_laws}
 use Rattle.octet_trie.proofs.Spelling.{own_under}
 use Rattle.octet_trie.proofs.Stretches.{flat_append}
-use Rattle.trie_keys.specs.Beginning.{sides, turned}
-use Rattle.trie_keys.specs.Entries.{Before, Behind, all_append, insert_behind, insert_first, remove_behind, remove_first}
+use Rattle.trie_keys.proofs.Beginning.{sides, turned}
+use Rattle.trie_keys.proofs.Entries.{Before, Behind, all_append, insert_behind, insert_first, remove_behind, remove_first}
 use Rattle.trie_keys.specs.Keys.{Under}
 use Rattle.trie_keys.specs.Scan.{own}
 

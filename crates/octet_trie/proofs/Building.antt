@@ -22,9 +22,10 @@ use Rattle.octet_trie.proofs.Orders.{all_at, stretch_alike}
 use Rattle.octet_trie.proofs.Putting.{name_length, kid_under}
 use Rattle.octet_trie.proofs.Stretches.{flat_append, map_length, stretch_new}
 use Rattle.octet_trie.proofs.Tries.{valid_entry}
-use Rattle.trie_keys.specs.Entries.{all_append, all_map}
+use Rattle.trie_keys.proofs.Entries.{all_append, all_map}
 use Rattle.trie_keys.specs.Keys.{Under}
-use Rattle.trie_keys.specs.Filling.{with_all, with_sorted}
+use Rattle.trie_keys.specs.Filling.{with_all}
+use Rattle.trie_keys.proofs.Filling.{with_sorted}
 use Rattle.trie_keys.specs.Scan.{own}
 use Rattle.trie_keys.specs.Sorting.{AreEntries}
 use Rattle.trie_keys.specs.declared.marked.Marked.{Marked}

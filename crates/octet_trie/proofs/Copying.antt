@@ -11,7 +11,7 @@ use Rattle.octet_trie.proofs.Putting.{name_length}
 use Rattle.octet_trie.proofs.Searching.{kid_is, kids_count}
 use Rattle.octet_trie.proofs.Spelling.{spelled, length_symbols, unmapped}
 use Rattle.octet_trie.proofs.Stretches.{stretch_new, stretch_front}
-use Rattle.trie_keys.specs.Entries.{all_append, all_map}
+use Rattle.trie_keys.proofs.Entries.{all_append, all_map}
 use Rattle.trie_keys.specs.Keys.{Under}
 use Rattle.trie_keys.specs.declared.marked.Marked.{Marked}
 

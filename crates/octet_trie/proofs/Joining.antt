@@ -7,7 +7,8 @@ use Rattle.octet_trie.specs.Fits.{fits, acting, some_passes}
 use Rattle.octet_trie.specs.ListKeys.{entry_key}
 use Rattle.octet_trie.specs.Nodes.{PlainNode, Stored, name_of, kids_of, stands, IsNode, IsAt}
 use Rattle.octet_trie.proofs.Walking.{best_apart, best_here, best_gap, best_below}
-use Rattle.trie_keys.specs.Scan.{last_where, else_none, some_else, any_last}
+use Rattle.trie_keys.specs.Scan.{last_where}
+use Rattle.trie_keys.proofs.Scan.{else_none, some_else, any_last}
 
 pub any_chained : (result below own after before whole : Bool) → result ≡ (below || after) → after ≡ (own || before) → whole ≡ (below || own) → result ≡ (whole || before)
 any_chained result below own after before whole e f w = e ∙ ap (λ b. below || b) f ∙ sym (or_assoc below own before) ∙ ap (λ b. b || before) (sym w)

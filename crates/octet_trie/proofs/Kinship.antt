@@ -7,8 +7,8 @@ use Rattle.octet_trie.specs.ListKeys.{octet_keys}
 use Rattle.octet_trie.specs.Nodes.{Sub, joined, IsKid, AreKids}
 use Rattle.octet_trie.proofs.ListLaws.{list_laws}
 use Rattle.octet_trie.proofs.Stretches.{parted}
-use Rattle.trie_keys.specs.Beginning.{before_side, behind_side}
-use Rattle.trie_keys.specs.Entries.{Before, Behind, all_append}
+use Rattle.trie_keys.proofs.Beginning.{before_side, behind_side}
+use Rattle.trie_keys.proofs.Entries.{Before, Behind, all_append}
 use Rattle.trie_keys.specs.Keys.{Under}
 
 module _ {V : Type 0} where

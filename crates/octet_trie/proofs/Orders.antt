@@ -15,7 +15,7 @@ use Rattle.octet_trie.specs.Trie.{found_entry}
 use Rattle.octet_trie.specs.declared.trie.OctetFound.{OctetFound}
 use Rattle.octet_trie.proofs.ListLaws.{list_laws}
 use Rattle.octet_trie.proofs.Stretches.{stretch_at}
-use Rattle.trie_keys.specs.Entries.{all_append, all_first, all_second}
+use Rattle.trie_keys.proofs.Entries.{all_append, all_first, all_second}
 
 -- ---- the keys of two entries
 

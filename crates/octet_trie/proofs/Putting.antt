@@ -15,8 +15,8 @@ use Rattle.octet_trie.proofs.Numbers.{node_after, stands_after, name_after, kids
 use Rattle.octet_trie.proofs.Searching.{kid_is, kids_count}
 use Rattle.octet_trie.proofs.Spelling.{length_symbols, own_under}
 use Rattle.octet_trie.proofs.Stretches.{parted, stretch_new, stretch_front, length_stretch}
-use Rattle.trie_keys.specs.Beginning.{all_further, under_begins}
-use Rattle.trie_keys.specs.Entries.{all_append, all_first, all_second, all_map, all_inserted}
+use Rattle.trie_keys.proofs.Beginning.{all_further, under_begins}
+use Rattle.trie_keys.proofs.Entries.{all_append, all_first, all_second, all_map, all_inserted}
 use Rattle.trie_keys.specs.Keys.{Under, Begins}
 use Rattle.trie_keys.specs.Scan.{own}
 

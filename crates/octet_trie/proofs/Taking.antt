@@ -18,8 +18,8 @@ use Rattle.octet_trie.proofs.Numbers.{node_after, stands_after, name_after, kids
 use Rattle.octet_trie.proofs.Putting.{name_length, key_short, each_under, begins_at, kid_under, kid_there, rekid_node, rekid_stands, rekid_name}
 use Rattle.octet_trie.proofs.Searching.{kid_is, kids_count}
 use Rattle.octet_trie.proofs.Stretches.{parted}
-use Rattle.trie_keys.specs.Beginning.{under_begins, further}
-use Rattle.trie_keys.specs.Entries.{all_first, all_second, all_map, remove_absent}
+use Rattle.trie_keys.proofs.Beginning.{under_begins, further}
+use Rattle.trie_keys.proofs.Entries.{all_first, all_second, all_map, remove_absent}
 use Rattle.trie_keys.specs.Keys.{Keys, KeyLaws, Under, Begins}
 use Rattle.trie_keys.specs.Scan.{own}
 use Rattle.trie_keys.specs.declared.marked.Marked.{Marked}

@@ -7,7 +7,8 @@ use Rattle.octet_trie.specs.Nodes.{PlainNode, Stored, stands}
 use Rattle.octet_trie.specs.Trie.{IsTrie}
 use Rattle.octet_trie.proofs.ListLaws.{list_laws}
 use Rattle.octet_trie.proofs.Spelling.{valid_short, length_symbols}
-use Rattle.trie_keys.specs.Sorting.{AreEntries, none_are_entries, entries_inserted, entries_removed}
+use Rattle.trie_keys.specs.Sorting.{AreEntries}
+use Rattle.trie_keys.proofs.Sorting.{none_are_entries, entries_inserted, entries_removed}
 
 pub valid_entry : (octets : List ℕ) (wild : Bool) → length octets ≤ 254 → octet_keys.valid (entry_key octets wild) ≡ true
 valid_entry octets wild h =

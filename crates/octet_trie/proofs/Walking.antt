@@ -18,10 +18,11 @@ use Rattle.octet_trie.proofs.Searching.{kid_is, kids_count}
 use Rattle.octet_trie.proofs.Spelling.{spelled, length_symbols, symbols_append, unmapped}
 use Rattle.octet_trie.proofs.Stretches.{parted, flat_append}
 use Rattle.octet_trie.proofs.Taking.{none_apart}
-use Rattle.trie_keys.specs.Beginning.{further}
-use Rattle.trie_keys.specs.Entries.{all_first, all_second, all_map}
+use Rattle.trie_keys.proofs.Beginning.{further}
+use Rattle.trie_keys.proofs.Entries.{all_first, all_second, all_map}
 use Rattle.trie_keys.specs.Keys.{Under, Begins}
-use Rattle.trie_keys.specs.Scan.{own, last_where, option_else, last_append, last_none, else_none, else_assoc}
+use Rattle.trie_keys.specs.Scan.{own, last_where, option_else}
+use Rattle.trie_keys.proofs.Scan.{last_append, last_none, else_none, else_assoc}
 
 abbrev found_at : {V : Type 0} → List ℕ → List (List ℕ × V) → Option V
 found_at key es = lookup (is_at (octet_keys.order key)) es

@@ -14,10 +14,10 @@ use Rattle.dns_record.specs.Row.{IsRow, PlainRow}
 use Rattle.dns_record.specs.Soa.{soa_record}
 use Rattle.ip_prefix.specs.declared.Addr.{Addr}
 use Rattle.ip_prefix.specs.Prefix.{PlainPrefix, contains, prefix_order}
-use Rattle.prefix_index.specs.Order.{prefix_order_total}
+use Rattle.prefix_index.proofs.Order.{prefix_order_total}
 use Rattle.qname_index.specs.Best.{pattern_order}
 use Rattle.qname_index.specs.Index.{IsKey}
-use Rattle.qname_index.specs.Rank.{rank_of, rank_total}
+use Rattle.qname_index.proofs.Rank.{rank_of, rank_total}
 use Rattle.trigger_codec.specs.Bases.{IsPattern, IsTrigger}
 use Rattle.trigger_codec.specs.declared.trigger.Trigger.{Trigger}
 use Rattle.trigger_codec.specs.declared.trigger.Trigger.TheVariants.{ClientIp, Qname, ResponseIp, NsDname, NsIp}

@@ -6,8 +6,8 @@ use Rattle.trie_keys.specs.Keys.{Keys, KeyLaws, Under}
 use Rattle.trie_keys.specs.Scan.{own}
 use Rattle.prefix_index.specs.PlainNode.{PlainNode}
 use Rattle.prefix_index.specs.Nodes.{Sub, subs_of, IsNode, AreWell, Pushed, Built}
-use Rattle.trie_keys.specs.Entries.{all_second}
-use Rattle.trie_keys.specs.Beginning.{AllUnder}
+use Rattle.trie_keys.proofs.Entries.{all_second}
+use Rattle.trie_keys.proofs.Beginning.{AllUnder}
 use Rattle.prefix_index.proofs.Numbers.{kid_after, no_kid, of_none, extends_itself, extends_along}
 use Rattle.prefix_index.proofs.Putting.{Parts, middle, zero_not_one, listed, kept_list, within_subs, pushed_list, pushed_kid}
 

@@ -13,17 +13,17 @@ use Rattle.std.specs.declared.cmp.Ordering.TheVariants.{Less, Equal, Greater}
 use Rattle.ip_prefix.specs.declared.Addr.{Addr}
 use Rattle.ip_prefix.specs.declared.Addr.TheVariants.{V4, V6}
 use Rattle.ip_prefix.specs.Prefix.{PlainPrefix, contains, prefix_order}
-use Rattle.trie_keys.specs.Entries.{all_append, all_map}
+use Rattle.trie_keys.proofs.Entries.{all_append, all_map}
 use Rattle.trie_keys.specs.Keys.{begins}
 use Rattle.trie_keys.specs.Sorting.{AreEntries}
 use Rattle.prefix_index.specs.Walk.{is_hit, last_hit}
 use Rattle.prefix_index.specs.Bits.{PlainBits, bits_order, bits_agree, bits_valid, bits_keys}
 use Rattle.prefix_index.specs.BitsLaws.{bits_laws, at_most}
-use Rattle.prefix_index.specs.Order.{prefix_order_total}
+use Rattle.prefix_index.proofs.Order.{prefix_order_total}
 use Rattle.prefix_index.specs.Ranked.{prefix_four, prefix_six, prefixes, ranked, ranked_prefixes}
-use Rattle.prefix_index.proofs.ByKey.{above-below}
+use Rattle.trie_keys.proofs.ByKey.{above-below}
 use Rattle.prefix_index.proofs.Last.{IsBelow, last_found, last_all, last_passes, last_none_all}
-use Rattle.prefix_index.proofs.OneList.{none_above}
+use Rattle.trie_keys.proofs.OneList.{none_above}
 use Rattle.prefix_index.proofs.Ranking.{look_four, look_six, sorted_ranked}
 use Rattle.prefix_index.proofs.Same.{same_prefix}
 

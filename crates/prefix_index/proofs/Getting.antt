@@ -8,8 +8,8 @@ use Rattle.std.specs.declared.cmp.Ordering.{Ordering}
 use Rattle.std.specs.declared.cmp.Ordering.TheVariants.{Less, Equal, Greater}
 use Rattle.trie_keys.specs.Keys.{Keys, KeyLaws, Under, Begins}
 use Rattle.trie_keys.specs.Scan.{own}
-use Rattle.trie_keys.specs.Entries.{Before, Behind, all_map}
-use Rattle.trie_keys.specs.Beginning.{before_side, behind_side, behind_own}
+use Rattle.trie_keys.proofs.Entries.{Before, Behind, all_map}
+use Rattle.trie_keys.proofs.Beginning.{before_side, behind_side, behind_own}
 use Rattle.prefix_index.specs.PlainNode.{PlainNode}
 use Rattle.prefix_index.specs.Nodes.{Sub, IsAt}
 use Rattle.prefix_index.proofs.Numbers.{of_none}

@@ -7,9 +7,10 @@ use Rattle.std.specs.declared.cmp.Ordering.{Ordering}
 use Rattle.std.specs.declared.cmp.Ordering.TheVariants.{Less}
 use Rattle.trie_keys.specs.Keys.{Keys, KeyLaws, Under}
 use Rattle.trie_keys.specs.Scan.{own}
-use Rattle.trie_keys.specs.Entries.{Before, all_append, all_map}
-use Rattle.trie_keys.specs.Beginning.{AllUnder, before_side}
-use Rattle.trie_keys.specs.Sorting.{AreEntries, none_are_entries}
+use Rattle.trie_keys.proofs.Entries.{Before, all_append, all_map}
+use Rattle.trie_keys.proofs.Beginning.{AllUnder, before_side}
+use Rattle.trie_keys.specs.Sorting.{AreEntries}
+use Rattle.trie_keys.proofs.Sorting.{none_are_entries}
 use Rattle.prefix_index.specs.PlainNode.{PlainNode}
 use Rattle.prefix_index.specs.Nodes.{Sub, nothing, sub_at, sub_of, subs_from, subs_of, stands, AreNodes, AreWell}
 use Rattle.prefix_index.proofs.Putting.{before_rest}

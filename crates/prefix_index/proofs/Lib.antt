@@ -7,8 +7,6 @@ pub mod Building
 pub mod Plain
 pub mod Getting
 pub mod Commons
-pub mod ByKey
-pub mod OneList
 pub mod Same
 pub mod Last
 pub mod Ranking
@@ -19,3 +17,4 @@ pub mod Permuting
 pub mod Making
 pub mod Keying
 pub mod Sorted
+pub mod Order

@@ -10,9 +10,9 @@ use Rattle.ip_prefix.specs.Prefix.{PlainPrefix, prefix_order}
 use Rattle.trie_keys.specs.Scan.{last_where, option_else}
 use Rattle.prefix_index.specs.Bits.{PlainBits, bits_order, bits_keys}
 use Rattle.prefix_index.specs.Made.{IsMadeOf, keyed_by}
-use Rattle.prefix_index.specs.Order.{prefix_order_total}
+use Rattle.prefix_index.proofs.Order.{prefix_order_total}
 use Rattle.prefix_index.specs.Ranked.{prefix_four, prefix_six, prefixes, ranked_prefixes, four_bits, six_bits, with_all}
-use Rattle.prefix_index.proofs.ByKey.{lookup-insert_entry, ordered-insert}
+use Rattle.trie_keys.proofs.ByKey.{lookup-insert_entry, ordered-insert}
 use Rattle.prefix_index.proofs.Permuting.{found_last}
 use Rattle.prefix_index.proofs.Ranking.{bits_total, four_at, six_at, four_not_six, six_not_four, look_four, look_six, or_else, same_lists, sorted_ranked}
 

@@ -12,7 +12,7 @@ use Rattle.std.specs.Ordering.{is_eq, ordering_reverse}
 use Rattle.std.specs.declared.cmp.Ordering.{Ordering}
 use Rattle.std.specs.declared.cmp.Ordering.TheVariants.{Less}
 use Rattle.trie_keys.specs.Scan.{last_where}
-use Rattle.prefix_index.proofs.ByKey.{at_itself, lookup-same}
+use Rattle.trie_keys.proofs.ByKey.{at_itself, lookup-same}
 use Rattle.prefix_index.proofs.Last.{last_all, last_passes, last_none_all}
 
 some_same : {A : Type 0} (x y : A) → Some x ≡ Some y → x ≡ y

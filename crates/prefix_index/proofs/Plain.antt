@@ -7,7 +7,8 @@ use Rattle.prefix_index.specs.Trie.{IsTrie}
 use Rattle.prefix_index.specs.Nodes.{Put, Taken}
 use Rattle.prefix_index.proofs.Numbers.{of_none}
 use Rattle.trie_keys.specs.Keys.{Keys, KeyLaws}
-use Rattle.trie_keys.specs.Sorting.{none_are_entries, entries_inserted, entries_removed, AreEntries}
+use Rattle.trie_keys.specs.Sorting.{AreEntries}
+use Rattle.trie_keys.proofs.Sorting.{none_are_entries, entries_inserted, entries_removed}
 
 some_same : {A : Type 0} (x y : A) → Some x ≡ Some y → x ≡ y
 some_same x y e = cc e

@@ -9,8 +9,8 @@ use Rattle.trie_keys.specs.Keys.{Keys, KeyLaws, Under, Begins}
 use Rattle.trie_keys.specs.Scan.{own}
 use Rattle.prefix_index.specs.PlainNode.{PlainNode}
 use Rattle.prefix_index.specs.Nodes.{Sub, subs_of, stands, IsKid, IsNode, AreWell, Extends, Pushed, Put, IsAt}
-use Rattle.trie_keys.specs.Entries.{Before, all_append, all_map, insert_before, insert_behind, insert_first, all_inserted}
-use Rattle.trie_keys.specs.Beginning.{AllUnder, AllBegin, own_begins, under_begins, all_further, before_under, before_side, behind_side, behind_own}
+use Rattle.trie_keys.proofs.Entries.{Before, all_append, all_map, insert_before, insert_behind, insert_first, all_inserted}
+use Rattle.trie_keys.proofs.Beginning.{AllUnder, AllBegin, own_begins, under_begins, all_further, before_under, before_side, behind_side, behind_own}
 use Rattle.prefix_index.proofs.Numbers.{kid_after, no_kid, of_none, length_subs_of, extends_itself, extends_along}
 
 pub told : {A E : Type 0} (r : Result A E) (P Q : A → Type 0) → IfOk r P → ((x : A) → P x → Q x) → IfOk r Q

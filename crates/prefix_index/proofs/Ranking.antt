@@ -13,10 +13,10 @@ use Rattle.ip_prefix.specs.declared.Addr.TheVariants.{V4, V6}
 use Rattle.ip_prefix.specs.Prefix.{PlainPrefix, prefix_order}
 use Rattle.prefix_index.specs.Bits.{PlainBits, bits_order}
 use Rattle.prefix_index.specs.BitsLaws.{bits_laws}
-use Rattle.prefix_index.specs.Order.{prefix_order_total}
+use Rattle.prefix_index.proofs.Order.{prefix_order_total}
 use Rattle.prefix_index.specs.Ranked.{AreSome, prefix_four, prefix_six, prefixes, ranked, ranked_prefixes}
-use Rattle.prefix_index.proofs.ByKey.{lookup-insert_entry, lookup-remove_entry, ordered-insert, ordered-remove, tied_if, same_place, at_itself, apart_from, ordered-others}
-use Rattle.prefix_index.proofs.OneList.{same_entries, none_found}
+use Rattle.trie_keys.proofs.ByKey.{lookup-insert_entry, lookup-remove_entry, ordered-insert, ordered-remove, tied_if, same_place, at_itself, apart_from, ordered-others}
+use Rattle.trie_keys.proofs.OneList.{same_entries, none_found}
 use Rattle.prefix_index.proofs.Same.{same_prefix}
 
 both_ways : (s t : Bool) → (s ≡ true → t ≡ true) → (t ≡ true → s ≡ true) → s ≡ t

@@ -12,7 +12,7 @@ use Rattle.std.specs.declared.cmp.Ordering.{Ordering}
 use Rattle.std.specs.declared.cmp.Ordering.TheVariants.{Less, Equal, Greater}
 use Rattle.ip_prefix.specs.Prefix.{PlainPrefix, prefix_order}
 use Rattle.prefix_index.specs.Bits.{PlainBits, bits_order}
-use Rattle.prefix_index.specs.Order.{prefix_order_total}
+use Rattle.prefix_index.proofs.Order.{prefix_order_total}
 use Rattle.prefix_index.specs.Ranked.{prefix_four, prefix_six, prefixes, ranked_prefixes}
 use Rattle.prefix_index.proofs.Permuting.{found_moved}
 use Rattle.prefix_index.proofs.Ranking.{four_at, six_at, four_not_six, look_ranked, same_lists, sorted_ranked}

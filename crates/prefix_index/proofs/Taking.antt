@@ -9,8 +9,8 @@ use Rattle.trie_keys.specs.Keys.{Keys, KeyLaws, Under, Begins}
 use Rattle.trie_keys.specs.Scan.{own}
 use Rattle.prefix_index.specs.PlainNode.{PlainNode}
 use Rattle.prefix_index.specs.Nodes.{Sub, sub_of, subs_of, stands, IsKeyUnder, IsKid, IsNode, AreWell, Extends, Pushed, Joined, Taken, IsAt}
-use Rattle.trie_keys.specs.Entries.{Before, all_map, remove_absent, remove_none_before, remove_behind, remove_first}
-use Rattle.trie_keys.specs.Beginning.{further, under_begins, before_side, behind_side, behind_own}
+use Rattle.trie_keys.proofs.Entries.{Before, all_map, remove_absent, remove_none_before, remove_behind, remove_first}
+use Rattle.trie_keys.proofs.Beginning.{further, under_begins, before_side, behind_side, behind_own}
 use Rattle.prefix_index.proofs.Numbers.{kid_after, of_none, length_subs_of, extends_itself, extends_along}
 use Rattle.prefix_index.proofs.Putting.{all_begin, listed, listed_at, begins_at, kid_key, kept_list, pushed_list, pushed_kid, before_rest}
 

@@ -2,12 +2,13 @@
 use Rattle.std.proofs.Common.{◌≡◌, ℕ, zero, suc, ◌+◌, ◌<◌, ◌≤◌, Bool, true, false, not, ◌&&◌, nat_lt, cond, List, ◌++◌, Option, Some, None, inl, inr, refl, sym, ap, ◌∙◌, subst, arith, append-nil}
 use Rattle.std.proofs.lemmas.Bool.Decides.{nat_tests}
 use Rattle.trie_keys.specs.Keys.{Keys, KeyLaws, Under, Begins, begins}
-use Rattle.trie_keys.specs.Scan.{else_none, last_append, last_none, option_else, own}
+use Rattle.trie_keys.specs.Scan.{option_else, own}
+use Rattle.trie_keys.proofs.Scan.{else_none, last_append, last_none}
 use Rattle.prefix_index.specs.PlainNode.{PlainNode}
 use Rattle.prefix_index.specs.Nodes.{Sub, subs_of, stands, IsKid, IsAt}
 use Rattle.prefix_index.specs.Walk.{depth, depth_of, is_hit, last_hit, own_hit}
-use Rattle.trie_keys.specs.Entries.{all_map}
-use Rattle.trie_keys.specs.Beginning.{AllUnder}
+use Rattle.trie_keys.proofs.Entries.{all_map}
+use Rattle.trie_keys.proofs.Beginning.{AllUnder}
 use Rattle.prefix_index.proofs.Numbers.{of_none}
 use Rattle.prefix_index.proofs.Putting.{listed, listed_at, begins_at}
 

@@ -15,18 +15,18 @@ order_total = then_total (on_total (λ (a : PlainBits). a.number) nat_cmp_total)
 is_less : (x y : ℕ) → x < y → nat_lt x y ≡ true
 is_less x y h = grind (arith, nat_tests)
 
-less : (x y : ℕ) → x < y → nat_cmp x y ≡ Less
+pub less : (x y : ℕ) → x < y → nat_cmp x y ≡ Less
 less x y h = ap (λ b. cond b Less (cond (x == y) Equal Greater)) (is_less x y h)
 
-same_number : (x y : ℕ) → nat_cmp x y ≡ Equal → x ≡ y
+pub same_number : (x y : ℕ) → nat_cmp x y ≡ Equal → x ≡ y
 same_number x y e = eqb-true x y (sym (unsigned_tied x y) ∙ ap is_eq e)
 
-then_first : (r s : Ordering) → ordering_then r s ≡ Equal → r ≡ Equal
+pub then_first : (r s : Ordering) → ordering_then r s ≡ Equal → r ≡ Equal
 then_first Less s e = cc e
 then_first Equal s e = refl
 then_first Greater s e = cc e
 
-then_second : (r s : Ordering) → ordering_then r s ≡ Equal → s ≡ Equal
+pub then_second : (r s : Ordering) → ordering_then r s ≡ Equal → s ≡ Equal
 then_second Less s e = cc e
 then_second Equal s e = e
 then_second Greater s e = cc e

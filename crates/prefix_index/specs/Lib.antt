@@ -6,6 +6,5 @@ pub mod Bits
 pub mod Halves
 pub mod BitsLaws
 pub mod Longest
-pub mod Order
 pub mod Ranked
 pub mod Made

@@ -5,7 +5,8 @@ use Rattle.std.specs.Option.{option_map}
 use Rattle.dns_name.specs.Alike.{PlainPattern, matches}
 use Rattle.dns_name.specs.Labels.{Name, lowered}
 use Rattle.octet_trie.specs.Fits.{fits}
-use Rattle.trie_keys.specs.Scan.{any_last, last_where}
+use Rattle.trie_keys.specs.Scan.{last_where}
+use Rattle.trie_keys.proofs.Scan.{any_last}
 use Rattle.qname_index.specs.Key.{name_key}
 use Rattle.qname_index.specs.Patterns.{pattern_in}
 use Rattle.qname_index.specs.Ranked.{IsPatternKey, ranked_patterns}

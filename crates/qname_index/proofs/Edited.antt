@@ -7,7 +7,7 @@ use Rattle.dns_name.specs.Labels.{IsName, Name, lowered}
 use Rattle.octet_trie.specs.ListKeys.{entry_key}
 use Rattle.qname_index.specs.Best.{pattern_order}
 use Rattle.qname_index.specs.Index.{IsKey}
-use Rattle.trie_keys.specs.Sorting.{sorted_inserted, sorted_removed}
+use Rattle.trie_keys.proofs.Sorting.{sorted_inserted, sorted_removed}
 use Rattle.qname_index.specs.Key.{name_key}
 use Rattle.qname_index.specs.Ranked.{pattern_key, ranked_patterns}
 use Rattle.qname_index.specs.Trie.{IsNameTrie}

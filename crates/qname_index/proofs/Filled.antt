@@ -7,7 +7,7 @@ use Rattle.octet_trie.specs.Trie.{found_entry}
 use Rattle.octet_trie.specs.declared.trie.OctetFound.{OctetFound}
 use Rattle.qname_index.specs.Best.{pattern_order}
 use Rattle.trie_keys.specs.Filling.{with_all}
-use Rattle.trie_keys.specs.Sorting.{sorted_inserted}
+use Rattle.trie_keys.proofs.Sorting.{sorted_inserted}
 use Rattle.qname_index.specs.Key.{name_key}
 use Rattle.qname_index.specs.Patterns.{pattern_in}
 use Rattle.qname_index.specs.Ranked.{ArePatternKeys, IsPatternKey, pattern_key, patterns, ranked_patterns}

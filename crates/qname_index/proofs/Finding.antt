@@ -18,11 +18,11 @@ use Rattle.qname_index.specs.Key.{name_key}
 use Rattle.qname_index.specs.Patterns.{pattern_in}
 use Rattle.qname_index.specs.Ranked.{IsPatternKey, patterns, ranked, ranked_patterns}
 use Rattle.qname_index.specs.Trie.{IsNameTrie}
-use Rattle.qname_index.proofs.ByKey.{above-below}
+use Rattle.trie_keys.proofs.ByKey.{above-below}
 use Rattle.qname_index.proofs.Last.{IsBefore, last_found, last_all, last_passes, last_none_all}
 use Rattle.qname_index.proofs.Longer.{AreAlike, AreWithin, fits_is, last_first}
 use Rattle.qname_index.proofs.Matching.{first_true}
-use Rattle.qname_index.proofs.OneList.{none_above}
+use Rattle.trie_keys.proofs.OneList.{none_above}
 use Rattle.qname_index.proofs.Ranking.{found_at, sorted_ranked}
 use Rattle.qname_index.proofs.Same.{key_order, key_total, pattern_total, same_pattern}
 

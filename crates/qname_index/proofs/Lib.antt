@@ -1,8 +1,6 @@
 pub mod Keys
 pub mod Matching
 pub mod Back
-pub mod ByKey
-pub mod OneList
 pub mod Same
 pub mod Ranking
 pub mod Last
@@ -15,3 +13,4 @@ pub mod Written
 pub mod Filled
 pub mod Comparing
 pub mod Lowering
+pub mod Rank

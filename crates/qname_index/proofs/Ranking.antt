@@ -9,12 +9,12 @@ use Rattle.std.specs.declared.cmp.Ordering.{Ordering}
 use Rattle.dns_name.specs.Alike.{PlainPattern}
 use Rattle.qname_index.specs.Best.{pattern_order}
 use Rattle.qname_index.specs.Index.{IsKey}
-use Rattle.trie_keys.specs.Entries.{all_inserted, all_removed}
+use Rattle.trie_keys.proofs.Entries.{all_inserted, all_removed}
 use Rattle.qname_index.specs.Trie.{IsNameTrie}
 use Rattle.qname_index.specs.Ranked.{ArePatternKeys, IsPatternKey, pattern_key, patterns, ranked, ranked_patterns}
 use Rattle.qname_index.proofs.Back.{pattern_back}
-use Rattle.qname_index.proofs.ByKey.{lookup-insert_entry, lookup-remove_entry, ordered-insert, ordered-remove, same_place, apart_from, ordered-others}
-use Rattle.qname_index.proofs.OneList.{same_entries, none_found}
+use Rattle.trie_keys.proofs.ByKey.{lookup-insert_entry, lookup-remove_entry, ordered-insert, ordered-remove, same_place, apart_from, ordered-others}
+use Rattle.trie_keys.proofs.OneList.{same_entries, none_found}
 use Rattle.qname_index.proofs.Same.{at_key, at_pattern, key_order, key_total, pattern_total, same_pattern}
 
 module _ {K V : Type 0} (R : K → K → Ordering) (o : IsTotalOrder R) where

@@ -1,24 +1,25 @@
 -- Patterns are told by their places in the order of precedence, and by their keys.
-use Rattle.std.proofs.Common.{◌≡◌, ℕ, Bool, true, false, List, [], ◌∷◌, ◌++◌, length, refl, sym, ap, ◌∙◌, nat_cmp}
+use Rattle.std.proofs.Common.{◌≡◌, ℕ, true, List, [], ◌∷◌, ◌++◌, length, refl, sym, ap, ◌∙◌, nat_cmp}
 use Rattle.std.proofs.lemmas.Cmp.{nat_list_cmp_total}
 use Rattle.std.proofs.lemmas.Map.Lookups.{exact_bytes}
 use Rattle.std.specs.BTreeMap.{is_at}
 use Rattle.std.specs.Cmp.{IsTotalOrder, on_total}
 use Rattle.std.specs.Cmp.Lexicographic.{slice_cmp}
 use Rattle.std.specs.List.{flat_map}
-use Rattle.std.specs.Ordering.{bool_cmp, ordering_then}
+use Rattle.std.specs.Ordering.{bool_cmp}
 use Rattle.std.specs.declared.cmp.Ordering.{Ordering}
-use Rattle.std.specs.declared.cmp.Ordering.TheVariants.{Less, Equal, Greater}
+use Rattle.std.specs.declared.cmp.Ordering.TheVariants.{Equal}
 use Rattle.dns_name.specs.Alike.{PlainPattern}
 use Rattle.dns_name.specs.Labels.{Name, label_octets, name_octets}
 use Rattle.qname_index.specs.Best.{pattern_order}
-use Rattle.qname_index.specs.Rank.{rank_of, rank_total}
+use Rattle.qname_index.proofs.Rank.{rank_of, rank_total}
 use Rattle.qname_index.specs.Patterns.{pattern_in}
 use Rattle.qname_index.specs.Ranked.{IsPatternKey, pattern_key}
 use Rattle.qname_index.proofs.Back.{pattern_back}
-use Rattle.qname_index.proofs.ByKey.{tied_if, at_itself}
+use Rattle.trie_keys.proofs.ByKey.{tied_if, at_itself}
 use Rattle.qname_index.proofs.Keys.{labels_same}
 use Rattle.qname_index.proofs.Matching.{both_ways}
+use Rattle.dns_name.proofs.Orders.{then_first, then_second, same_bool}
 
 pub pattern_total : IsTotalOrder pattern_order
 pattern_total = on_total rank_of rank_total
@@ -29,22 +30,6 @@ key_order a b = slice_cmp nat_cmp a b
 
 pub key_total : IsTotalOrder key_order
 key_total = nat_list_cmp_total
-
-then_first : (r s : Ordering) → ordering_then r s ≡ Equal → r ≡ Equal
-then_first Less s e = cc e
-then_first Equal s e = refl
-then_first Greater s e = cc e
-
-then_second : (r s : Ordering) → ordering_then r s ≡ Equal → s ≡ Equal
-then_second Less s e = cc e
-then_second Equal s e = e
-then_second Greater s e = cc e
-
-same_bool : (a b : Bool) → bool_cmp a b ≡ Equal → a ≡ b
-same_bool false false h = refl
-same_bool false true h = cc h
-same_bool true false h = cc h
-same_bool true true h = refl
 
 -- names that are written alike, without the zero at the end
 not_longer : (x : ℕ) (xs : List ℕ) → x ∷ (xs ++ 0 ∷ []) ≡ 0 ∷ [] → ⊥

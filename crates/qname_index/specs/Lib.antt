@@ -1,6 +1,5 @@
 pub mod Best
 pub mod Index
-pub mod Rank
 pub mod Key
 pub mod Lookup
 pub mod Patterns

@@ -15,7 +15,7 @@ use Rattle.dns_name.specs.Order.{canonical_order}
 use Rattle.qname_index.specs.Best.{pattern_order}
 use Rattle.rpz_precedence.specs.Rank.{server_order}
 use Rattle.rpz_precedence.proofs.Hits.{both_first}
-use Rattle.rpz_precedence.proofs.Ties.{same_number, lowered-reverse}
+use Rattle.dns_name.proofs.Orders.{same_number, lowered-reverse}
 
 -- names are alike exactly if they are one in lower case
 abbrev pub AreAlike : Type 0

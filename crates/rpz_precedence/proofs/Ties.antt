@@ -1,16 +1,11 @@
 -- Ranks of which neither precedes the other are one, where the bases of patterns are names in lower case.
-use Rattle.std.proofs.Common.{◌≡◌, ℕ, Bool, true, false, List, [], ◌∷◌, ◌++◌, length, map, reverse, refl, sym, ap, ◌∙◌, arith, true≢false, eqb-true}
-use Rattle.std.proofs.lemmas.List.{map-append, reverse-append, reverse-reverse}
-use Rattle.std.proofs.lemmas.Map.Text.{is_eq-slice_cmp}
-use Rattle.std.specs.Char.{to_ascii_lowercase}
-use Rattle.std.specs.Cmp.{unsigned_tied}
-use Rattle.std.specs.Cmp.Lexicographic.{slice_cmp, bytes_decides}
-use Rattle.std.specs.Ordering.{nat_cmp, bool_cmp, ordering_then, is_eq}
-use Rattle.std.specs.declared.cmp.Ordering.{Ordering}
-use Rattle.std.specs.declared.cmp.Ordering.TheVariants.{Less, Equal, Greater}
+use Rattle.std.proofs.Common.{◌≡◌, ℕ, List, length, sym, ap, ◌∙◌, arith}
+use Rattle.std.specs.Cmp.Lexicographic.{slice_cmp}
+use Rattle.std.specs.Ordering.{nat_cmp, bool_cmp, ordering_then}
+use Rattle.std.specs.declared.cmp.Ordering.TheVariants.{Equal}
 use Rattle.dns_name.specs.Alike.{PlainPattern}
 use Rattle.dns_name.specs.Labels.{IsName, name_octets, lowered}
-use Rattle.dns_name.specs.Order.{label_order, canonical_order}
+use Rattle.dns_name.specs.Order.{canonical_order}
 use Rattle.ip_prefix.specs.declared.Addr.{Addr}
 use Rattle.ip_prefix.specs.declared.Addr.TheVariants.{V4, V6}
 use Rattle.ip_prefix.specs.Prefix.{PlainPrefix, mapped_number, mapped_length, family, prefix_order}
@@ -19,28 +14,7 @@ use Rattle.trigger_codec.specs.Bases.{IsPattern, IsTrigger}
 use Rattle.trigger_codec.specs.declared.trigger.Trigger.{Trigger}
 use Rattle.trigger_codec.specs.declared.trigger.Trigger.TheVariants.{ClientIp, Qname, ResponseIp, NsDname, NsIp}
 use Rattle.rpz_precedence.specs.Rank.{PlainRank, kind_number, server_order, place_order, trigger_order, rank_order}
-
-then_first : (r s : Ordering) → ordering_then r s ≡ Equal → r ≡ Equal
-then_first Less s e = cc e
-then_first Equal s e = refl
-then_first Greater s e = cc e
-
-then_second : (r s : Ordering) → ordering_then r s ≡ Equal → s ≡ Equal
-then_second Less s e = cc e
-then_second Equal s e = e
-then_second Greater s e = cc e
-
-pub same_number : (x y : ℕ) → nat_cmp x y ≡ Equal → x ≡ y
-same_number x y e = eqb-true x y (sym (unsigned_tied x y) ∙ ap is_eq e)
-
-same_wild : (a b : Bool) → bool_cmp a b ≡ Equal → a ≡ b
-same_wild false false e = refl
-same_wild false true e = absurd (true≢false (ap is_eq (sym e)))
-same_wild true false e = absurd (true≢false (ap is_eq (sym e)))
-same_wild true true e = refl
-
-same_bytes : (xs ys : List ℕ) → slice_cmp nat_cmp xs ys ≡ Equal → xs ≡ ys
-same_bytes xs ys e = (bytes_decides xs ys).0 (sym (is_eq-slice_cmp xs ys) ∙ ap is_eq e)
+use Rattle.dns_name.proofs.Orders.{then_first, then_second, same_number, same_bool, same_bytes}
 
 -- ---- prefixes
 
@@ -75,41 +49,20 @@ AreApart = (name other : List (List ℕ)) → IsName name → IsName other → n
 same_pattern : AreApart → (p q : PlainPattern) → IsPattern p → IsPattern q → pattern_order p q ≡ Equal → p ≡ q
 same_pattern apart p q is_p is_q e =
     let rest = then_second (bool_cmp p.wild q.wild) (ordering_then (nat_cmp (length q.base) (length p.base)) (slice_cmp nat_cmp (name_octets p.base) (name_octets q.base))) e in
-    let wild : p.wild ≡ q.wild = same_wild p.wild q.wild (then_first (bool_cmp p.wild q.wild) _ e) in
+    let wild : p.wild ≡ q.wild = same_bool p.wild q.wild (then_first (bool_cmp p.wild q.wild) _ e) in
     let octets : name_octets p.base ≡ name_octets q.base = same_bytes _ _ (then_second (nat_cmp (length q.base) (length p.base)) (slice_cmp nat_cmp (name_octets p.base) (name_octets q.base)) rest) in
     let base : p.base ≡ q.base = apart p.base q.base is_p.is_base is_q.is_base octets in
     λ i. record { base = base i; wild = wild i }
 
 -- ---- names in the canonical order
 
-pub lowered-reverse : (name : List (List ℕ)) → lowered (reverse name) ≡ reverse (lowered name)
-lowered-reverse [] = refl
-lowered-reverse (label ∷ name) =
-    let lower = λ (l : List ℕ). map to_ascii_lowercase l in
-    ap (λ (l : List (List ℕ)). lowered l) (reverse-append (label ∷ []) name)
-    ∙ map-append lower (reverse name) (label ∷ [])
-    ∙ ap (λ (l : List (List ℕ)). l ++ map to_ascii_lowercase label ∷ []) (lowered-reverse name)
-    ∙ sym (reverse-append (map to_ascii_lowercase label ∷ []) (lowered name))
-
-same_lowered : (a b : List (List ℕ)) → slice_cmp label_order a b ≡ Equal → lowered a ≡ lowered b
-same_lowered [] [] e = refl
-same_lowered [] (y ∷ b) e = cc e
-same_lowered (x ∷ a) [] e = cc e
-same_lowered (x ∷ a) (y ∷ b) e =
-    let first : map to_ascii_lowercase x ≡ map to_ascii_lowercase y = same_bytes _ _ (then_first (label_order x y) (slice_cmp label_order a b) e) in
-    let rest : lowered a ≡ lowered b = same_lowered a b (then_second (label_order x y) (slice_cmp label_order a b) e) in
-    λ i. first i ∷ rest i
-
 pub same_base : (a b : List (List ℕ)) → lowered a ≡ a → lowered b ≡ b → canonical_order a b ≡ Equal → a ≡ b
-same_base a b lower_a lower_b e =
-    let turned : reverse (lowered a) ≡ reverse (lowered b) = sym (lowered-reverse a) ∙ same_lowered (reverse a) (reverse b) e ∙ lowered-reverse b in
-    let same : lowered a ≡ lowered b = sym (reverse-reverse (lowered a)) ∙ ap (λ (l : List (List ℕ)). reverse l) turned ∙ reverse-reverse (lowered b) in
-    sym lower_a ∙ same ∙ lower_b
+same_base a b lower_a lower_b e = sym lower_a ∙ alike_from_equal a b e ∙ lower_b
 
 same_server : (p q : PlainPattern) → IsPattern p → IsPattern q → server_order p q ≡ Equal → p ≡ q
 same_server p q is_p is_q e =
     let rest = then_second (nat_cmp (length q.base) (length p.base)) (ordering_then (bool_cmp p.wild q.wild) (canonical_order p.base q.base)) e in
-    let wild : p.wild ≡ q.wild = same_wild p.wild q.wild (then_first (bool_cmp p.wild q.wild) (canonical_order p.base q.base) rest) in
+    let wild : p.wild ≡ q.wild = same_bool p.wild q.wild (then_first (bool_cmp p.wild q.wild) (canonical_order p.base q.base) rest) in
     let base : p.base ≡ q.base = same_base p.base q.base is_p.is_lower_case is_q.is_lower_case (then_second (bool_cmp p.wild q.wild) (canonical_order p.base q.base) rest) in
     λ i. record { base = base i; wild = wild i }
 

@@ -1,5 +1,4 @@
 pub mod Bits
-pub mod Looking
 pub mod Putting
 pub mod Merges
 pub mod Keys

@@ -10,17 +10,18 @@ use Rattle.dns_name.specs.Alike.{PlainPattern}
 use Rattle.ip_prefix.specs.Prefix.{PlainPrefix, prefix_order}
 use Rattle.octet_trie.specs.Trie.{found_entry}
 use Rattle.octet_trie.specs.declared.trie.OctetFound.{OctetFound}
-use Rattle.prefix_index.specs.Order.{prefix_order_total}
+use Rattle.prefix_index.proofs.Order.{prefix_order_total}
 use Rattle.prefix_index.specs.Ranked.{with_all as with_prefixes}
 use Rattle.qname_index.specs.Best.{pattern_order}
 use Rattle.qname_index.specs.Patterns.{pattern_in}
 use Rattle.qname_index.specs.Ranked.{ArePatternKeys, IsPatternKey, pattern_key, patterns, ranked, ranked_patterns}
 use Rattle.qname_index.specs.Trie.{IsNameTrie}
-use Rattle.trie_keys.specs.Filling.{with_all, with_sorted}
+use Rattle.trie_keys.specs.Filling.{with_all}
+use Rattle.trie_keys.proofs.Filling.{with_sorted}
 use Rattle.summary_index.specs.Entries.{in_trie}
 use Rattle.summary_index.specs.Summary.{Standing, zones_at, zones_in}
 use Rattle.summary_index.proofs.MergedZones.{key_order, key_total}
-use Rattle.summary_index.proofs.Looking.{InOrder, apart_from, lookup-insert_entry, ordered-others}
+use Rattle.trie_keys.proofs.ByKey.{InOrder, apart_from, lookup-insert_entry, ordered-others}
 use Rattle.summary_index.proofs.Patterns.{at_key}
 use Rattle.summary_index.proofs.Putting.{none_found, pattern_total}
 

@@ -9,7 +9,7 @@ use Rattle.std.specs.Ordering.{is_eq, match_ordering, ordering_reverse}
 use Rattle.std.specs.declared.cmp.Ordering.{Ordering}
 use Rattle.std.specs.declared.cmp.Ordering.TheVariants.{Less, Equal, Greater}
 use Rattle.summary_index.specs.Merged.{merged, merged_with}
-use Rattle.summary_index.proofs.Looking.{Above, InOrder, above-below, same_place}
+use Rattle.trie_keys.proofs.ByKey.{Above, InOrder, above-below, same_place}
 use Rattle.summary_index.proofs.Putting.{none_found}
 
 or_false : (b : Bool) → b ≡ (b || false)

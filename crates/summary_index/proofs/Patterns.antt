@@ -5,9 +5,8 @@ use Rattle.std.proofs.lemmas.Map.Lookups.{exact_bytes}
 use Rattle.std.specs.BTreeMap.{is_at}
 use Rattle.std.specs.Cmp.Lexicographic.{slice_cmp}
 use Rattle.std.specs.List.{flat_map}
-use Rattle.std.specs.Ordering.{bool_cmp, nat_cmp, ordering_then}
-use Rattle.std.specs.declared.cmp.Ordering.{Ordering}
-use Rattle.std.specs.declared.cmp.Ordering.TheVariants.{Less, Equal, Greater}
+use Rattle.std.specs.Ordering.{bool_cmp, nat_cmp}
+use Rattle.std.specs.declared.cmp.Ordering.TheVariants.{Equal}
 use Rattle.dns_name.specs.Alike.{PlainPattern}
 use Rattle.dns_name.specs.Labels.{Name, label_octets, name_octets}
 use Rattle.octet_trie.specs.ListKeys.{entry_key}
@@ -15,24 +14,9 @@ use Rattle.qname_index.specs.Best.{pattern_order}
 use Rattle.qname_index.specs.Patterns.{pattern_in}
 use Rattle.qname_index.specs.Ranked.{IsPatternKey, pattern_key}
 use Rattle.summary_index.proofs.MergedZones.{key_order, key_total}
-use Rattle.summary_index.proofs.Looking.{at_itself, tied_if}
+use Rattle.trie_keys.proofs.ByKey.{at_itself, tied_if}
 use Rattle.summary_index.proofs.Putting.{pattern_total}
-
-then_first : (r s : Ordering) → ordering_then r s ≡ Equal → r ≡ Equal
-then_first Less s e = cc e
-then_first Equal s e = refl
-then_first Greater s e = cc e
-
-then_second : (r s : Ordering) → ordering_then r s ≡ Equal → s ≡ Equal
-then_second Less s e = cc e
-then_second Equal s e = e
-then_second Greater s e = cc e
-
-same_bool : (a b : Bool) → bool_cmp a b ≡ Equal → a ≡ b
-same_bool false false h = refl
-same_bool false true h = cc h
-same_bool true false h = cc h
-same_bool true true h = refl
+use Rattle.dns_name.proofs.Orders.{then_first, then_second, same_bool}
 
 both_ways : (a b : Bool) → (a ≡ true → b ≡ true) → (b ≡ true → a ≡ true) → a ≡ b
 both_ways true b there back = sym (there refl)

@@ -8,9 +8,9 @@ use Rattle.std.specs.Map.{keys_of, lookup, remove_entry}
 use Rattle.std.specs.declared.cmp.Ordering.{Ordering}
 use Rattle.std.proofs.lemmas.Bool.{eqb-true}
 use Rattle.qname_index.specs.Best.{pattern_order}
-use Rattle.qname_index.specs.Rank.{rank_of, rank_total}
+use Rattle.qname_index.proofs.Rank.{rank_of, rank_total}
 use Rattle.summary_index.specs.Summary.{Standing, put_zones, zones_at, zones_in}
-use Rattle.summary_index.proofs.Looking.{apart_from, at_itself, lookup-insert_entry, lookup-remove_entry, ordered-others}
+use Rattle.trie_keys.proofs.ByKey.{apart_from, at_itself, lookup-insert_entry, lookup-remove_entry, ordered-others}
 
 pub pattern_total : IsTotalOrder pattern_order
 pattern_total = on_total rank_of rank_total

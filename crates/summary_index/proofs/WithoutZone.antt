@@ -21,7 +21,7 @@ use Rattle.summary_index.specs.Zones.{has_zone, zones_without}
 use Rattle.summary_index.proofs.Bits.{same_mask, without_zone}
 use Rattle.summary_index.proofs.MergedZones.{key_order, key_total, no_zone}
 use Rattle.summary_index.proofs.Listing.{zones_standing}
-use Rattle.summary_index.proofs.Looking.{InOrder, apart_from}
+use Rattle.trie_keys.proofs.ByKey.{InOrder, apart_from}
 use Rattle.summary_index.proofs.Merges.{by_entries, by_keys}
 use Rattle.summary_index.proofs.Putting.{none_found}
 use Rattle.zone_rows.specs.declared.zone.TheConstants.{ZONE_LIMIT}

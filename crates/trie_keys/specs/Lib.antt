@@ -1,6 +1,4 @@
 pub mod Keys
-pub mod Entries
 pub mod Scan
-pub mod Beginning
 pub mod Sorting
 pub mod Filling

@@ -1,80 +1,35 @@
 -- The canonical order of names is total, and names in lower case that it calls equal are one.
-use Rattle.std.proofs.Common.{◌≡◌, ℕ, Bool, true, false, ◌&&◌, if◌then◌else◌, Option, None, Some, List, [], ◌∷◌, ◌++◌, map, reverse, refl, sym, ap, ◌∙◌, subst}
+use Rattle.std.proofs.Common.{◌≡◌, ℕ, Bool, true, false, ◌&&◌, if◌then◌else◌, Option, None, Some, List, [], ◌∷◌, map, refl, sym, ◌∙◌, subst}
 use Rattle.std.specs.Prelude.{All, ◌==◌}
-use Rattle.std.proofs.lemmas.List.{map-append, reverse-append, reverse-reverse}
 use Rattle.std.proofs.lemmas.List.Elements.{All-append, All-cons, All-contains, All-nil, Contains-get_or}
 use Rattle.std.proofs.lemmas.List.Kept.{Any-dedup, Contains-from_dedup, IsStrictlySortedBy-dedup}
 use Rattle.std.proofs.lemmas.List.Sorted.{Contains-permutation, IsPermutation-sym, ranks_by}
-use Rattle.std.proofs.lemmas.Map.Text.{is_eq-slice_cmp}
 use Rattle.std.proofs.lemmas.Str.Ascii.{lowercase-lowercase}
 use Rattle.std.specs.Char.{to_ascii_lowercase}
-use Rattle.std.specs.Cmp.{IsTotalOrder, IsStrictWeakOrder, eq_by_cmp_equiv, on_total}
-use Rattle.std.specs.Cmp.Lexicographic.{slice_cmp, bytes_decides, lists_total, nat_list_cmp_total}
+use Rattle.std.specs.Cmp.{IsStrictWeakOrder, eq_by_cmp_equiv}
 use Rattle.std.specs.List.{Contains, dedup}
 use Rattle.std.specs.List.Sorted.{IsPermutation, IsSorted, IsStrictlySortedBy}
 use Rattle.std.specs.Option.{option_map, option_to_list}
-use Rattle.std.specs.Ordering.{nat_cmp, ordering_then, is_eq, is_lt, eq_by_cmp}
+use Rattle.std.specs.Ordering.{is_eq, is_lt, eq_by_cmp}
 use Rattle.std.specs.declared.cmp.Ordering.{Ordering}
 use Rattle.std.specs.declared.cmp.Ordering.TheVariants.{Less, Equal, Greater}
 use Rattle.dns_message.specs.declared.question.Question.{Question}
 use Rattle.dns_name.specs.Alike.{same_name}
 use Rattle.dns_name.specs.Labels.{lowered}
-use Rattle.dns_name.specs.Order.{label_order, canonical_order}
+use Rattle.dns_name.specs.Order.{canonical_order}
 use Rattle.dns_record.specs.Record.{PlainRecord}
 use Rattle.upstream_link.specs.Chain.{name_in}
 use Rattle.upstream_link.specs.Facts.{records_of}
 use Rattle.upstream_link.specs.Known.{AreInOrder, HaveSameMembers, named_servers}
 use Rattle.upstream_link.specs.Servers.{server_in, servers_in}
 use Rattle.upstream_link.specs.declared.fact.Fact.{Fact}
+use Rattle.dns_name.proofs.Orders.{canonical_total, alike_from_equal}
 
 abbrev Name : Type 0
 Name = List (List ℕ)
 
-label_total : IsTotalOrder label_order
-label_total = on_total (λ (label : List ℕ). map to_ascii_lowercase label) nat_list_cmp_total
-
-pub canonical_total : IsTotalOrder canonical_order
-canonical_total = on_total (λ (name : Name). reverse name) (lists_total label_total)
-
 pub canonical_ranks : IsStrictWeakOrder (λ (a b : Name). is_lt (canonical_order a b))
 canonical_ranks = ranks_by canonical_total (λ (name : Name). name)
-
-then_first : (r s : Ordering) → ordering_then r s ≡ Equal → r ≡ Equal
-then_first Less s e = cc e
-then_first Equal s e = refl
-then_first Greater s e = cc e
-
-then_second : (r s : Ordering) → ordering_then r s ≡ Equal → s ≡ Equal
-then_second Less s e = cc e
-then_second Equal s e = e
-then_second Greater s e = cc e
-
-same_bytes : (xs ys : List ℕ) → slice_cmp nat_cmp xs ys ≡ Equal → xs ≡ ys
-same_bytes xs ys e = (bytes_decides xs ys).0 (sym (is_eq-slice_cmp xs ys) ∙ ap is_eq e)
-
-pub lowered-reverse : (name : Name) → lowered (reverse name) ≡ reverse (lowered name)
-lowered-reverse [] = refl
-lowered-reverse (label ∷ name) =
-    let lower = λ (l : List ℕ). map to_ascii_lowercase l in
-    ap (λ (l : Name). lowered l) (reverse-append (label ∷ []) name)
-    ∙ map-append lower (reverse name) (label ∷ [])
-    ∙ ap (λ (l : Name). l ++ map to_ascii_lowercase label ∷ []) (lowered-reverse name)
-    ∙ sym (reverse-append (map to_ascii_lowercase label ∷ []) (lowered name))
-
-same_lowered : (a b : Name) → slice_cmp label_order a b ≡ Equal → lowered a ≡ lowered b
-same_lowered [] [] e = refl
-same_lowered [] (y ∷ b) e = cc e
-same_lowered (x ∷ a) [] e = cc e
-same_lowered (x ∷ a) (y ∷ b) e =
-    let first : map to_ascii_lowercase x ≡ map to_ascii_lowercase y = same_bytes _ _ (then_first (label_order x y) (slice_cmp label_order a b) e) in
-    let rest : lowered a ≡ lowered b = same_lowered a b (then_second (label_order x y) (slice_cmp label_order a b) e) in
-    λ i. first i ∷ rest i
-
--- names that the order calls equal are alike
-pub alike_from_equal : (a b : Name) → canonical_order a b ≡ Equal → lowered a ≡ lowered b
-alike_from_equal a b e =
-    let turned : reverse (lowered a) ≡ reverse (lowered b) = sym (lowered-reverse a) ∙ same_lowered (reverse a) (reverse b) e ∙ lowered-reverse b in
-    sym (reverse-reverse (lowered a)) ∙ ap (λ (l : Name). reverse l) turned ∙ reverse-reverse (lowered b)
 
 equal_if : (o : Ordering) → is_eq o ≡ true → o ≡ Equal
 equal_if Less e = cc e

@@ -16,7 +16,7 @@ use Rattle.dns_name.specs.Labels.{lowered}
 use Rattle.dns_name.specs.Order.{label_order, canonical_order}
 use Rattle.upstream_link.specs.Chain.{has_name}
 use Rattle.upstream_link.proofs.Found.{Name, alike, alike_if}
-use Rattle.upstream_link.proofs.Orders.{alike_from_equal, canonical_total, lowered-reverse}
+use Rattle.dns_name.proofs.Orders.{alike_from_equal, canonical_total, lowered-reverse}
 
 -- ---- names that are alike are equal in the order
 

@@ -13,7 +13,7 @@ use Rattle.dns_name.specs.Alike.{PlainPattern}
 use Rattle.ip_prefix.specs.Prefix.{PlainPrefix, prefix_order}
 use Rattle.octet_trie.specs.Trie.{found_entry}
 use Rattle.octet_trie.specs.declared.trie.OctetFound.{OctetFound}
-use Rattle.prefix_index.specs.Order.{prefix_order_total}
+use Rattle.prefix_index.proofs.Order.{prefix_order_total}
 use Rattle.qname_index.proofs.Ranking.{found_at, no_entries}
 use Rattle.qname_index.proofs.Same.{key_order, key_total}
 use Rattle.qname_index.specs.Best.{pattern_order}
@@ -26,10 +26,10 @@ use Rattle.trigger_codec.specs.declared.trigger.Kind.{Kind}
 use Rattle.trigger_codec.specs.declared.trigger.Kind.TheVariants as kinds
 use Rattle.trigger_codec.specs.declared.trigger.Trigger.TheVariants.{ClientIp, Qname, ResponseIp, NsDname, NsIp}
 use Rattle.action_codec.specs.declared.action.Action.{Action}
-use Rattle.zone_index.proofs.Entries.{apart_from, ordered-others}
+use Rattle.trie_keys.proofs.ByKey.{apart_from, ordered-others}
 use Rattle.zone_index.proofs.LookUps.{Looking, rule_looked}
 use Rattle.zone_index.proofs.Mapped.{lookup_moved, value_found}
-use Rattle.zone_index.proofs.OneList.{none_found}
+use Rattle.trie_keys.proofs.OneList.{none_found}
 use Rattle.zone_index.proofs.Shown.{DoAct, client_ip_acts, entry_does, nsdname_acts, nsip_acts, qname_acts, response_ip_acts}
 use Rattle.zone_index.specs.ActingEntries.{StandsAt, StandsByKey, acting_marked, at_pattern, at_prefix, marked, marked_if_entry, marked_if, marked_if_kept, marked_if_rule, pattern_rules, pattern_values, prefix_rules, prefix_values}
 use Rattle.zone_index.specs.Does.{acts}

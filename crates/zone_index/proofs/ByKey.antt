@@ -12,7 +12,7 @@ use Rattle.dns_record.specs.Row.{PlainRow}
 use Rattle.action_codec.specs.Action.{action_for}
 use Rattle.action_codec.specs.declared.action.Action.{Action}
 use Rattle.zone_index.specs.Rules.{rows_in, with_row, put_rule, with_rule}
-use Rattle.zone_index.proofs.Entries.{lookup-same, lookup-insert_entry, lookup-remove_entry, ordered-insert, ordered-remove, apart_from, ordered-others}
+use Rattle.trie_keys.proofs.ByKey.{lookup-same, lookup-insert_entry, lookup-remove_entry, ordered-insert, ordered-remove, apart_from, ordered-others}
 
 -- the rows at the place of a key
 abbrev pub rows_at : {K : Type 0} → (K → K → Ordering) → K → List (K × List PlainRow) → List PlainRow

@@ -15,7 +15,7 @@ use Rattle.packed_lists.specs.Stored.{PlainStored}
 use Rattle.trigger_codec.specs.Bases.{IsTrigger}
 use Rattle.trigger_codec.specs.declared.trigger.Trigger.{Trigger}
 use Rattle.action_codec.specs.Action.{action_by}
-use Rattle.trie_keys.specs.Entries.{all_append}
+use Rattle.trie_keys.proofs.Entries.{all_append}
 use Rattle.zone_rows.proofs.Places.{take_item}
 use Rattle.zone_rows.specs.Repeats.{has_row, with_row, without_repeats}
 use Rattle.zone_rows.specs.Steps.{PlainStep, after_steps, steps_outcome}

@@ -9,7 +9,7 @@ use Rattle.std.specs.Map.{keys_of, lookup, remove_entry}
 use Rattle.std.specs.Ordering.{match_ordering}
 use Rattle.std.specs.declared.cmp.Ordering.{Ordering}
 use Rattle.std.specs.declared.cmp.Ordering.TheVariants.{Less, Equal, Greater}
-use Rattle.trie_keys.specs.Sorting.{sorted_inserted, sorted_removed}
+use Rattle.trie_keys.proofs.Sorting.{sorted_inserted, sorted_removed}
 use Rattle.trie_keys.specs.declared.marked.Marked.{Marked}
 use Rattle.zone_index.specs.Counted.{IsCounted, acting, acting_in, one_acting, some_kept}
 use Rattle.zone_index.specs.Kept.{kept_acts}

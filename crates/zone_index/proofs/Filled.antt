@@ -15,7 +15,7 @@ use Rattle.octet_trie.specs.ListKeys.{entry_key}
 use Rattle.octet_trie.specs.Trie.{found_entry}
 use Rattle.qname_index.specs.Index.{IsKey}
 use Rattle.octet_trie.specs.declared.trie.OctetFound.{OctetFound}
-use Rattle.prefix_index.specs.Order.{prefix_order_total}
+use Rattle.prefix_index.proofs.Order.{prefix_order_total}
 use Rattle.prefix_index.specs.Ranked.{with_all as with_prefixes}
 use Rattle.qname_index.specs.Best.{pattern_order}
 use Rattle.trie_keys.specs.Filling.{with_all}

@@ -18,7 +18,7 @@ use Rattle.dns_record.specs.Record.{PlainRecord}
 use Rattle.ip_prefix.specs.declared.Addr.{Addr}
 use Rattle.ip_prefix.specs.Prefix.{PlainPrefix, contains, prefix_order}
 use Rattle.prefix_index.specs.Longest.{longest}
-use Rattle.prefix_index.specs.Order.{prefix_order_total}
+use Rattle.prefix_index.proofs.Order.{prefix_order_total}
 use Rattle.zone_index.specs.Addresses.{is_held, has_some, holds_within, first_about}
 use Rattle.zone_index.specs.Earlier.{earlier_of, earlier_key}
 

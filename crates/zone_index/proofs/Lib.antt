@@ -15,7 +15,6 @@ pub mod WholeRows
 pub mod Found
 pub mod ByKey
 pub mod Edited
-pub mod Entries
 pub mod FirstRule
 pub mod Gathered
 pub mod Copied
@@ -23,7 +22,6 @@ pub mod ListedRules
 pub mod LookUps
 pub mod ManyRows
 pub mod Members
-pub mod OneList
 pub mod Numbered
 pub mod OnlyRules
 pub mod Placing

@@ -10,7 +10,7 @@ use Rattle.std.specs.declared.cmp.Ordering.{Ordering}
 use Rattle.std.specs.declared.cmp.Ordering.TheVariants.{Less, Greater}
 use Rattle.std.proofs.lemmas.List.Elements.{All-contains}
 use Rattle.ip_prefix.specs.Prefix.{prefix_order}
-use Rattle.prefix_index.specs.Order.{prefix_order_total}
+use Rattle.prefix_index.proofs.Order.{prefix_order_total}
 use Rattle.qname_index.specs.Best.{pattern_order}
 use Rattle.trigger_codec.specs.Bases.{IsPattern, IsTrigger}
 use Rattle.trigger_codec.specs.declared.trigger.Trigger.{Trigger}
@@ -22,7 +22,7 @@ use Rattle.zone_index.specs.Kinds.{PlainRules}
 use Rattle.zone_index.specs.Laws.{AreNamed, IsInOrder, rule_at}
 use Rattle.zone_index.specs.Listed.{is_of, is_same, rules_by_kind, row_rule, rows_of, rule_if, with_triggers, zone_rules}
 use Rattle.zone_index.specs.Rules.{live_trigger, rules_of}
-use Rattle.zone_index.proofs.Entries.{at_itself}
+use Rattle.trie_keys.proofs.ByKey.{at_itself}
 use Rattle.zone_index.proofs.Gathered.{rule_of_rows, rules_in_order}
 use Rattle.zone_index.proofs.Members.{IsIn, in_contained, contained_in, in_left, in_right, in_either, in_flat_map, source_of, in_map, origin_of}
 use Rattle.zone_index.proofs.OnlyRules.{rules_named, within, passes}

@@ -9,7 +9,7 @@ use Rattle.std.specs.declared.cmp.Ordering.{Ordering}
 use Rattle.std.specs.declared.cmp.Ordering.TheVariants.{Less, Equal, Greater}
 use Rattle.dns_name.specs.Alike.{PlainPattern}
 use Rattle.qname_index.specs.Best.{pattern_order}
-use Rattle.qname_index.specs.Rank.{rank_of, rank_total}
+use Rattle.qname_index.proofs.Rank.{rank_of, rank_total}
 use Rattle.trie_keys.specs.declared.marked.Marked.{Marked}
 use Rattle.trigger_codec.specs.Bases.{IsPattern}
 use Rattle.zone_index.proofs.Counting.{counted_none, counted_with, counted_without}

@@ -16,12 +16,12 @@ use Rattle.zone_index.specs.PlaceOctets.{IsSized, place_octets}
 use Rattle.zone_index.specs.declared.place.Place.{Place}
 use Rattle.zone_index.specs.declared.place.Place.TheVariants.{Rule, Other}
 use Rattle.trigger_codec.specs.declared.trigger.Trigger.TheVariants.{ClientIp, Qname, ResponseIp, NsDname, NsIp}
-use Rattle.prefix_index.specs.Order.{prefix_order_total}
+use Rattle.prefix_index.proofs.Order.{prefix_order_total}
 use Rattle.zone_rows.specs.Distinct.{AreDistinct}
 use Rattle.zone_rows.specs.Stored.{IsStored, plain_row}
 use Rattle.zone_index.specs.Gathering.{AreApart, AreGathered, AreKeysOf, AreSized, AreWhole, IsRunOf, if_taken, keyed_rows}
 use Rattle.zone_index.specs.Placed.{IsIndexOf, IsPlace, entry_for, is_same_place, put_at, row_place, rows_by, stored_at}
-use Rattle.zone_index.proofs.Entries.{lookup-insert_entry}
+use Rattle.trie_keys.proofs.ByKey.{lookup-insert_entry}
 use Rattle.zone_index.proofs.Numbered.{AreFound, all_recursion, found_at, found_is, numbers, stored_by}
 use Rattle.zone_index.proofs.Placing.{equal_place, place_itself, placed}
 use Rattle.zone_index.proofs.SameAction.{pattern_order_total}

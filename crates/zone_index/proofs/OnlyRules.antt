@@ -8,7 +8,7 @@ use Rattle.std.specs.Map.{keys_of, lookup, remove_entry}
 use Rattle.std.proofs.lemmas.List.Elements.{All-contains, All-filter, All-contains_itself, Contains-get_or, filter_passes}
 use Rattle.dns_name.specs.Alike.{PlainPattern}
 use Rattle.ip_prefix.specs.Prefix.{PlainPrefix, prefix_order}
-use Rattle.prefix_index.specs.Order.{prefix_order_total}
+use Rattle.prefix_index.proofs.Order.{prefix_order_total}
 use Rattle.qname_index.specs.Best.{pattern_order}
 use Rattle.trigger_codec.specs.Bases.{IsPattern, IsTrigger}
 use Rattle.trigger_codec.specs.declared.trigger.Trigger.{Trigger}
@@ -22,7 +22,7 @@ use Rattle.zone_index.specs.Laws.{AreNamed, IsInOrder, rule_at}
 use Rattle.zone_index.specs.Listed.{is_of, rows_of}
 use Rattle.zone_index.specs.Rules.{live_trigger, no_groups, put_live, groups_of, rules_of, with_row, with_rule, put_rule, rows_in}
 use Rattle.zone_index.proofs.Gathered.{rule_of_rows, rules_in_order}
-use Rattle.zone_index.proofs.OneList.{keys-insert, keys-remove, same_entries}
+use Rattle.trie_keys.proofs.OneList.{keys-insert, keys-remove, same_entries}
 use Rattle.zone_index.proofs.SameAction.{pattern_order_total}
 use Rattle.zone_index.proofs.Ties.{NameLaws, IsTriggerIf, named_live, equal_prefix, equal_pattern}
 

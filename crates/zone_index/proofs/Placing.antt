@@ -9,7 +9,7 @@ use Rattle.std.specs.Map.{keys_of, lookup, remove_entry}
 use Rattle.std.specs.declared.cmp.Ordering.{Ordering}
 use Rattle.std.proofs.lemmas.List.Elements.{filter-append}
 use Rattle.dns_record.specs.Row.{PlainRow, IsRow}
-use Rattle.prefix_index.specs.Order.{prefix_order_total}
+use Rattle.prefix_index.proofs.Order.{prefix_order_total}
 use Rattle.packed_lists.specs.Stored.{PlainStored, has_number, without_number}
 use Rattle.trigger_codec.specs.Bases.{IsPattern}
 use Rattle.trigger_codec.specs.declared.trigger.Trigger.{Trigger}
@@ -21,8 +21,8 @@ use Rattle.zone_index.specs.declared.place.Place.TheVariants.{Rule, Other}
 use Rattle.zone_rows.specs.Stored.{plain_row}
 use Rattle.zone_index.specs.Placed.{place_by, row_place, is_same_place, stored_at, entry_for, put_at, IsPlace, IsIndexOf}
 use Rattle.zone_index.specs.Rules.{live_trigger}
-use Rattle.zone_index.proofs.Entries.{lookup-insert_entry, lookup-remove_entry, at_itself, apart_from, ordered-others}
-use Rattle.zone_index.proofs.OneList.{none_found}
+use Rattle.trie_keys.proofs.ByKey.{lookup-insert_entry, lookup-remove_entry, at_itself, apart_from, ordered-others}
+use Rattle.trie_keys.proofs.OneList.{none_found}
 use Rattle.zone_index.proofs.SameAction.{pattern_order_total}
 use Rattle.zone_index.proofs.Ties.{NameLaws, IsTriggerIf, equal_trigger, equal_pattern, named_live, same_itself}
 

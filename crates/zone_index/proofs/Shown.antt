@@ -15,7 +15,7 @@ use Rattle.dns_record.specs.Row.{PlainRow, IsRow}
 use Rattle.ip_prefix.specs.declared.Addr.{Addr}
 use Rattle.ip_prefix.specs.Prefix.{PlainPrefix, contains, prefix_order}
 use Rattle.prefix_index.specs.Longest.{longest}
-use Rattle.prefix_index.specs.Order.{prefix_order_total}
+use Rattle.prefix_index.proofs.Order.{prefix_order_total}
 use Rattle.qname_index.specs.Best.{best, pattern_order}
 use Rattle.packed_lists.specs.Stored.{PlainStored, NumbersRise, row_of_number}
 use Rattle.trigger_codec.specs.Bases.{IsPattern, IsTrigger}
@@ -38,9 +38,9 @@ use Rattle.zone_index.specs.Laws.{rule_at}
 use Rattle.zone_index.specs.Listed.{is_of, rows_of}
 use Rattle.zone_index.specs.Placed.{IsIndexOf, action_in, acting, answer_of, entry_action, entry_for, entry_shown, one_does, place_by, row_place, is_same_place, rules_shown, several_do, stored_at, with_action}
 use Rattle.zone_index.specs.Rules.{live_trigger, rules_of}
-use Rattle.zone_index.proofs.Entries.{at_itself, apart_from, ordered-others}
+use Rattle.trie_keys.proofs.ByKey.{at_itself, apart_from, ordered-others}
 use Rattle.zone_index.proofs.Numbered.{AreFound, all_by, found_at, numbers}
-use Rattle.zone_index.proofs.OneList.{none_found}
+use Rattle.trie_keys.proofs.OneList.{none_found}
 use Rattle.zone_index.proofs.OnlyRules.{only_rules}
 use Rattle.zone_index.proofs.SameAction.{pattern_order_total}
 use Rattle.zone_index.proofs.Ties.{NameLaws}

@@ -17,7 +17,7 @@ use Rattle.zone_rows.specs.declared.fault.ApplyFault.TheVariants.{DeleteAbsent, 
 use Rattle.zone_index.specs.Changes.{HasStepRows}
 use Rattle.zone_index.specs.Listed.{is_of}
 use Rattle.zone_index.specs.Rules.{live_trigger, some_trigger}
-use Rattle.trie_keys.specs.Entries.{all_append}
+use Rattle.trie_keys.proofs.Entries.{all_append}
 use Rattle.zone_index.proofs.Numbered.{AreAlikeByIdentity, all_filter}
 
 -- ---- results

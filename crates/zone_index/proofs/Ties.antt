@@ -8,7 +8,7 @@ use Rattle.dns_name.specs.Labels.{IsName, name_octets, lowered}
 use Rattle.dns_name.proofs.PartLemmas.{IsName-take}
 use Rattle.dns_name.proofs.WireLemmas.{IsName-rest, IsName-lowered}
 use Rattle.ip_prefix.specs.Prefix.{PlainPrefix, prefix_order}
-use Rattle.prefix_index.specs.Order.{prefix_order_total}
+use Rattle.prefix_index.proofs.Order.{prefix_order_total}
 use Rattle.prefix_index.proofs.Same.{same_prefix}
 use Rattle.qname_index.specs.Best.{pattern_order}
 use Rattle.trigger_codec.specs.Address.{prefix_read}
@@ -23,7 +23,7 @@ use Rattle.dns_record.specs.Row.{PlainRow}
 use Rattle.action_codec.specs.Action.{is_live_type}
 use Rattle.zone_index.specs.Listed.{is_same, is_of}
 use Rattle.zone_index.specs.Rules.{some_trigger, live_trigger}
-use Rattle.zone_index.proofs.Entries.{tied_if, at_itself}
+use Rattle.trie_keys.proofs.ByKey.{tied_if, at_itself}
 use Rattle.zone_index.proofs.SameAction.{pattern_order_total, tied_patterns}
 
 -- what the laws of names say

@@ -1,5 +1,5 @@
 use Rattle.std.proofs.lemmas.Result.{IfOk-weaker}
-use Rattle.prefix_index.specs.Order.{prefix_order_total}
+use Rattle.prefix_index.proofs.Order.{prefix_order_total}
 use Rattle.summary_index.proofs.MergedZones.{sorted_merged, zones_merged}
 use Rattle.summary_index.proofs.merging.merged_prefixes.Goals as goal
 

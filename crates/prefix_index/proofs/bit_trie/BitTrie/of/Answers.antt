@@ -1,5 +1,5 @@
 use Rattle.std.proofs.Common.{◌≡◌, true, sym, ap, ◌∙◌, subst, IfSome}
-use Rattle.trie_keys.specs.Entries.{all_map}
+use Rattle.trie_keys.proofs.Entries.{all_map}
 use Rattle.prefix_index.specs.Made.{IsKey}
 use Rattle.prefix_index.specs.Nodes.{Built}
 use Rattle.prefix_index.specs.PlainNode.{plain_nodes}

@@ -4,7 +4,7 @@ use Rattle.std.specs.List.{AllByRecursion}
 use Rattle.std.specs.List.Sorted.{IsPermutation}
 use Rattle.std.specs.Ordering.{is_lt}
 use Rattle.ip_prefix.specs.Prefix.{prefix_order}
-use Rattle.prefix_index.specs.Order.{prefix_order_total}
+use Rattle.prefix_index.proofs.Order.{prefix_order_total}
 use Rattle.prefix_index.proofs.Sorted.{joined, sorted_entries}
 use Rattle.prefix_index.proofs.map.PrefixTrie.entries.Goals as goal
 

@@ -1,5 +1,5 @@
 use Rattle.std.proofs.Common.{◌≤◌, subst, IfSome}
-use Rattle.trie_keys.specs.Entries.{all_map}
+use Rattle.trie_keys.proofs.Entries.{all_map}
 use Rattle.prefix_index.specs.Bits.{bits_keys}
 use Rattle.prefix_index.specs.Made.{IsKey, IsMadeOf}
 use Rattle.prefix_index.specs.Ranked.{four_bits, six_bits}

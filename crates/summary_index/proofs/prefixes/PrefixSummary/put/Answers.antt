@@ -2,7 +2,7 @@ use Rattle.std.proofs.Common.{◌≡◌, ap, sym, subst, ◌∙◌}
 use Rattle.std.specs.List.Sorted.{IsStrictlySortedBy}
 use Rattle.std.specs.Map.{keys_of}
 use Rattle.ip_prefix.specs.Prefix.{prefix_order}
-use Rattle.prefix_index.specs.Order.{prefix_order_total}
+use Rattle.prefix_index.proofs.Order.{prefix_order_total}
 use Rattle.summary_index.specs.Summary.{zones_at}
 use Rattle.summary_index.proofs.Putting.{put_elsewhere, put_here}
 use Rattle.summary_index.proofs.prefixes.PrefixSummary.put.Goals as goal

@@ -1,6 +1,6 @@
 use Rattle.std.proofs.Common.{ap, ◌∙◌}
 use Rattle.std.proofs.lemmas.Result.{IfOk-weaker}
-use Rattle.prefix_index.specs.Order.{prefix_order_total}
+use Rattle.prefix_index.proofs.Order.{prefix_order_total}
 use Rattle.summary_index.specs.Entries.{entries_without}
 use Rattle.summary_index.proofs.WithoutZone.{none_empty, sorted_without, zones_of_left}
 use Rattle.summary_index.proofs.prefixes.PrefixSummary.without_zone.Goals as goal

@@ -1,5 +1,5 @@
 use Rattle.ip_prefix.specs.Prefix.{prefix_order}
-use Rattle.prefix_index.specs.Order.{prefix_order_total}
+use Rattle.prefix_index.proofs.Order.{prefix_order_total}
 use Rattle.zone_index.proofs.Counting.{counted_with, fits}
 use Rattle.zone_index.proofs.prefixes.Prefixes.put.Goals as goal
 

@@ -8,7 +8,7 @@ use Rattle.std.specs.Map.{keys_of, lookup, remove_entry}
 use Rattle.std.specs.Ordering.{is_eq, match_ordering, ordering_reverse}
 use Rattle.std.specs.declared.cmp.Ordering.{Ordering}
 use Rattle.std.specs.declared.cmp.Ordering.TheVariants.{Less, Equal, Greater}
-use Rattle.prefix_index.proofs.ByKey.{Above, above-below, at_itself, apart_from, ordered-others}
+use Rattle.trie_keys.proofs.ByKey.{Above, above-below, at_itself, apart_from, ordered-others}
 
 module _ {K X : Type 0} (R : K → K → Ordering) (P : K → Type 0) where
   -- what is true of each key stays so

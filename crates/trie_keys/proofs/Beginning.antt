@@ -5,7 +5,7 @@ use Rattle.std.specs.Ordering.{ordering_reverse}
 use Rattle.std.specs.declared.cmp.Ordering.TheVariants.{Less, Greater}
 use Rattle.trie_keys.specs.Keys.{Keys, KeyLaws, Under, Begins}
 use Rattle.trie_keys.specs.Scan.{own}
-use Rattle.trie_keys.specs.Entries.{all_map, Before, Behind}
+use Rattle.trie_keys.proofs.Entries.{all_map, Before, Behind}
 
 module _ {K : Type 0} (keys : Keys K) (laws : KeyLaws keys) where
   pub turned : (a b : K) → keys.order a b ≡ Less → keys.order b a ≡ Greater
