@@ -10,7 +10,7 @@ use Rattle.dns_record.specs.Faults.{RecordShows}
 use Rattle.dns_record.specs.Number.{number_at, AreOctets}
 use Rattle.dns_record.specs.Reading.{record_at}
 use Rattle.dns_record.specs.Record.{PlainRecord}
-use Rattle.dns_record.proofs.Binding.{bind_err, err_is}
+use Rattle.dns_name.proofs.Binding.{bind_err, err_is}
 use Rattle.dns_record.proofs.RecordFaults.{record_shows, record_fails}
 use Rattle.dns_record.proofs.RecordGrammar.{record_stands, record_only}
 use Rattle.dns_message.specs.Becomes.{as_question, as_record}

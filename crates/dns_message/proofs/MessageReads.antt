@@ -5,7 +5,7 @@ use Rattle.std.proofs.lemmas.Bool.{cond_both, ltb-false, le-ltb}
 use Rattle.dns_name.specs.Reading.{◌>>=◌}
 use Rattle.dns_record.specs.Number.{number_at}
 use Rattle.dns_record.specs.Record.{PlainRecord}
-use Rattle.dns_record.proofs.Binding.{bind_ok, ok_is}
+use Rattle.dns_name.proofs.Binding.{bind_ok, ok_is}
 use Rattle.dns_message.specs.declared.edns.Edns.{Edns}
 use Rattle.dns_message.specs.declared.fault.MessageFault.{MessageFault}
 use Rattle.dns_message.specs.declared.fault.MessageFault.TheVariants.{Short, Trailing}

@@ -3,7 +3,7 @@ use Rattle.std.proofs.Common.{◌≡◌, ℕ, ◌+◌, ◌<◌, ◌≤◌, Bool,
 use Rattle.std.specs.List.{filter}
 use Rattle.std.proofs.lemmas.List.{drop_more, drop_all}
 use Rattle.dns_record.specs.Record.{PlainRecord}
-use Rattle.dns_record.proofs.Binding.{ok_is}
+use Rattle.dns_name.proofs.Binding.{ok_is}
 use Rattle.dns_message.specs.declared.edns.Edns.{Edns}
 use Rattle.dns_message.specs.declared.fault.MessageFault.{MessageFault}
 use Rattle.dns_message.specs.declared.fault.MessageFault.TheVariants.{TwoOpts}

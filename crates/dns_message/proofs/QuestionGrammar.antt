@@ -9,7 +9,7 @@ use Rattle.dns_name.specs.Standing.{Stands}
 use Rattle.dns_name.proofs.GrammarLemmas.{name_stands, name_only}
 use Rattle.dns_name.proofs.Standing.{name_written, stands_both}
 use Rattle.dns_record.specs.Number.{number_at, number_octets, AreOctets}
-use Rattle.dns_record.proofs.Binding.{bind_ok, ok_is}
+use Rattle.dns_name.proofs.Binding.{bind_ok, ok_is}
 use Rattle.dns_record.proofs.Numbers.{length-number_octets, number_read, u16_stands, number_fits}
 use Rattle.dns_record.proofs.PartStanding.{stands_within, stands_parts}
 use Rattle.dns_message.specs.Becomes.{as_question}

@@ -7,7 +7,7 @@ use Rattle.dns_record.specs.Number.{AreOctets}
 use Rattle.dns_record.specs.Reading.{record_at}
 use Rattle.dns_record.specs.declared.fault.RecordFault.{RecordFault}
 use Rattle.dns_record.specs.Record.{PlainRecord, IsRecord, record_octets}
-use Rattle.dns_record.proofs.Binding.{bind_ok, ok_is}
+use Rattle.dns_name.proofs.Binding.{bind_ok, ok_is}
 use Rattle.dns_record.proofs.PartStanding.{stands_parts}
 use Rattle.dns_record.proofs.RecordGrammar.{record_stands, record_only}
 use Rattle.dns_record.proofs.RecordStanding.{record_written}

@@ -9,3 +9,4 @@ pub mod AlikeLemmas
 pub mod OrderLemmas
 pub mod PartLemmas
 pub mod Orders
+pub mod Binding

@@ -11,7 +11,7 @@ use Rattle.dns_record.specs.Grammar.{PartsAt, DataAt}
 use Rattle.dns_record.specs.Part.{layout_of, HasParts}
 use Rattle.dns_record.specs.Reading.{parts_at, data_that_fills, data_by_layout, data_at}
 use Rattle.dns_record.specs.Record.{IsData}
-use Rattle.dns_record.proofs.Binding.{bind_ok, ok_is}
+use Rattle.dns_name.proofs.Binding.{bind_ok, ok_is}
 use Rattle.dns_record.proofs.Data.{is_data, is_any_data, parts_have}
 use Rattle.dns_record.proofs.PartGrammar.{parts_stand, parts_only}
 use Rattle.dns_record.proofs.PartStanding.{parts_written}

@@ -4,7 +4,6 @@ pub mod Numbers
 pub mod Data
 pub mod Addresses
 pub mod SoaLemmas
-pub mod Binding
 pub mod PartStanding
 pub mod PartGrammar
 pub mod DataStanding

@@ -14,7 +14,7 @@ use Rattle.dns_record.specs.declared.part.Part.TheVariants.{Name, Fixed}
 use Rattle.dns_record.specs.Becomes.{as_data}
 use Rattle.dns_record.specs.Grammar.{PartsAt}
 use Rattle.dns_record.specs.Reading.{with_octets, octets_at, part_at, parts_at}
-use Rattle.dns_record.proofs.Binding.{bind_ok, ok_is}
+use Rattle.dns_name.proofs.Binding.{bind_ok, ok_is}
 use Rattle.dns_record.proofs.PartStanding.{octets_written}
 
 -- a name and the place after it, as octets

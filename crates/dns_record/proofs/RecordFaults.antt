@@ -17,7 +17,7 @@ use Rattle.dns_record.specs.Grammar.{DataAt}
 use Rattle.dns_record.specs.Number.{number_at, number_octets, AreOctets}
 use Rattle.dns_record.specs.Part.{layout_of}
 use Rattle.dns_record.specs.Reading.{end_at, with_octets, part_at, parts_at, data_that_fills, data_by_layout, data_at, record_at}
-use Rattle.dns_record.proofs.Binding.{bind_err, err_is}
+use Rattle.dns_name.proofs.Binding.{bind_err, err_is}
 use Rattle.dns_record.proofs.DataStanding.{data_stands, data_only}
 use Rattle.dns_record.proofs.Numbers.{number_read, number_fits, u16_stands}
 use Rattle.dns_record.proofs.RecordReads.{at_data, at_end, at_fixed, at_owner, owner_read, end_read}

@@ -9,7 +9,7 @@ use Rattle.dns_record.specs.Becomes.{as_owner}
 use Rattle.dns_record.specs.Number.{number_at}
 use Rattle.dns_record.specs.Reading.{end_at, data_at, record_at}
 use Rattle.dns_record.specs.Record.{PlainRecord}
-use Rattle.dns_record.proofs.Binding.{bind_ok, ok_is}
+use Rattle.dns_name.proofs.Binding.{bind_ok, ok_is}
 
 -- what follows in the reading of a record
 abbrev pub Outcome : Type 0

@@ -19,6 +19,7 @@ use Rattle.policy_override.specs.ZoneSet.{given_zones, overrides_in}
 use Rattle.policy_snapshot.specs.Policy.{PlainPolicy, PlainZones, zone_at, zone_by, zones_behind}
 use Rattle.policy_snapshot.specs.Stands.{PlainSnapshot, new_snapshot, policy_in, with_zone}
 use Rattle.load_gen.specs.Summed.{load_policy, load_soa, origin}
+use Rattle.dns_name.proofs.Binding.{ok_is}
 
 -- ---- there are no more rows without repeats
 
@@ -57,9 +58,6 @@ after_one : (rows : List PlainRow) → zones_behind (origin ∷ []) (record { zo
     ≡ slice_set (unloaded origin ∷ []) (1 - 1) (zone_by (unloaded origin) (apply_outcome (unloaded origin) (Whole load_soa rows)))
 unfolding zones_behind
 after_one rows = refl
-
-ok_is : {X E : Type 0} (x y : X) → (let a : Result X E = Ok x in a ≡ Ok y) → x ≡ y
-ok_is x y e = cc
 
 -- it is the policy of the load, and no fault
 abbrev pub Brings : List PlainRecord → Result PlainSnapshot ApplyError → Type 0

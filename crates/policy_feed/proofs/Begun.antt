@@ -63,7 +63,6 @@ no_end : (number : ℕ) (zone : PlainZone) (told : Result Polled FeedError) (giv
 no_end number zone (Ok (polled.Current theirs)) gives old new ends e = let h = ends.0 in cc
 no_end number zone (Ok (polled.New publication)) gives old new ends e = let h = ends.1 in cc
 no_end number zone (Err feed_error.OutOfMemory) gives old new ends e = cc
-no_end number zone (Err (feed_error.Fault feed_fault.WriteFault)) gives old new ends e = ends
 no_end number zone (Err (feed_error.Fault (feed_fault.Transfer fault))) gives old new ends e = let h = ends.0 in cc
 no_end number zone (Err (feed_error.Fault (feed_fault.Apply fault))) gives old new ends e = let h = ends.1 in cc
 

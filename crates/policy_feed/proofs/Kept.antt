@@ -55,7 +55,6 @@ end_keeps : (number : ℕ) (zone : PlainZone) (read : Result Taken TransferError
 end_keeps number zone read (Ok (polled.Current theirs)) old new h = ap zone_count h.1
 end_keeps number zone read (Ok (polled.New told)) old new h = sym (ap count_in h.2.takes.version) ∙ length-set old.version.zones (number - 1) h.2.takes.next
 end_keeps number zone read (Err feed_error.OutOfMemory) old new h = ap zone_count h
-end_keeps number zone read (Err (feed_error.Fault feed_fault.WriteFault)) old new h = absurd h
 end_keeps number zone read (Err (feed_error.Fault (feed_fault.Transfer fault))) old new h = ap zone_count h.1
 end_keeps number zone read (Err (feed_error.Fault (feed_fault.Apply fault))) old new h = ap zone_count h.3
 

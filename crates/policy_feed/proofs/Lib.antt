@@ -1,9 +1,7 @@
 pub mod FitBlocks
 pub mod FitStreams
 pub mod FitZones
-pub mod Written
 pub mod Kept
-pub mod Ended
 pub mod Fed
 pub mod Noticed
 pub mod Begun

@@ -13,7 +13,6 @@ use Rattle.script_codec.specs.declared.zone_fault.ZoneFault.{ZoneFault}
 use Rattle.script_codec.specs.declared.zone_fault.ZoneFault.TheVariants as zone_fault
 
 abbrev pub poll_fault_of : FeedFault → ZoneFault
-poll_fault_of feed_fault.WriteFault = zone_fault.Write
 poll_fault_of (feed_fault.Transfer fault) = zone_fault.Transfer fault
 poll_fault_of (feed_fault.Apply fault) = zone_fault.Apply fault
 

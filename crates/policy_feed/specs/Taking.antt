@@ -1,6 +1,5 @@
 -- What the parts of a poll do: see src/taking.rt.
-use Rattle.std.specs.Prelude.{◌≡◌, ℕ, false, List, Option, Result, Ok, Err}
-use Rattle.edge_io.specs.Frame.{TakesSome}
+use Rattle.std.specs.Prelude.{◌≡◌, ℕ, false, Result, Ok, Err}
 use Rattle.zone_rows.specs.declared.transfer.Transfer.{Transfer}
 use Rattle.zone_rows.specs.declared.zone.PlainZone.{PlainZone}
 use Rattle.zone_rows.specs.Zone.{apply_outcome}
@@ -8,14 +7,11 @@ use Rattle.axfr_apply.specs.declared.fault.TransferError.{TransferError}
 use Rattle.axfr_apply.specs.declared.fault.TransferError.TheVariants as transfer_errors
 use Rattle.axfr_apply.specs.declared.taken.Taken.{Taken}
 use Rattle.axfr_apply.specs.declared.taken.Taken.TheVariants as taken
-use Rattle.ixfr_apply.specs.Marks.{mark_at}
-use Rattle.ixfr_apply.specs.Offer.{request_of}
-use Rattle.ixfr_apply.specs.Stream.{Faults, ReadsAs}
 use Rattle.policy_publish.specs.Lists.{Published}
 use Rattle.policy_publish.specs.Publishing.{Publishes}
 use Rattle.policy_feed.specs.declared.fault.FeedError.{FeedError}
 use Rattle.policy_feed.specs.declared.fault.FeedError.TheVariants as errors
-use Rattle.policy_feed.specs.declared.fault.FeedFault.TheVariants.{WriteFault, Transfer as TransferFaulty, Apply}
+use Rattle.policy_feed.specs.declared.fault.FeedFault.TheVariants.{Transfer as TransferFaulty, Apply}
 use Rattle.policy_feed.specs.declared.polling.Polled.{Polled}
 use Rattle.policy_feed.specs.declared.polling.Polled.TheVariants.{Current, New}
 use Rattle.policy_feed.specs.Poll.{with_zone_mark, after_refusal}
@@ -27,35 +23,9 @@ Offers number zone transfer (Ok (Current theirs)) old new = ⊥
 Offers number zone transfer (Ok (New told)) old new =
     Publishes number zone transfer (Ok told) old new
 Offers number zone transfer (Err errors.OutOfMemory) old new = new ≡ old
-Offers number zone transfer (Err (errors.Fault WriteFault)) old new = ⊥
 Offers number zone transfer (Err (errors.Fault (TransferFaulty fault))) old new = ⊥
 Offers number zone transfer (Err (errors.Fault (Apply fault))) old new =
     (apply_outcome zone transfer ≡ Err fault) × (new ≡ after_refusal old number zone)
-
--- where the bytes of the source are known: it is read as the answer to a request of this ID
-abbrev pub ReadsAnswer : ℕ → ℕ → PlainZone → Taken → Published → Option (List ℕ) → Option (List ℕ) →
-    Type 0
-ReadsAnswer id number zone read old before after =
-    ReadsAs (request_of id (mark_at old.marks number) zone) (Ok read) before after
-
--- what a poll does whose request was written, by what was published and what is left of the source
-abbrev pub TakesAnswer : ℕ → ℕ → PlainZone → Result Polled FeedError → Published → Published →
-    Option (List ℕ) → Option (List ℕ) → Type 0
-TakesAnswer id number zone (Ok (Current theirs)) old new before after =
-    ReadsAnswer id number zone (taken.Current theirs) old before after
-    × (new ≡ with_zone_mark old number false)
-TakesAnswer id number zone (Ok (New told)) old new before after =
-    (transfer : Transfer) × ReadsAnswer id number zone (taken.New transfer) old before after
-    × Publishes number zone transfer (Ok told) old new
-TakesAnswer id number zone (Err errors.OutOfMemory) old new before after =
-    TakesSome before after × (new ≡ old)
-TakesAnswer id number zone (Err (errors.Fault WriteFault)) old new before after = ⊥
-TakesAnswer id number zone (Err (errors.Fault (TransferFaulty fault))) old new before after =
-    Faults (request_of id (mark_at old.marks number) zone) fault before after
-    × (new ≡ after_refusal old number zone)
-TakesAnswer id number zone (Err (errors.Fault (Apply fault))) old new before after =
-    (transfer : Transfer) × ReadsAnswer id number zone (taken.New transfer) old before after
-    × (apply_outcome zone transfer ≡ Err fault) × (new ≡ after_refusal old number zone)
 
 -- How a poll ends of whose transfer this was read, by its result: the zone is current; the transfer is published; memory ran out, and
 -- all that is published is as it was; what was read has a fault; or the zone can't take it. Only a transfer that is published adds an
@@ -68,7 +38,6 @@ Ends number zone read (Ok (New told)) old new =
     (transfer : Transfer) × (read ≡ Ok (taken.New transfer))
     × Publishes number zone transfer (Ok told) old new
 Ends number zone read (Err errors.OutOfMemory) old new = new ≡ old
-Ends number zone read (Err (errors.Fault WriteFault)) old new = ⊥
 Ends number zone read (Err (errors.Fault (TransferFaulty fault))) old new =
     (read ≡ Err (transfer_errors.Fault fault)) × (new ≡ after_refusal old number zone)
 Ends number zone read (Err (errors.Fault (Apply fault))) old new =

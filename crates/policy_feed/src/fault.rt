@@ -10,8 +10,6 @@ use zone_rows::ApplyFault;
 /// Why a poll of a zone publishes nothing, where the zone isn't current.
 #[derive(Clone, Copy, Debug, PartialEq, Eq)]
 pub enum FeedFault {
-    /// The request could not be written whole: the sink's count of faults has risen in this call.
-    WriteFault,
     /// The stream has this fault.
     Transfer(TransferFault),
     /// The zone can't take what the stream has.

@@ -1,4 +1,4 @@
-//! Zones are polled: what is new of a zone is asked of its primary, read, and published; and all zones of a server, each when it is due.
+//! The zones of a server: each is polled when it is due, what is new of it is asked of its primary, read, and published.
 #![tactic(auto)]
 
 mod ending;
@@ -18,4 +18,4 @@ pub use fault::{FeedError, FeedFault};
 pub use feeder::Feeder;
 pub use lines::PollOutcome;
 pub use notice::Notice;
-pub use polling::{Polled, poll_zone};
+pub use polling::Polled;

@@ -15,7 +15,6 @@ fn poll_fault_of(fault: FeedFault) -> ZoneFault
     ensures { result ≡ poll_fault fault }
 {
     match fault {
-        FeedFault::WriteFault => ZoneFault::Write,
         FeedFault::Transfer(fault) => ZoneFault::Transfer(fault),
         FeedFault::Apply(fault) => ZoneFault::Apply(fault),
     }

@@ -1,12 +1,7 @@
 -- Results that follow one another, taken apart.
 use Rattle.std.proofs.Common.{◌≡◌, Bool, true, false, Option, Some, None, Result, Ok, Err, refl}
 use Rattle.std.specs.Option.{ok_or}
-use Rattle.rpz_words.specs.Outcome.{◌>>=◌, cause_if, or_said}
-
--- where the whole has a value, its first part has one, and what follows
-pub bind_ok : {A B E : Type 0} (o : Result A E) (f : A → Result B E) (y : B) → o >>= f ≡ Ok y → (x : A) × (o ≡ Ok x) × (f x ≡ Ok y)
-bind_ok (Ok x) f y e = (x, refl, e)
-bind_ok (Err fault) f y e = absurd cc
+use Rattle.rpz_words.specs.Outcome.{cause_if, or_said}
 
 -- there is no fault only where the test doesn't hold
 pub no_fault_of : {E : Type 0} (test : Bool) (fault : E) (u : Unit {0}) → cause_if test fault ≡ Ok u → test ≡ false
@@ -22,7 +17,3 @@ is_there None fault x e = absurd cc
 pub unsaid : {A E F : Type 0} (say : E → F) (r : Result A E) (x : A) → or_said say r ≡ Ok x → r ≡ Ok x
 unsaid say (Ok y) x e = cc
 unsaid say (Err fault) x e = absurd cc
-
--- a result has one value
-pub ok_is : {A E : Type 0} (x y : A) → (let o : Result A E = Ok x in o ≡ Ok y) → x ≡ y
-ok_is x y e = cc

@@ -3,8 +3,9 @@ use Rattle.std.proofs.Common.{◌≡◌, ℕ, ◌+◌, ◌<◌, ◌≤◌, suc, 
 use Rattle.std.specs.List.{slice_index_or}
 use Rattle.rpz_words.specs.declared.usage_cause.UsageCause.{UsageCause}
 use Rattle.rpz_words.specs.Lists.{each_of}
-use Rattle.rpz_words.specs.Outcome.{◌>>=◌, or_said}
-use Rattle.rpz_words.proofs.Binding.{bind_ok, ok_is}
+use Rattle.dns_name.specs.Reading.{◌>>=◌}
+use Rattle.rpz_words.specs.Outcome.{or_said}
+use Rattle.dns_name.proofs.Binding.{bind_ok, ok_is}
 
 abbrev pub texts_of : List (Bor (List ℕ)) → List (List ℕ)
 texts_of = map (λ text. text.now)

@@ -17,7 +17,8 @@ use Rattle.rpz_words.specs.declared.usage_cause.EndpointFault.TheVariants.{Addre
 use Rattle.rpz_words.specs.Endpoint.{behind_colon, endpoint_of, is_bracket, is_end_bracket, v4_endpoint, v6_endpoint}
 use Rattle.rpz_words.specs.Outcome.{cause_if}
 use Rattle.rpz_words.specs.Values.{count_to, number_between, port_of}
-use Rattle.rpz_words.proofs.Binding.{bind_ok, is_there, ok_is}
+use Rattle.dns_name.proofs.Binding.{bind_ok, ok_is}
+use Rattle.rpz_words.proofs.Binding.{is_there}
 use Rattle.rpz_words.proofs.OptionBinding.{bind_some, not_held, some_is}
 
 -- numbers

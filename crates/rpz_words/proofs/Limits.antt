@@ -44,7 +44,8 @@ use Rattle.rpz_words.specs.Limits.{IsLoadable, IsServable, IsWithinLimits}
 use Rattle.rpz_words.specs.Words.{checked_at, command_of, listen_at, load_settings_of, named_command, plain_settings_of, settings_of, upstream_at, zones_at}
 use Rattle.rpz_words.specs.Zones.{HasDistinctOrigins, has_origin, has_repeated}
 use Rattle.rpz_words.specs.ZoneWords.{zone_fault, zone_setting_of, zones_of}
-use Rattle.rpz_words.proofs.Binding.{bind_ok, is_there, no_fault_of, ok_is}
+use Rattle.dns_name.proofs.Binding.{bind_ok, ok_is}
+use Rattle.rpz_words.proofs.Binding.{is_there, no_fault_of}
 use Rattle.rpz_words.proofs.EachLemmas.{each_count}
 use Rattle.rpz_words.proofs.Forms.{count_within, number_within}
 use Rattle.rpz_words.proofs.OptionBinding.{some_is, then_some}

@@ -5,7 +5,7 @@ use Rattle.std.specs.Prelude.{String}
 use Rattle.std.specs.Str.{bytes_eq}
 use Rattle.std.specs.declared.alloc.Global.{Global}
 use Rattle.clap.specs.Words.{Row, Text, subcommand_of}
-use Rattle.rpz_words.specs.Outcome.{◌>>=◌}
+use Rattle.dns_name.specs.Reading.{◌>>=◌}
 use Rattle.rpz_words.specs.Pages.{command_page, help_page, is_help, is_version, page_by}
 use Rattle.rpz_words.specs.Words.{argv, command_by, command_of, load_settings_of, rpz_app, settings_of}
 use Rattle.rpz_words.specs.declared.command.Command.TheVariants.{Load, Replay, Serve, Show}

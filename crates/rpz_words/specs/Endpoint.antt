@@ -13,7 +13,8 @@ use Rattle.edge_io.specs.declared.endpoint.Endpoint.{Endpoint}
 use Rattle.rpz_words.specs.declared.endpoint_text.TheConstants.{PORT_LIMIT}
 use Rattle.rpz_words.specs.declared.usage_cause.EndpointFault.{EndpointFault}
 use Rattle.rpz_words.specs.declared.usage_cause.EndpointFault.TheVariants.{Form, Address, Mapped, Port}
-use Rattle.rpz_words.specs.Outcome.{◌>>=◌, cause_if}
+use Rattle.dns_name.specs.Reading.{◌>>=◌}
+use Rattle.rpz_words.specs.Outcome.{cause_if}
 use Rattle.rpz_words.specs.Values.{port_of}
 
 -- `[`, which stands before an address of version 6

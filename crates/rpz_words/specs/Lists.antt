@@ -14,7 +14,8 @@ use Rattle.rpz_words.specs.declared.usage_cause.ListFault.TheVariants as listen
 use Rattle.rpz_words.specs.declared.usage_cause.UsageCause.{UsageCause}
 use Rattle.rpz_words.specs.declared.usage_cause.UsageCause.TheVariants.{Allow, Listen}
 use Rattle.rpz_words.specs.Endpoint.{endpoint_of}
-use Rattle.rpz_words.specs.Outcome.{◌>>=◌, cause_if, or_said}
+use Rattle.dns_name.specs.Reading.{◌>>=◌}
+use Rattle.rpz_words.specs.Outcome.{cause_if, or_said}
 
 -- `,`, which stands between the parts of a list
 abbrev pub is_comma : ℕ → Bool

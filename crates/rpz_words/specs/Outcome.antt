@@ -4,12 +4,6 @@ use Rattle.rpz_words.specs.declared.usage_cause.UsageCause.{UsageCause}
 use Rattle.rpz_words.specs.declared.words_error.WordsError.{WordsError}
 use Rattle.rpz_words.specs.declared.words_error.WordsError.TheVariants.{OutOfMemory, Usage}
 
--- what follows a result, which ends at the first fault
-infixl 10 ◌>>=◌
-abbrev pub ◌>>=◌ : {A B E : Type 0} → Result A E → (A → Result B E) → Result B E
-(Ok x) >>= f = f x
-(Err fault) >>= f = Err fault
-
 -- a fault where the test holds
 abbrev pub cause_if : {E : Type 0} → Bool → E → Result (Unit {0}) E
 cause_if test fault = if test then Err fault else Ok tt

@@ -21,7 +21,8 @@ use Rattle.rpz_words.specs.declared.usage_cause.UsageCause.TheVariants.{Upstream
 use Rattle.rpz_words.specs.declared.zones.ZoneSetting.{ZoneSetting}
 use Rattle.rpz_words.specs.Endpoint.{endpoint_of}
 use Rattle.rpz_words.specs.Lists.{allowed_of, listen_of}
-use Rattle.rpz_words.specs.Outcome.{◌>>=◌, or_said}
+use Rattle.dns_name.specs.Reading.{◌>>=◌}
+use Rattle.rpz_words.specs.Outcome.{or_said}
 use Rattle.rpz_words.specs.Pages.{page_of}
 use Rattle.rpz_words.specs.Values.{askers_of, cache_of, connections_of, hold_of, load_workers_of, queries_of, rules_of, seed_of, turns_of, workers_of}
 use Rattle.rpz_words.specs.ZoneWords.{zones_of}

@@ -21,7 +21,8 @@ use Rattle.rpz_words.specs.declared.zone_words.ZoneWordError.TheVariants as erro
 use Rattle.rpz_words.specs.declared.zones.ZoneSetting.{ZoneSetting}
 use Rattle.rpz_words.specs.Endpoint.{endpoint_of}
 use Rattle.rpz_words.specs.Lists.{each_of}
-use Rattle.rpz_words.specs.Outcome.{◌>>=◌, cause_if, or_said}
+use Rattle.dns_name.specs.Reading.{◌>>=◌}
+use Rattle.rpz_words.specs.Outcome.{cause_if, or_said}
 use Rattle.rpz_words.specs.Zones.{has_repeated}
 
 -- a name of letters, digits, `-`, `_` and `*`, with dots between its labels and one dot at its end or none

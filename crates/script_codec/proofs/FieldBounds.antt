@@ -16,7 +16,8 @@ use Rattle.script_codec.specs.Field.{or_refused, name_field, number_field, zone_
 use Rattle.script_codec.specs.Outcome.{refuse_if}
 use Rattle.script_codec.specs.State.{PlainState, opening, running, opens, takes_network, takes_primary}
 use Rattle.script_codec.specs.Within.{IsWorker, IsMessage, MayAllow, MayOpen, MayHavePrimary}
-use Rattle.script_codec.proofs.Binding.{bind_ok, not_refused, ok_is}
+use Rattle.dns_name.proofs.Binding.{bind_ok, ok_is}
+use Rattle.script_codec.proofs.Binding.{not_refused}
 
 -- zones
 

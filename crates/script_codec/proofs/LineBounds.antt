@@ -14,7 +14,8 @@ use Rattle.script_codec.specs.Outcome.{refuse_if}
 use Rattle.script_codec.specs.Overriding.{override_field, override_text}
 use Rattle.script_codec.specs.State.{PlainState, zone_count, is_pending, opens, takes_network, takes_primary}
 use Rattle.script_codec.specs.Within.{IsWithin}
-use Rattle.script_codec.proofs.Binding.{bind_ok, not_refused, ok_is}
+use Rattle.dns_name.proofs.Binding.{bind_ok, ok_is}
+use Rattle.script_codec.proofs.Binding.{not_refused}
 use Rattle.script_codec.proofs.FieldBounds.{zone_bounds, worker_bounds, message_bounds, may_allow, may_open, may_have_primary, name_bounds}
 use Rattle.script_codec.proofs.NetworkBounds.{network_bounds}
 

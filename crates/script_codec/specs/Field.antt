@@ -17,7 +17,8 @@ use Rattle.script_codec.specs.declared.field.TheConstants.{MESSAGE_BYTES, NUMBER
 use Rattle.script_codec.specs.declared.state.TheConstants.{WORKERS}
 use Rattle.script_codec.specs.declared.line_fault.LineFault.{LineFault}
 use Rattle.script_codec.specs.declared.line_fault.LineFault.TheVariants as why
-use Rattle.script_codec.specs.Outcome.{◌>>=◌, refuse_if}
+use Rattle.dns_name.specs.Reading.{◌>>=◌}
+use Rattle.script_codec.specs.Outcome.{refuse_if}
 
 -- the value, or else this reason
 abbrev pub or_refused : {A E : Type 0} → Result A E → LineFault → Result A LineFault

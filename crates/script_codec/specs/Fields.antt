@@ -4,7 +4,7 @@ use Rattle.std.specs.List.{slice_split}
 use Rattle.std.specs.Borrow.{Bor}
 use Rattle.script_codec.specs.declared.line_fault.LineFault.{LineFault}
 use Rattle.script_codec.specs.declared.line_fault.LineFault.TheVariants as why
-use Rattle.script_codec.specs.Outcome.{◌>>=◌}
+use Rattle.dns_name.specs.Reading.{◌>>=◌}
 
 abbrev pub is_space : ℕ → Bool
 is_space b = b == 32

@@ -7,7 +7,8 @@ use Rattle.script_loop.specs.declared.limits.TheConstants.{LINE_BYTES, LINES}
 use Rattle.script_codec.specs.declared.line.Line.TheVariants as line
 use Rattle.script_codec.specs.declared.line_fault.LineFault.{LineFault}
 use Rattle.script_codec.specs.declared.line_fault.LineFault.TheVariants as why
-use Rattle.script_codec.specs.Outcome.{◌>>=◌, refuse_if}
+use Rattle.dns_name.specs.Reading.{◌>>=◌}
+use Rattle.script_codec.specs.Outcome.{refuse_if}
 use Rattle.script_codec.specs.Fields.{fields_of, first_field, no_more_fields, one_field, two_fields, four_fields}
 use Rattle.script_codec.specs.Field.{name_field, number_field, zone_field, worker_field, transport_field, address_field, network_field, bytes_field, message_field}
 use Rattle.script_codec.specs.Overriding.{override_field, override_text}

@@ -6,13 +6,6 @@ use Rattle.script_codec.specs.declared.line_fault.LineError.TheVariants as error
 use Rattle.script_codec.specs.declared.line_fault.UnnumberedError.{UnnumberedError}
 use Rattle.script_codec.specs.declared.line_fault.UnnumberedError.TheVariants as read_errors
 
--- what follows a result, which ends at the first refusal
-infixl 10 ◌>>=◌
-abbrev pub ◌>>=◌ : {A B : Type 0} → Result A LineFault → (A → Result B LineFault) →
-    Result B LineFault
-(Ok x) >>= f = f x
-(Err why) >>= f = Err why
-
 -- refused for this reason where the test holds
 abbrev pub refuse_if : Bool → LineFault → Result (Unit {0}) LineFault
 refuse_if test why = if test then Err why else Ok tt

@@ -10,7 +10,7 @@ use Rattle.script_codec.specs.declared.overriding.OverrideText.{OverrideText}
 use Rattle.script_codec.specs.declared.overriding.OverrideText.TheVariants.{Nothing, Word, Target}
 use Rattle.script_codec.specs.Field.{name_field}
 use Rattle.script_codec.specs.Fields.{first_field, no_more_fields, one_field}
-use Rattle.script_codec.specs.Outcome.{◌>>=◌}
+use Rattle.dns_name.specs.Reading.{◌>>=◌}
 
 -- nothing, a word, or `cname` and a target
 pub data PlainOverrideText : Type 0 where

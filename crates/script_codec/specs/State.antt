@@ -11,7 +11,8 @@ use Rattle.zone_rows.specs.declared.zone.TheConstants.{ZONE_LIMIT}
 use Rattle.script_codec.specs.declared.line_fault.LineFault.{LineFault}
 use Rattle.script_codec.specs.declared.line_fault.LineFault.TheVariants as why
 use Rattle.policy_override.specs.ZoneSet.{has_zone_name, origins_in}
-use Rattle.script_codec.specs.Outcome.{◌>>=◌, refuse_if}
+use Rattle.dns_name.specs.Reading.{◌>>=◌}
+use Rattle.script_codec.specs.Outcome.{refuse_if}
 
 -- All lines so far were zone lines, which opened zones of these origins, zone 1 first, primary lines, by which each of these zones
 -- has a primary or none, and allow lines, which named these networks; or there were others, and there are so many zones, and the

@@ -1,5 +1,5 @@
-//! Tests of the published policy among threads, of polls and of workers, and nothing else. They show what no proof can: that calls
-//! succeed where memory suffices, and that threads follow each other's publications.
+//! Tests of the published policy among threads and of workers, and nothing else. They show what no proof can: that calls succeed if
+//! memory suffices, and that threads follow each other's publications.
 #![tactic(auto)]
 
 #[cfg(test)]
@@ -20,8 +20,6 @@ mod messages;
 mod old_zones;
 #[cfg(test)]
 mod passing;
-#[cfg(test)]
-mod polls;
 #[cfg(test)]
 mod publishing;
 #[cfg(test)]

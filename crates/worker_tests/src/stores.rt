@@ -8,7 +8,6 @@ use crate::faults::fail_all;
 use crate::items::take_all;
 use crate::old_zones::keep_old;
 use crate::passing::{pass_all, pass_one_of_two, refuse_one};
-use crate::polls::poll_all;
 use crate::publishing::follow_all;
 use crate::request_limits::{be_late, end_all, fill_all, jostle_one};
 use crate::request_threads::pass_among;
@@ -31,7 +30,6 @@ use std::time::Clock;
 #[derive(Clone, Copy)]
 pub enum Trial {
     Answers,
-    Polls,
     Publishing,
     OldZones,
     Runs,
@@ -100,7 +98,6 @@ fn attempt_over<
 ) {
     match trial {
         Trial::Answers => answer_all(rt, alloc, publisher, readers),
-        Trial::Polls => poll_all(rt, alloc, publisher),
         Trial::Publishing => follow_all(rt, alloc, publisher, readers),
         Trial::OldZones => keep_old(rt, alloc, publisher, readers),
         Trial::Runs => run_all(rt, alloc, publisher, readers),
