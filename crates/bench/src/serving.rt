@@ -4,13 +4,13 @@ ghost use Rattle.std.specs.Prelude.{◌≡◌};
 
 use crate::bench_error::BenchError;
 use crate::caching::BenchCache;
-use crate::samples::whole;
 use crate::tried::{after, beside};
 use crate::words::Plan;
 use answer_cache::Shared;
 use axfr_apply::{Taken, Wanted};
 use dns_message::KNOWN_KEY;
-use dns_name::Octets;
+use dns_name::{Name, Octets};
+use dns_record::Soa;
 use edge_io::{Bytes, ListIds, ListLink};
 use ip_prefix::{Addr, Transport};
 use ixfr_apply::read_transfer;
@@ -26,6 +26,7 @@ use std::sync::{Arc, Wait};
 use std::thread;
 use std::thread::{JoinHandle, Threads};
 use std::time::{Clock, Duration};
+use zone_rows::{Rows, Transfer};
 
 type BenchWorker<N, R> = Worker<N, ListLink, Shared<R, ListLink>, Asker<ListLink, ListIds, NoGate>>;
 
@@ -216,6 +217,26 @@ fn load<N: StoreName, R: Wait>(
     }
 }
 
+// A whole transfer of a zone of this serial without a rule, whose SOA has the root for both names.
+fn empty_zone(alloc: Global, serial: u32) -> Result<Transfer, AllocError> {
+    let mname = Name::root(alloc)?;
+    let (mname, rname) = beside(mname, Name::root(alloc))?;
+    let soa = Soa {
+        mname,
+        rname,
+        serial,
+        refresh: 3_600,
+        retry: 600,
+        expire: 86_400,
+        minimum: 60,
+        ttl: 60,
+    };
+    Ok(Transfer::Whole {
+        soa,
+        rows: Rows::new(alloc),
+    })
+}
+
 // Publishes the second zone again and again, while a worker is running.
 fn publish_while<N: StoreName, R: Wait + Clock>(
     rt: &R,
@@ -231,7 +252,7 @@ fn publish_while<N: StoreName, R: Wait + Clock>(
         if !publisher.has_zone(2) {
             return Err(BenchError::Words);
         }
-        let _published = publisher.publish(rt, 2, whole(alloc, serial, &[])?)?;
+        let _published = publisher.publish(rt, 2, empty_zone(alloc, serial)?)?;
         thread::sleep(rt, Duration::from_millis(pause));
     }
     Ok(())

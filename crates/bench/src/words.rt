@@ -26,7 +26,6 @@ pub struct Writes {
 pub enum Bench {
     Transfers,
     Edits,
-    Calls,
     Queries(ZoneSets),
     Workers(Plan),
     Messages(Writes),
@@ -89,7 +88,6 @@ pub fn read_words(alloc: Global, words: &[String]) -> Result<Bench, BenchError> 
     };
     match name.as_str() {
         "transfers" => Ok(Bench::Transfers),
-        "calls" => Ok(Bench::Calls),
         "edits" => Ok(Bench::Edits),
         "queries" => Ok(Bench::Queries(read_zones(alloc, others)?)),
         "workers" => Ok(Bench::Workers(read_plan(others)?)),

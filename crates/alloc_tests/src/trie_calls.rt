@@ -1,8 +1,8 @@
 //! Calls of tries of octets.
 
-use crate::bench_error::BenchError;
 use crate::sheet::Sheet;
 use crate::tried::{Tried, made_twice};
+use crate::try_error::TryError;
 use octet_trie::{OctetFound, OctetTrie};
 use std::alloc::{AllocError, Global};
 use trie_keys::Marked;
@@ -26,7 +26,7 @@ const VALUE: Marked<u32, bool> = Marked {
 };
 
 // Each entry of a trie, with its value.
-fn show_trie(sheet: &mut Sheet, trie: &Trie) -> Result<(), BenchError> {
+fn show_trie(sheet: &mut Sheet, trie: &Trie) -> Result<(), TryError> {
     for entry in &trie.entries()? {
         sheet.show(&entry.key);
         sheet.show(&entry.wild);
@@ -73,13 +73,13 @@ fn made(alloc: Global, call: &str, trie: &Trie) -> Result<Trie, AllocError> {
     }
 }
 
-fn show_made(sheet: &mut Sheet, made: Result<Trie, AllocError>) -> Result<(), BenchError> {
+fn show_made(sheet: &mut Sheet, made: Result<Trie, AllocError>) -> Result<(), TryError> {
     let trie = made?;
     show_trie(sheet, &trie)
 }
 
 impl Tried for OctetTrie<u32, bool> {
-    fn once(&mut self, alloc: Global, sheet: &mut Sheet, call: &str) -> Result<(), BenchError> {
+    fn once(&mut self, alloc: Global, sheet: &mut Sheet, call: &str) -> Result<(), TryError> {
         if call == "octet_trie::OctetTrie::entries" {
             return show_trie(sheet, self);
         }
@@ -88,7 +88,7 @@ impl Tried for OctetTrie<u32, bool> {
 }
 
 /// Does the call of this name twice, on keys of which two begin alike, and one stands below another.
-pub fn twice(alloc: Global, sheet: &mut Sheet, call: &str) -> Result<(), BenchError> {
+pub fn twice(alloc: Global, sheet: &mut Sheet, call: &str) -> Result<(), TryError> {
     let trie = Trie::empty(alloc);
     let trie = trie.inserted(b"\x07example\x03bad", false, VALUE)?;
     let trie = trie.inserted(b"\x07example\x03bad", true, VALUE)?;

@@ -1,6 +1,6 @@
 //! What comes of two calls, as text.
 
-use crate::bench_error::BenchError;
+use crate::try_error::TryError;
 use std::alloc::{AllocError, Global};
 use std::fmt::Debug;
 
@@ -39,13 +39,19 @@ impl Sheet {
     pub fn show_result<T: Debug + Drop, E: Drop>(
         &mut self,
         given: Result<T, E>,
-    ) -> Result<(), BenchError>
+    ) -> Result<(), TryError>
     where
-        BenchError: From<E>,
+        TryError: From<E>,
     {
         let value = given?;
         self.show(&value);
         Ok(())
+    }
+
+    /// Writes into the line which octets were written.
+    pub fn show_written(&mut self, octets: &[u8]) {
+        self.say("wrote ");
+        self.show(&octets);
     }
 
     /// Writes these words into the line.
@@ -56,9 +62,9 @@ impl Sheet {
     }
 
     // Puts the line at the end.
-    fn keep(&mut self) -> Result<(), BenchError> {
+    fn keep(&mut self) -> Result<(), TryError> {
         if self.is_cut {
-            return Err(BenchError::OutOfMemory);
+            return Err(TryError::OutOfMemory);
         }
         self.lines.push_str(self.line.as_str())?;
         self.lines.push('\n')?;
@@ -74,7 +80,7 @@ impl Sheet {
     }
 
     /// Ends the line of a call, which says no more than that where the call got no memory. Any other error ends the program.
-    pub fn settle(&mut self, done: Result<(), BenchError>) -> Result<(), BenchError> {
+    pub fn settle(&mut self, done: Result<(), TryError>) -> Result<(), TryError> {
         match done {
             Err(error) if !error.is_out_of_memory() => return Err(error),
             Err(_) => self.say_out_of_memory(),
@@ -85,14 +91,8 @@ impl Sheet {
     }
 
     /// Says in a line of its own that the call may change the value that it is called on.
-    pub fn changes(&mut self) -> Result<(), BenchError> {
+    pub fn changes(&mut self) -> Result<(), TryError> {
         self.say("changes");
-        self.keep()
-    }
-
-    /// Says in a line of its own that the first call ends the value, whether it gets memory or not.
-    pub fn ends(&mut self) -> Result<(), BenchError> {
-        self.say("ends");
         self.keep()
     }
 }

@@ -2,11 +2,10 @@
 //!
 //! The line says how it ended, `wrote` and the octets of the replies, each behind its length.
 
-use crate::bench_error::BenchError;
 use crate::samples::CLIENT_ADDR;
 use crate::sheet::Sheet;
-use crate::shown::show_written;
 use crate::worker_calls::ListWorker;
+use crate::try_error::TryError;
 use edge_io::{ListClock, ListSink, ListSource};
 use policy_publish::StoreName;
 use rpz_workers::NoOnward;
@@ -22,7 +21,7 @@ const QUERIES: &[u8] = b"\0\x1d\x12\x33\x01\0\0\x01\0\0\0\0\0\0\x03bad\x07exampl
 fn served<N: StoreName>(
     alloc: Global,
     worker: &mut ListWorker<N>,
-) -> Result<(StreamEnd, Vec<u8>), BenchError> {
+) -> Result<(StreamEnd, Vec<u8>), TryError> {
     let mut source = ListSource::new(QUERIES.to_vec(alloc)?, 8_192, Vec::new(alloc));
     let mut sink = ListSink::new(Vec::new(alloc), 5, Vec::new(alloc));
     let mut clock = ListClock::new(alloc, VecDeque::new(alloc));
@@ -40,9 +39,9 @@ pub fn serve<N: StoreName>(
     alloc: Global,
     sheet: &mut Sheet,
     worker: &mut ListWorker<N>,
-) -> Result<(), BenchError> {
+) -> Result<(), TryError> {
     let (end, octets) = served(alloc, worker)?;
     sheet.show(&end);
-    show_written(sheet, &octets);
+    sheet.show_written(&octets);
     Ok(())
 }

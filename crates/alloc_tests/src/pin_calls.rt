@@ -4,11 +4,10 @@
 //! Where the transfer got no memory it is published again, and a last pin answers. A pin that gets no memory, which a line says, is
 //! tried again.
 
-use crate::bench_error::BenchError;
-use crate::policy_sample::show_policy;
 use crate::publish_calls::publish;
-use crate::samples::steps;
+use crate::samples::{show_policy, steps};
 use crate::sheet::Sheet;
+use crate::try_error::TryError;
 use policy_publish::{PolicyReader, Publisher, StoreName};
 use policy_snapshot::Snapshot;
 use std::alloc::Global;
@@ -18,7 +17,7 @@ use std::sync::{Arc, Wait};
 fn pinned<N: StoreName>(
     sheet: &mut Sheet,
     reader: &mut PolicyReader<N>,
-) -> Result<Arc<Snapshot, Global>, BenchError> {
+) -> Result<Arc<Snapshot, Global>, TryError> {
     match reader.pin() {
         Ok(version) => Ok(version),
         Err(_) => {
@@ -35,7 +34,7 @@ fn answer(
     sheet: &mut Sheet,
     label: &str,
     version: &Snapshot,
-) -> Result<(), BenchError> {
+) -> Result<(), TryError> {
     sheet.say(label);
     if show_policy(alloc, sheet, version).is_err() {
         sheet.line.clear();
@@ -51,7 +50,7 @@ fn answer_now<N: StoreName>(
     sheet: &mut Sheet,
     label: &str,
     reader: &mut PolicyReader<N>,
-) -> Result<(), BenchError> {
+) -> Result<(), TryError> {
     let version = pinned(sheet, reader)?;
     answer(alloc, sheet, label, &version)
 }
@@ -63,12 +62,12 @@ fn step<N: StoreName, R: Wait>(
     sheet: &mut Sheet,
     label: &str,
     publisher: &mut Publisher<N>,
-) -> Result<bool, BenchError> {
+) -> Result<bool, TryError> {
     let transfer = steps(alloc)?;
     sheet.say(label);
     let is_published = match publish(rt, sheet, publisher, Ok(transfer)) {
         Ok(()) => true,
-        Err(BenchError::OutOfMemory) => {
+        Err(TryError::OutOfMemory) => {
             sheet.say("out of memory");
             false
         }
@@ -86,7 +85,7 @@ fn under_first<N: StoreName, R: Wait>(
     publisher: &mut Publisher<N>,
     reader: &mut PolicyReader<N>,
     first: &Snapshot,
-) -> Result<(), BenchError> {
+) -> Result<(), TryError> {
     answer(alloc, sheet, "first ", first)?;
     let is_published = step(rt, alloc, sheet, "publish ", publisher)?;
     answer_now(alloc, sheet, "fresh ", reader)?;
@@ -105,7 +104,7 @@ pub fn under_pins<N: StoreName, R: Wait>(
     sheet: &mut Sheet,
     publisher: &mut Publisher<N>,
     reader: &mut PolicyReader<N>,
-) -> Result<(), BenchError> {
+) -> Result<(), TryError> {
     let first = pinned(sheet, reader)?;
     under_first(rt, alloc, sheet, publisher, reader, &first)
 }

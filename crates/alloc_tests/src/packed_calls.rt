@@ -1,10 +1,9 @@
 //! Calls of lists that pack their rows or keys.
 
-use crate::bench_error::BenchError;
 use crate::sheet::Sheet;
 use crate::tried::{Tried, after, changed_twice, made_changed_twice};
-use packed_lists::{KeyList, Keyed, numbers_of};
-use packed_lists::RowList;
+use crate::try_error::TryError;
+use packed_lists::{KeyList, Keyed, RowList, numbers_of};
 use std::alloc::{AllocError, Global};
 
 /// The names of these calls.
@@ -29,19 +28,19 @@ fn show_keys(sheet: &mut Sheet, keys: Vec<Keyed<'_>>) {
 }
 
 // The keys of a list in order.
-fn sorted(alloc: Global, sheet: &mut Sheet, list: &KeyList) -> Result<(), BenchError> {
+fn sorted(alloc: Global, sheet: &mut Sheet, list: &KeyList) -> Result<(), TryError> {
     show_keys(sheet, list.sorted(alloc)?);
     Ok(())
 }
 
 // All of a list that a call has changed.
-fn show_kept(alloc: Global, sheet: &mut Sheet, list: &KeyList) -> Result<(), BenchError> {
+fn show_kept(alloc: Global, sheet: &mut Sheet, list: &KeyList) -> Result<(), TryError> {
     match list.sorted(alloc) {
         Ok(keys) => {
             show_keys(sheet, keys);
             Ok(())
         }
-        Err(AllocError) => Err(BenchError::NotShown),
+        Err(AllocError) => Err(TryError::NotShown),
     }
 }
 
@@ -51,7 +50,7 @@ fn numbers(alloc: Global, list: &KeyList) -> Result<Vec<u32>, AllocError> {
 }
 
 impl Tried for KeyList {
-    fn once(&mut self, alloc: Global, sheet: &mut Sheet, call: &str) -> Result<(), BenchError> {
+    fn once(&mut self, alloc: Global, sheet: &mut Sheet, call: &str) -> Result<(), TryError> {
         match call {
             "packed_lists::KeyList::sorted" => sorted(alloc, sheet, self),
             "packed_lists::numbers_of" => sheet.show_result(numbers(alloc, self)),
@@ -76,7 +75,7 @@ fn show_list(sheet: &mut Sheet, list: &RowList) {
     }
 }
 
-fn show_made(sheet: &mut Sheet, made: Result<RowList, AllocError>) -> Result<(), BenchError> {
+fn show_made(sheet: &mut Sheet, made: Result<RowList, AllocError>) -> Result<(), TryError> {
     show_list(sheet, &made?);
     Ok(())
 }
@@ -87,16 +86,16 @@ fn push(list: &mut RowList) -> Result<u32, AllocError> {
 }
 
 // Takes the first row out.
-fn remove_first(list: &mut RowList) -> Result<(), BenchError> {
+fn remove_first(list: &mut RowList) -> Result<(), TryError> {
     if list.len() == 0 {
-        return Err(BenchError::Empty);
+        return Err(TryError::Sample);
     }
     let number = list.nth(0).number;
     Ok(list.remove(number)?)
 }
 
 impl Tried for RowList {
-    fn once(&mut self, _alloc: Global, sheet: &mut Sheet, call: &str) -> Result<(), BenchError> {
+    fn once(&mut self, _alloc: Global, sheet: &mut Sheet, call: &str) -> Result<(), TryError> {
         match call {
             "packed_lists::RowList::share" => return show_made(sheet, self.share()),
             "packed_lists::RowList::rebuilt" => return show_made(sheet, self.rebuilt()),
@@ -148,7 +147,7 @@ fn count_of(call: &str) -> u32 {
 }
 
 /// Does the call of this name twice.
-pub fn twice(alloc: Global, sheet: &mut Sheet, call: &str) -> Result<(), BenchError> {
+pub fn twice(alloc: Global, sheet: &mut Sheet, call: &str) -> Result<(), TryError> {
     match call {
         "packed_lists::KeyList::push" => changed_twice(alloc, sheet, call, KeyList::new(alloc)),
         "packed_lists::KeyList::sorted" | "packed_lists::numbers_of" => {

@@ -1,8 +1,8 @@
 //! Calls of tries of prefixes.
 
-use crate::bench_error::BenchError;
 use crate::sheet::Sheet;
 use crate::tried::{Tried, made_twice};
+use crate::try_error::TryError;
 use ip_prefix::{Addr, Prefix};
 use prefix_index::PrefixTrie;
 use std::alloc::{AllocError, Global};
@@ -36,7 +36,7 @@ const BESIDE: Addr = Addr::V4(0xc000_0300);
 const LONG: Addr = Addr::V6(0x2001_0db8_0000_0000_0000_0000_0000_0000);
 
 // Each entry of a trie, with its value.
-fn show_trie(alloc: Global, sheet: &mut Sheet, trie: &Trie) -> Result<(), BenchError> {
+fn show_trie(alloc: Global, sheet: &mut Sheet, trie: &Trie) -> Result<(), TryError> {
     for entry in &trie.entries(alloc)? {
         sheet.show(&entry.0);
         sheet.show(&entry.1.value);
@@ -66,13 +66,13 @@ fn show_made(
     alloc: Global,
     sheet: &mut Sheet,
     made: Result<Trie, AllocError>,
-) -> Result<(), BenchError> {
+) -> Result<(), TryError> {
     let trie = made?;
     show_trie(alloc, sheet, &trie)
 }
 
 impl Tried for PrefixTrie<u32, bool> {
-    fn once(&mut self, alloc: Global, sheet: &mut Sheet, call: &str) -> Result<(), BenchError> {
+    fn once(&mut self, alloc: Global, sheet: &mut Sheet, call: &str) -> Result<(), TryError> {
         if call == "prefix_index::PrefixTrie::entries" {
             return show_trie(alloc, sheet, self);
         }
@@ -81,7 +81,7 @@ impl Tried for PrefixTrie<u32, bool> {
 }
 
 /// Does the call of this name twice.
-pub fn twice(alloc: Global, sheet: &mut Sheet, call: &str) -> Result<(), BenchError> {
+pub fn twice(alloc: Global, sheet: &mut Sheet, call: &str) -> Result<(), TryError> {
     let trie = Trie::empty(alloc);
     let trie = trie.inserted(&Prefix::of(NEAR, 24), VALUE)?;
     let trie = trie.inserted(&Prefix::of(INSIDE, 32), VALUE)?;

@@ -1,8 +1,8 @@
 //! Calls of lists whose copies share their blocks.
 
-use crate::bench_error::BenchError;
 use crate::sheet::Sheet;
 use crate::tried::{Tried, after, made_changed_twice};
+use crate::try_error::TryError;
 use packed_lists::{Held, Share, SharedList, SharedOctets, SharedTable};
 use std::alloc::{AllocError, Global};
 
@@ -46,7 +46,7 @@ fn show_table(sheet: &mut Sheet, table: &Table) {
 }
 
 impl Tried for SharedList<u32> {
-    fn once(&mut self, _alloc: Global, sheet: &mut Sheet, call: &str) -> Result<(), BenchError> {
+    fn once(&mut self, _alloc: Global, sheet: &mut Sheet, call: &str) -> Result<(), TryError> {
         if call == "packed_lists::SharedList::share" {
             show_numbers(sheet, &self.share()?);
             return Ok(());
@@ -58,7 +58,7 @@ impl Tried for SharedList<u32> {
 }
 
 // The place of the string that is put, and how many octets there are then.
-fn push_string(sheet: &mut Sheet, octets: &mut SharedOctets) -> Result<(), BenchError> {
+fn push_string(sheet: &mut Sheet, octets: &mut SharedOctets) -> Result<(), TryError> {
     let place = octets.push(STRING)?;
     sheet.show(&place);
     sheet.show(&octets.len());
@@ -67,7 +67,7 @@ fn push_string(sheet: &mut Sheet, octets: &mut SharedOctets) -> Result<(), Bench
 }
 
 impl Tried for SharedOctets {
-    fn once(&mut self, _alloc: Global, sheet: &mut Sheet, call: &str) -> Result<(), BenchError> {
+    fn once(&mut self, _alloc: Global, sheet: &mut Sheet, call: &str) -> Result<(), TryError> {
         if call == "packed_lists::SharedOctets::share" {
             let mut other = self.share()?;
             return push_string(sheet, &mut other);
@@ -77,9 +77,9 @@ impl Tried for SharedOctets {
 }
 
 // Adds one to the first number.
-fn set_first(alloc: Global, table: &mut Table) -> Result<(), BenchError> {
+fn set_first(alloc: Global, table: &mut Table) -> Result<(), TryError> {
     if table.len() == 0 {
-        return Err(BenchError::Empty);
+        return Err(TryError::Sample);
     }
     let next = table.get(0).get().wrapping_add(1);
     let held = Held::new(alloc, next)?;
@@ -92,7 +92,7 @@ fn push_held(alloc: Global, table: &mut Table, number: u32) -> Result<(), AllocE
 }
 
 impl Tried for SharedTable<Held<u32>> {
-    fn once(&mut self, alloc: Global, sheet: &mut Sheet, call: &str) -> Result<(), BenchError> {
+    fn once(&mut self, alloc: Global, sheet: &mut Sheet, call: &str) -> Result<(), TryError> {
         match call {
             "packed_lists::SharedTable::share" => {
                 show_table(sheet, &self.share()?);
@@ -162,7 +162,7 @@ fn count_of(call: &str, block: u32) -> u32 {
 }
 
 /// Does the call of this name twice.
-pub fn twice(alloc: Global, sheet: &mut Sheet, call: &str) -> Result<(), BenchError> {
+pub fn twice(alloc: Global, sheet: &mut Sheet, call: &str) -> Result<(), TryError> {
     match call {
         "packed_lists::SharedList::push"
         | "packed_lists::SharedList::push::full"

@@ -1,12 +1,11 @@
 //! Calls of a worker with a link, a cache and replies in memory.
 
-use crate::ask_calls::make_link;
-use crate::bench_error::BenchError;
 use crate::publish_calls::Deed;
-use crate::samples::{CLIENT_ADDR, DENIED_QUERY, QUERY};
+use crate::samples::{CLIENT_ADDR, DENIED_QUERY, QUERY, make_link};
 use crate::sheet::Sheet;
 use crate::stream_calls::serve;
 use crate::tried::{after, beside};
+use crate::try_error::TryError;
 use answer_cache::AnswerCache;
 use dns_message::KNOWN_KEY;
 use dns_name::Octets;
@@ -70,7 +69,7 @@ fn push_items<N: StoreName>(
     alloc: Global,
     is_denied: bool,
     items: &mut VecDeque<Item<N, ListSource, ListSink>>,
-) -> Result<(), BenchError> {
+) -> Result<(), TryError> {
     let job = make_job(alloc, is_denied)?;
     items.push_back(Item::Job(job))?;
     items.push_back(Item::Stop)?;
@@ -81,7 +80,7 @@ fn push_items<N: StoreName>(
 fn make_items<N: StoreName>(
     alloc: Global,
     is_denied: bool,
-) -> Result<ListItems<N, ListSource, ListSink>, BenchError> {
+) -> Result<ListItems<N, ListSource, ListSink>, TryError> {
     let mut items = VecDeque::new(alloc);
     let done = push_items(alloc, is_denied, &mut items);
     let items = after(items, done)?;
@@ -95,7 +94,7 @@ fn send<N: StoreName, R: Wait>(
     sheet: &mut Sheet,
     is_denied: bool,
     worker: &mut ListWorker<N>,
-) -> Result<(), BenchError> {
+) -> Result<(), TryError> {
     let mut items = make_items::<N>(alloc, is_denied)?;
     let mut replies: Kept = ListReplies::new(alloc, Vec::new(alloc));
     let mut clock = ListClock::new(alloc, VecDeque::new(alloc));
@@ -112,7 +111,7 @@ fn answer<N: StoreName>(
     sheet: &mut Sheet,
     is_denied: bool,
     worker: &mut ListWorker<N>,
-) -> Result<(), BenchError> {
+) -> Result<(), TryError> {
     let job = make_job(alloc, is_denied)?;
     sheet.show_result(worker.answer(&job, 0))
 }
@@ -123,12 +122,12 @@ fn once<N: StoreName, R: Wait>(
     sheet: &mut Sheet,
     deed: Deed,
     worker: &mut ListWorker<N>,
-) -> Result<(), BenchError> {
+) -> Result<(), TryError> {
     match deed {
         Deed::Answer { is_denied } => answer(alloc, sheet, is_denied, worker),
         Deed::Send { is_denied } => send(rt, alloc, sheet, is_denied, worker),
         Deed::Serve => serve(alloc, sheet, worker),
-        _ => Err(BenchError::Words),
+        _ => Err(TryError::Words),
     }
 }
 
@@ -138,7 +137,7 @@ fn both_times<N: StoreName, R: Wait>(
     sheet: &mut Sheet,
     deed: Deed,
     worker: &mut ListWorker<N>,
-) -> Result<(), BenchError> {
+) -> Result<(), TryError> {
     let first = once(rt, alloc, sheet, deed, worker);
     sheet.settle(first)?;
     let second = once(rt, alloc, sheet, deed, worker);
@@ -152,7 +151,7 @@ pub fn work_twice<N: StoreName, R: Wait>(
     sheet: &mut Sheet,
     deed: Deed,
     reader: PolicyReader<N>,
-) -> Result<(), BenchError> {
+) -> Result<(), TryError> {
     let mut worker = make_worker(alloc, reader)?;
     both_times(rt, alloc, sheet, deed, &mut worker)
 }

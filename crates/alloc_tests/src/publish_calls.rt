@@ -1,15 +1,12 @@
-//! Calls that publish versions of a policy, poll for them, and take them, and the store behind them.
+//! Calls that publish versions of a policy and take them, and the store behind them.
 
 ghost use Rattle.std.specs.Prelude.{◌≡◌};
 
-use crate::bench_error::BenchError;
-use crate::feed_calls::poll;
 use crate::pin_calls::under_pins;
-use crate::policy_sample::show_policy;
-use crate::samples::{DENIED, origin, steps, whole};
+use crate::samples::{DENIED, origin, show_policy, steps, whole};
 use crate::sheet::Sheet;
-use crate::transfer_calls::{STEPS, WHOLE};
 use crate::worker_calls::work_twice;
+use crate::try_error::TryError;
 use networks::AllowList;
 use policy_override::as_given;
 use policy_publish::{Parts, PolicyReader, Publisher, StoreName, start_store};
@@ -24,8 +21,6 @@ pub const NAMES: &str = "policy_publish::Parts::open\n\
     policy_publish::Publisher::publish::steps\n\
     policy_publish::PolicyReader::pin\n\
     policy_publish::PolicyReader::pin::told\n\
-    policy_feed::poll_zone::whole\n\
-    policy_feed::poll_zone::steps\n\
     transfer_under_pins\n";
 
 /// What is done over a store: a call twice, a transfer under pins, or what a worker does. A query is one that a rule denies, or one that
@@ -37,8 +32,6 @@ pub enum Deed {
     PublishSteps,
     Pin,
     PinTold,
-    PollWhole,
-    PollSteps,
     UnderPins,
     /// Whose reply is only looked at.
     Answer { is_denied: bool },
@@ -55,8 +48,6 @@ fn deed_of(call: &str) -> Deed {
         "policy_publish::Publisher::publish::steps" => Deed::PublishSteps,
         "policy_publish::PolicyReader::pin" => Deed::Pin,
         "policy_publish::PolicyReader::pin::told" => Deed::PinTold,
-        "policy_feed::poll_zone::whole" => Deed::PollWhole,
-        "policy_feed::poll_zone::steps" => Deed::PollSteps,
         "transfer_under_pins" => Deed::UnderPins,
         "rpz_workers::Worker::answer::rule" => Deed::Answer { is_denied: true },
         "rpz_workers::Worker::answer::upstream" => Deed::Answer { is_denied: false },
@@ -71,16 +62,16 @@ pub fn publish<N: StoreName, R: Wait>(
     rt: &R,
     sheet: &mut Sheet,
     publisher: &mut Publisher<N>,
-    transfer: Result<Transfer, BenchError>,
-) -> Result<(), BenchError> {
+    transfer: Result<Transfer, TryError>,
+) -> Result<(), TryError> {
     let transfer = transfer?;
     if !publisher.has_zone(1) {
-        return Err(BenchError::Empty);
+        return Err(TryError::Sample);
     }
     match publisher.publish(rt, 1, transfer) {
         Ok(published) => sheet.show(&published),
         Err(ApplyError::Fault(fault)) => sheet.show(&fault),
-        Err(ApplyError::OutOfMemory) => return Err(BenchError::OutOfMemory),
+        Err(ApplyError::OutOfMemory) => return Err(TryError::OutOfMemory),
     }
     Ok(())
 }
@@ -90,9 +81,9 @@ fn load<N: StoreName, R: Wait>(
     rt: &R,
     alloc: Global,
     publisher: &mut Publisher<N>,
-) -> Result<(), BenchError> {
+) -> Result<(), TryError> {
     if !publisher.has_zone(1) {
-        return Err(BenchError::Empty);
+        return Err(TryError::Sample);
     }
     let transfer = whole(alloc, 1, &[DENIED])?;
     let _published = publisher.publish(rt, 1, transfer)?;
@@ -103,7 +94,7 @@ fn pin<N: StoreName>(
     alloc: Global,
     sheet: &mut Sheet,
     reader: &mut PolicyReader<N>,
-) -> Result<(), BenchError> {
+) -> Result<(), TryError> {
     let version = reader.pin()?;
     show_policy(alloc, sheet, &version)
 }
@@ -115,7 +106,7 @@ fn once<N: StoreName, R: Wait>(
     deed: Deed,
     publisher: &mut Publisher<N>,
     reader: &mut PolicyReader<N>,
-) -> Result<(), BenchError> {
+) -> Result<(), TryError> {
     match deed {
         Deed::PublishWhole => publish(rt, sheet, publisher, whole(alloc, 1, &[DENIED])),
         Deed::PublishSteps => publish(rt, sheet, publisher, steps(alloc)),
@@ -124,9 +115,7 @@ fn once<N: StoreName, R: Wait>(
             pin(alloc, sheet, reader)
         }
         Deed::Pin => pin(alloc, sheet, reader),
-        Deed::PollWhole => poll(rt, alloc, sheet, publisher, WHOLE),
-        Deed::PollSteps => poll(rt, alloc, sheet, publisher, STEPS),
-        _ => Err(BenchError::Words),
+        _ => Err(TryError::Words),
     }
 }
 
@@ -137,8 +126,8 @@ fn of_reader<N: StoreName, R: Wait>(
     deed: Deed,
     publisher: &mut Publisher<N>,
     reader: &mut PolicyReader<N>,
-) -> Result<(), BenchError> {
-    if !matches!(deed, Deed::PublishWhole | Deed::PollWhole) {
+) -> Result<(), TryError> {
+    if !matches!(deed, Deed::PublishWhole) {
         load(rt, alloc, publisher)?;
     }
     if matches!(deed, Deed::UnderPins) {
@@ -158,7 +147,7 @@ fn of_store<N: StoreName, R: Wait>(
     deed: Deed,
     publisher: &mut Publisher<N>,
     readers: &mut Vec<PolicyReader<N>>,
-) -> Result<(), BenchError> {
+) -> Result<(), TryError> {
     match deed {
         Deed::Open => {
             sheet.show(&publisher.zone_count());
@@ -169,12 +158,12 @@ fn of_store<N: StoreName, R: Wait>(
             load(rt, alloc, publisher)?;
             match readers.pop() {
                 Some(reader) => work_twice(rt, alloc, sheet, deed, reader),
-                None => Err(BenchError::Empty),
+                None => Err(TryError::Sample),
             }
         }
         _ => match readers.first_mut() {
             Some(reader) => of_reader(rt, alloc, sheet, deed, publisher, reader),
-            None => Err(BenchError::Empty),
+            None => Err(TryError::Sample),
         },
     }
 }
@@ -185,7 +174,7 @@ fn over_store<N: StoreName, R: Wait>(
     sheet: &mut Sheet,
     deed: Deed,
     parts: Parts,
-) -> Result<(), BenchError>
+) -> Result<(), TryError>
     requires { parts ≡ N.store }
 {
     let (mut publisher, mut readers) = parts.open::<N, R>(rt, alloc)?;
@@ -201,7 +190,7 @@ fn with_store<R: Wait>(
     alloc: Global,
     sheet: &mut Sheet,
     deed: Deed,
-) -> Result<(), BenchError> {
+) -> Result<(), TryError> {
     let origin = origin(alloc)?;
     let origins = vec![in alloc; origin]?;
     let parts = start_store(as_given(alloc, origins)?, AllowList::everyone(alloc), 1);
@@ -214,7 +203,7 @@ pub fn twice<R: Wait>(
     alloc: Global,
     sheet: &mut Sheet,
     call: &str,
-) -> Result<(), BenchError> {
+) -> Result<(), TryError> {
     let deed = deed_of(call);
     if !matches!(deed, Deed::Open) {
         return with_store(rt, alloc, sheet, deed);

@@ -4,19 +4,17 @@
 
 ghost use Rattle.std.specs.Prelude.{None};
 
-use crate::ask_calls::make_link;
-use crate::bench_error::BenchError;
-use crate::run_calls::{end_over, words_of};
-use crate::samples::{CLIENT_ADDR, DENIED_QUERY, QUERY};
+use crate::samples::{CLIENT_ADDR, DENIED_QUERY, QUERY, make_link};
 use crate::sheet::Sheet;
-use crate::shown::show_written;
-use crate::transfer_calls::WHOLE;
 use crate::tried::{after, beside};
+use crate::try_error::TryError;
 use crossbeam_channel::{Receiver, Sender, bounded};
 use dns_name::Octets;
-use edge_io::{ListLink, ListSink, ListSource};
+use edge_io::{ListClock, ListIds, ListLink, ListSink, ListSource, TaskSpawner};
 use ip_prefix::Transport;
+use rpz_program::run::run;
 use rpz_program::status::Status;
+use rpz_workers::Report;
 use server_io::{Arrival, ListWires, Order, Peer, Replies, SendError, StreamEnd, Wake, WireStage};
 use std::alloc::{AllocError, Global};
 use std::collections::VecDeque;
@@ -38,6 +36,12 @@ const WORKERS: u32 = 4;
 
 // So many replies there is room for.
 const ROOM: usize = 16;
+
+// The transfer of `rpz.example` in one message of the ID 0: the serial 1, and the row `bad.example` CNAME `.`.
+const WHOLE: &[u8] = b"\0\0\x84\0\0\x01\0\x03\0\0\0\0\x03rpz\x07example\0\0\xfc\0\x01\
+    \x03rpz\x07example\0\0\x06\0\x01\0\0\0<\0\x16\0\0\0\0\0\x01\0\0\x0e\x10\0\0\x02X\0\x01Q\x80\0\0\0<\
+    \x03bad\x07example\x03rpz\x07example\0\0\x05\0\x01\0\0\0<\0\x01\0\
+    \x03rpz\x07example\0\0\x06\0\x01\0\0\0<\0\x16\0\0\0\0\0\x01\0\0\x0e\x10\0\0\x02X\0\x01Q\x80\0\0\0<";
 
 // The IDs of the two queries.
 const IDS: [u16; 2] = [0x1233, 0x1235];
@@ -110,7 +114,7 @@ fn push_both(stages: &mut VecDeque<Stage>, one: Stage, other: Stage) -> Result<(
 // The transfer comes first, and then the queries.
 fn make_stages(alloc: Global) -> Result<VecDeque<Stage>, AllocError> {
     let order = Order { number: 0 };
-    let bytes = Octets::from_slice(alloc, &WHOLE[2..])?;
+    let bytes = Octets::from_slice(alloc, WHOLE)?;
     let transfer = WireStage::new(alloc, Some(Wake::Frame { order, bytes }));
     let (transfer, queries) = beside(transfer, make_queries(alloc))?;
     let mut stages = VecDeque::new(alloc);
@@ -166,6 +170,20 @@ fn make_wires<R: Wait + Copy + Drop + Send + 'static>(
     ListWires::new(*rt, alloc, stages, links, backs, none, Vec::new(alloc))
 }
 
+fn push_words(alloc: Global, words: &mut Vec<String>) -> Result<(), AllocError> {
+    for word in LINE.split(' ') {
+        words.push(String::from_str(alloc, word)?)?;
+    }
+    Ok(())
+}
+
+// The words of the line.
+fn line_words(alloc: Global) -> Result<Vec<String>, AllocError> {
+    let mut words = Vec::new(alloc);
+    let done = push_words(alloc, &mut words);
+    after(words, done)
+}
+
 // How the server ends, and what is written, 16 octets a call.
 fn served<R: Threads + Wait + Clock + Copy + Drop + Send + Sync + 'static>(
     rt: &R,
@@ -177,7 +195,21 @@ fn served<R: Threads + Wait + Clock + Copy + Drop + Send + Sync + 'static>(
     let mut wires = make_wires(rt, alloc, sender)?;
     let mut script = ListSource::new(Vec::new(alloc), 1, Vec::new(alloc));
     let mut out = ListSink::new(Vec::new(alloc), 16, Vec::new(alloc));
-    let status = end_over(rt, alloc, words, hashers, &mut wires, &mut script, &mut out);
+    let mut spawner: TaskSpawner<Report, R> = TaskSpawner::new(*rt, alloc, true, Vec::new(alloc));
+    let mut clock = ListClock::new(alloc, VecDeque::new(alloc));
+    let mut ids = ListIds::new(alloc, VecDeque::new(alloc));
+    let status = run(
+        rt,
+        alloc,
+        words,
+        &mut script,
+        &mut out,
+        &mut wires,
+        &mut spawner,
+        &mut clock,
+        &mut ids,
+        hashers,
+    );
     Ok((status, out.bytes))
 }
 
@@ -220,13 +252,13 @@ fn serve<R: Threads + Wait + Clock + Copy + Drop + Send + Sync + 'static>(
     sheet: &mut Sheet,
     words: &[String],
     hashers: RandomState,
-) -> Result<(), BenchError> {
+) -> Result<(), TryError> {
     let channel = bounded(alloc, ROOM)?;
     let ((sender, receiver), mut replies) = beside(channel, Vec::with_capacity(alloc, ROOM))?;
     let (status, octets) = served(rt, alloc, words, hashers, &sender)?;
     take_all(rt, &receiver, &mut replies);
     sheet.show(&status);
-    show_written(sheet, &octets);
+    sheet.show_written(&octets);
     show_replies(sheet, &replies);
     Ok(())
 }
@@ -236,8 +268,8 @@ pub fn twice<R: Threads + Wait + Clock + RandomSource + Copy + Drop + Send + Syn
     rt: &R,
     alloc: Global,
     sheet: &mut Sheet,
-) -> Result<(), BenchError> {
-    let words = words_of(alloc, LINE)?;
+) -> Result<(), TryError> {
+    let words = line_words(alloc)?;
     let hashers = RandomState::new(rt)?;
     let first = serve(rt, alloc, sheet, &words, hashers);
     sheet.settle(first)?;
