@@ -146,12 +146,7 @@ pub fn make_link(alloc: Global, count: u32) -> Result<ListLink, AllocError> {
 }
 
 // What the rule of the trigger does that this row of the zone is about.
-fn show_rule(
-    alloc: Global,
-    sheet: &mut Sheet,
-    zone: &Zone,
-    octets: &[u8],
-) -> Result<(), TryError> {
+fn show_rule(alloc: Global, sheet: &mut Sheet, zone: &Zone, octets: &[u8]) -> Result<(), TryError> {
     let row = row(alloc, octets)?;
     let (row, origin) = beside(row, origin(alloc))?;
     let trigger = trigger_of(alloc, row.owner(), &origin)?;

@@ -4,8 +4,8 @@
 
 use crate::samples::CLIENT_ADDR;
 use crate::sheet::Sheet;
-use crate::worker_calls::ListWorker;
 use crate::try_error::TryError;
+use crate::worker_calls::ListWorker;
 use edge_io::{ListClock, ListSink, ListSource};
 use policy_publish::StoreName;
 use rpz_workers::NoOnward;

@@ -12,9 +12,9 @@
 use crate::bench_error::BenchError;
 use crate::stream::read_stream;
 use crate::tried::beside;
-use networks::AllowList;
 use dns_name::Octets;
 use edge_io::{FRAME_MAX, Sink, Source, WriterSink, read_frame, write_all};
+use networks::AllowList;
 use policy_override::ZoneSets;
 use rpz_core::{Core, Event, Output};
 use script_codec::{Line, ScriptState, read_unnumbered};

@@ -8,11 +8,11 @@
 ghost use Rattle.std.specs.Prelude.{◌≡◌};
 
 use crate::bench_error::BenchError;
-use networks::AllowList;
 use axfr_apply::{Taken, TransferError, TransferFault, Wanted};
 use dns_name::Name;
 use edge_io::Source;
 use ixfr_apply::read_transfer;
+use networks::AllowList;
 use policy_override::as_given;
 use policy_publish::{Parts, Publication, Publisher, StoreName, start_store};
 use std::alloc::Global;

@@ -1,8 +1,8 @@
 //! Lines of a script with their number.
 
 use crate::asserts::assert_same;
-use networks::AllowList;
 use dns_name::Name;
+use networks::AllowList;
 use policy_override::{Override, ZoneSet, ZoneSets};
 use script_codec::{Line, ScriptState, read_line};
 

@@ -1,11 +1,11 @@
 //! Texts of addresses, beside the library's reader and the examples of RFC 5952, and of networks.
 
 use crate::asserts::assert_same;
-use networks::{
-    AddressText, NetworkTextFault, is_mapped, read_address, read_network, read_v4, read_v6,
-};
-use networks::{AllowList, Network, NetworkFault};
 use ip_prefix::Addr;
+use networks::{
+    AddressText, AllowList, Network, NetworkFault, NetworkTextFault, is_mapped, read_address,
+    read_network, read_v4, read_v6,
+};
 use std::alloc::{AllocError, Global};
 use std::net::Ipv6Addr;
 use std::process::Abort;

@@ -1,6 +1,6 @@
 //! What the threads of wires share.
 
-use crate::notifiers::{NotifyOrigin, Notifiers};
+use crate::notifiers::{Notifiers, NotifyOrigin};
 use crate::wake_signal::WakeSignal;
 use ip_prefix::Addr;
 use std::alloc::{AllocError, Global};

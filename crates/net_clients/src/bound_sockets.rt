@@ -9,7 +9,10 @@ use libc::net as c;
 use mio::unix::SourceFd;
 use mio::{Interest, Poll, Token, Waker};
 use net_base::limits::BACKLOG;
-use net_base::{address_of, ask_receive_buffer, ask_send_buffer, prepare_listener, status, take_again, take_only_version_6};
+use net_base::{
+    address_of, ask_receive_buffer, ask_send_buffer, prepare_listener, status, take_again,
+    take_only_version_6,
+};
 use os::FromRawFd;
 use server_io::WireError;
 use std::alloc::Global;

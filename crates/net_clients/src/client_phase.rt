@@ -1,6 +1,8 @@
 //! What a connection of a client waits for.
 
-use crate::limits::{ANSWER_SECONDS, IDLE_SECONDS, LINGER_SECONDS, MESSAGE_SECONDS, OUTBOX_SECONDS, SILENT_MESSAGES};
+use crate::limits::{
+    ANSWER_SECONDS, IDLE_SECONDS, LINGER_SECONDS, MESSAGE_SECONDS, OUTBOX_SECONDS, SILENT_MESSAGES,
+};
 use std::time::{Duration, Instant};
 
 /// What a connection of a client waits for.

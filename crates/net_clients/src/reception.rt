@@ -3,7 +3,10 @@
 use crate::client_connection::Next;
 use crate::connection_changes::ConnectionPlace;
 use crate::connection_table::ConnectionTable;
-use crate::limits::{LATE_MILLISECONDS, OUTBOX_BYTES_ALL, PASSING_ERRORS, SHORTAGE_MILLISECONDS, STOP_MILLISECONDS, TURN_MESSAGES};
+use crate::limits::{
+    LATE_MILLISECONDS, OUTBOX_BYTES_ALL, PASSING_ERRORS, SHORTAGE_MILLISECONDS, STOP_MILLISECONDS,
+    TURN_MESSAGES,
+};
 use crate::listeners::Listeners;
 use crate::service_state::ServiceState;
 use crate::shared_connection::SharedConnection;

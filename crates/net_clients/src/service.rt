@@ -170,11 +170,7 @@ impl<R: time::Clock + Wait + Copy + Drop> Service<R> {
     }
 
     /// An inlet for connections.
-    pub fn connections(
-        &self,
-        rt: R,
-        alloc: Global,
-    ) -> Result<ConnectionInlet<R>, AllocError> {
+    pub fn connections(&self, rt: R, alloc: Global) -> Result<ConnectionInlet<R>, AllocError> {
         let state = Arc::try_clone(&self.state)?;
         let queue = self.queue.clone()?;
         let notices = self.notice_sender()?;

@@ -3,8 +3,8 @@
 use crate::asserts::assert_same;
 use crate::loopback::{Host, at};
 use edge_io::{Deadline, Link};
-use net_upstream::limits::{UPSTREAM_CONNECTIONS, UPSTREAM_LATE_MILLISECONDS};
 use net_base::address_of;
+use net_upstream::limits::{UPSTREAM_CONNECTIONS, UPSTREAM_LATE_MILLISECONDS};
 use net_wires::NetWires;
 use server_io::Wires;
 use std::alloc::Global;

@@ -1,7 +1,10 @@
 //! A thread that asks the upstream.
 
 use crate::answer_place::{Answer, AnswerPlace};
-use crate::limits::{UPSTREAM_CONNECT_MILLISECONDS, UPSTREAM_CONNECT_TRIES, UPSTREAM_CROWDED_MILLISECONDS, UPSTREAM_FAILURE_MILLISECONDS, UPSTREAM_TRIES};
+use crate::limits::{
+    UPSTREAM_CONNECT_MILLISECONDS, UPSTREAM_CONNECT_TRIES, UPSTREAM_CROWDED_MILLISECONDS,
+    UPSTREAM_FAILURE_MILLISECONDS, UPSTREAM_TRIES,
+};
 use crate::upstream_connection::UpstreamConnection;
 use crate::upstream_connections::{Asked, Choice, OpeningPlace};
 use crate::upstream_pool::UpstreamPool;

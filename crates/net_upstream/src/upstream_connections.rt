@@ -1,7 +1,9 @@
 //! The connections of an upstream pool.
 
 use crate::answer_place::AnswerPlace;
-use crate::limits::{UPSTREAM_ALL_CONNECTIONS, UPSTREAM_CONNECTIONS, UPSTREAM_FEW_QUESTIONS, UPSTREAM_REST_SECONDS};
+use crate::limits::{
+    UPSTREAM_ALL_CONNECTIONS, UPSTREAM_CONNECTIONS, UPSTREAM_FEW_QUESTIONS, UPSTREAM_REST_SECONDS,
+};
 use crate::upstream_connection::UpstreamConnection;
 use crate::upstream_manner::UpstreamManner;
 use crate::upstream_questions::{Closing, Load};

@@ -1,7 +1,10 @@
 //! The questions of a connection to the upstream.
 
 use crate::answer_place::{Answer, AnswerPlace};
-use crate::limits::{UPSTREAM_ABANDONED, UPSTREAM_CUT_MILLISECONDS, UPSTREAM_IDLE_SECONDS, UPSTREAM_LATE_MILLISECONDS, UPSTREAM_QUESTIONS, UPSTREAM_SILENCE_SECONDS};
+use crate::limits::{
+    UPSTREAM_ABANDONED, UPSTREAM_CUT_MILLISECONDS, UPSTREAM_IDLE_SECONDS,
+    UPSTREAM_LATE_MILLISECONDS, UPSTREAM_QUESTIONS, UPSTREAM_SILENCE_SECONDS,
+};
 use crate::upstream_window::UpstreamWindow;
 use crate::wire_numbers::WireNumbers;
 use std::alloc::{AllocError, Global};

@@ -46,7 +46,6 @@ impl<R: time::Clock + Wait + Threads + Copy + Drop + Send + 'static> Upstreams<R
 impl<
     R: Net<Listener = TcpListener, Stream = TcpStream> + time::Clock + Wait + Copy + Drop,
 > Upstreams<R> {
-
     // The pool of an upstream, which is made where there is none.
     fn pool(&mut self, upstream: Endpoint) -> Result<Arc<UpstreamPool>, AllocError> {
         if let Some(pool) = self.pools.iter().find(|pool| pool.upstream == upstream) {

@@ -11,7 +11,9 @@ use crate::wire_job::WireJob;
 use edge_io::{ConnectionLimits, Endpoint};
 use ip_prefix::Transport;
 use net_base::{ThreadStarter, WireState, take_free_numbers, thread_starter};
-use net_clients::{ClientSink, ClientSource, ConnectionInlet, DatagramInlet, ServerReplies, Service};
+use net_clients::{
+    ClientSink, ClientSource, ConnectionInlet, DatagramInlet, ServerReplies, Service,
+};
 use net_upstream::{TcpLink, Upstreams};
 use server_io::{Order, Peer, SendError, Wake, WireError, Wires};
 use std::alloc::Global;

@@ -7,9 +7,9 @@ ghost use Rattle.networks.specs.NetworkText.{text_address, length_of, network_te
 
 use crate::decimal::read_decimal;
 use crate::dotted::read_v4;
+use crate::network::{Network, NetworkFault};
 use crate::split::{has_byte, split_first};
 use crate::v6::read_v6;
-use crate::network::{Network, NetworkFault};
 use ip_prefix::Addr;
 
 /// Why a text writes no network. Where several things are wrong, the fault is the first of this list.

@@ -9,9 +9,9 @@ ghost use Rattle.packed_lists.specs.Blocks.{no_rows, put_row, with_row, without_
 use crate::block::Block;
 use crate::block_numbers::BlockNumbers;
 use crate::blocks::{block_at, put_block};
-use crate::stored_row::StoredRow;
 use crate::held::Held;
 use crate::share::Share;
+use crate::stored_row::StoredRow;
 use crate::table::SharedTable;
 use std::alloc::{AllocError, Global};
 use std::marker::Model;

@@ -4,10 +4,10 @@ ghost use Rattle.std.specs.Prelude.{◌≡◌, []};
 ghost use Rattle.policy_feed.specs.Reading.{HearsMessage};
 
 use axfr_apply::{Taken, TransferError};
+use ghost_values::TakenMessages;
 use ixfr_apply::{Fed, TransferReader};
 use server_io::Order;
 use std::marker::Model;
-use ghost_values::TakenMessages;
 
 /// A transfer that was ordered and has not ended. Contracts see its order, what was asked for, and the messages that came of it; of these
 /// it keeps what they say of the zone.

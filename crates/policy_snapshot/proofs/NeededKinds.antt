@@ -26,9 +26,10 @@ use Rattle.zone_index.specs.Listed.{rules_by_kind, with_triggers, zone_rules}
 use Rattle.zone_index.specs.Rules.{rules_of}
 use Rattle.rpz_precedence.specs.Best.{PlainHit}
 use Rattle.rpz_precedence.specs.Rank.{kind_number}
+use Rattle.trigger_codec.specs.Kind.{kind_place}
 use Rattle.upstream_link.specs.Facts.{PlainFacts}
 use Rattle.upstream_link.specs.Question.{main_question}
-use Rattle.policy_snapshot.specs.Lookup.{has_kind_in, kind_could_decide, kind_could_rule, place_of_kind, zones_need}
+use Rattle.policy_snapshot.specs.Lookup.{has_kind_in, kind_could_decide, kind_could_rule, zones_need}
 use Rattle.policy_snapshot.specs.Next.{needs_answer, needs_servers, needs_addresses, could_decide, is_needed, first_unknown, server_questions, unknown_address, if_needed, or_question, pending}
 use Rattle.policy_override.specs.declared.overrides.Override.{Override}
 use Rattle.policy_override.specs.Override.{is_ruling}
@@ -75,7 +76,7 @@ module _ {X : Type 0} (p : X → Bool) where
 -- ---- the rules of a kind in an index
 
 abbrev is_of_kind : Kind → Trigger → Bool
-is_of_kind kind t = kind_number t == place_of_kind kind
+is_of_kind kind t = kind_number t == kind_place kind
 
 module _ {K : Type 0} (p : Trigger × Action → Bool) (trigger : K → Trigger) where
   any_own : (es : List (K × Action)) → ((e : K × Action) → p (trigger e.0, e.1) ≡ true) → list_any p (with_triggers trigger es) ≡ has_some es
@@ -159,11 +160,11 @@ and_if false c d e = refl
 
 module _ (law : IndexLaw) (kind : Kind) where
   -- whether a rule of the kind could decide depends on its zone alone
-  could_by_kind : (hit : Option PlainHit) (number : ℕ) (soa : PlainRecord) (r : Trigger × Action) → kind_number r.0 ≡ place_of_kind kind → could_decide hit (rule_with number soa r) ≡ kind_could_decide kind number hit
+  could_by_kind : (hit : Option PlainHit) (number : ℕ) (soa : PlainRecord) (r : Trigger × Action) → kind_number r.0 ≡ kind_place kind → could_decide hit (rule_with number soa r) ≡ kind_could_decide kind number hit
   could_by_kind None number soa r e = refl
   could_by_kind (Some hit) number soa r e =
       ap (λ (n : ℕ). not (is_gt (ordering_then (nat_cmp number hit.rank.zone) (nat_cmp n (kind_number hit.rank.trigger))))) e
-      ∙ not_after number hit.rank.zone (place_of_kind kind) (kind_number hit.rank.trigger)
+      ∙ not_after number hit.rank.zone (kind_place kind) (kind_number hit.rank.trigger)
 
   abbrev test : Option PlainHit → PlainRule → Bool
   test hit rule = is_of_kind kind rule.trigger && could_decide hit rule
@@ -178,7 +179,7 @@ module _ (law : IndexLaw) (kind : Kind) where
       let could = kind_could_decide kind number hit in
       any_mapped (test hit) (rule_with number soa) own
       ∙ any_same (λ r. test hit (rule_with number soa r)) (λ r. is_of_kind kind r.0 && could) own
-      (λ r at. and_if (is_of_kind kind r.0) (could_decide hit (rule_with number soa r)) could (λ t. could_by_kind hit number soa r (eqb-true (kind_number r.0) (place_of_kind kind) t)))
+      (λ r at. and_if (is_of_kind kind r.0) (could_decide hit (rule_with number soa r)) could (λ t. could_by_kind hit number soa r (eqb-true (kind_number r.0) (kind_place kind) t)))
       ∙ any_both (own_test index kind) could own
       ∙ ap (λ (b : Bool). b && could) (any_members (own_test index kind) own (rules_by_kind index) (law.listed origin content.rows rows) ∙ kind_listed index kind)
 

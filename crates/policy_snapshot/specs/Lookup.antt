@@ -7,7 +7,7 @@ use Rattle.dns_record.specs.Soa.{soa_record}
 use Rattle.zone_rows.specs.declared.zone.Content.{Content}
 use Rattle.zone_rows.specs.declared.zone.PlainZone.{PlainZone}
 use Rattle.trigger_codec.specs.declared.trigger.Kind.{Kind}
-use Rattle.trigger_codec.specs.declared.trigger.Kind.TheVariants as kinds
+use Rattle.trigger_codec.specs.Kind.{kind_place}
 use Rattle.trigger_codec.specs.declared.trigger.Trigger.{Trigger}
 use Rattle.trigger_codec.specs.declared.trigger.Trigger.TheVariants.{ClientIp, Qname, ResponseIp, NsDname, NsIp}
 use Rattle.action_codec.specs.declared.action.Action.{Action}
@@ -108,20 +108,12 @@ zones_hit overrides number sight [] = None
 zones_hit overrides number sight (zone ∷ zones) =
     or_hit (ruled_hit overrides number sight zone) (zones_hit overrides (number + 1) sight zones)
 
--- the kinds in order of precedence
-abbrev pub place_of_kind : Kind → ℕ
-place_of_kind kinds.ClientIp = 0
-place_of_kind kinds.Qname = 1
-place_of_kind kinds.ResponseIp = 2
-place_of_kind kinds.NsDname = 3
-place_of_kind kinds.NsIp = 4
-
 -- a rule of this kind in the zone of this number doesn't come after the hit by zone and kind
 abbrev pub kind_could_decide : Kind → ℕ → Option PlainHit → Bool
 kind_could_decide kind number None = true
 kind_could_decide kind number (Some hit) =
     nat_lt number hit.rank.zone
-    || (number == hit.rank.zone && nat_le (place_of_kind kind) (kind_number hit.rank.trigger))
+    || (number == hit.rank.zone && nat_le (kind_place kind) (kind_number hit.rank.trigger))
 
 -- the zone has rules of this kind
 abbrev pub has_kind_in : Kind → Name → Option Content → Bool

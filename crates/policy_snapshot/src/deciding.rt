@@ -29,11 +29,11 @@ use dns_name::Name;
 use dns_name::laws::case_does_not_matter;
 use ip_prefix::Addr;
 use qname_index::LookupName;
+use rpz_precedence::Hit;
 use rpz_precedence::laws::{
     an_index_is_in_order_of_precedence, the_best_hit_is_the_one_that_nothing_precedes,
     the_order_of_ranks_is_total,
 };
-use rpz_precedence::{Hit, kind_place};
 use std::alloc::{AllocError, Global};
 use trigger_codec::Kind;
 use upstream_link::{Facts, ServerLists, known_servers, main_question, server_addresses};
@@ -310,20 +310,7 @@ fn could_decide(kind: Kind, number: u32, hit: &Option<Hit<'_>>) -> bool
     match hit {
         None => true,
         Some(hit) => {
-            number < hit.zone || number == hit.zone && place_of(kind) <= kind_place(&hit.trigger)
+            number < hit.zone || number == hit.zone && kind.place() <= hit.trigger.kind().place()
         }
-    }
-}
-
-// The place of the kind in the order of kinds.
-fn place_of(kind: Kind) -> u8
-    ensures { result ≡ form.place_of_kind kind }
-{
-    match kind {
-        Kind::ClientIp => 0,
-        Kind::Qname => 1,
-        Kind::ResponseIp => 2,
-        Kind::NsDname => 3,
-        Kind::NsIp => 4,
     }
 }

@@ -8,6 +8,7 @@ use Rattle.dns_name.specs.Alike.{PlainPattern}
 use Rattle.dns_name.specs.Order.{canonical_order}
 use Rattle.ip_prefix.specs.Prefix.{prefix_order}
 use Rattle.qname_index.specs.Best.{pattern_order}
+use Rattle.trigger_codec.specs.Kind.{kind_of, kind_place}
 use Rattle.trigger_codec.specs.declared.trigger.Trigger.{Trigger}
 use Rattle.trigger_codec.specs.declared.trigger.Trigger.TheVariants.{ClientIp, Qname, ResponseIp, NsDname, NsIp}
 
@@ -18,13 +19,9 @@ pub record PlainRank : Type 0 where
   pub zone : ℕ
   pub trigger : Trigger
 
--- the kinds of triggers in order of precedence
+-- the place of a trigger's kind in order of precedence
 abbrev pub kind_number : Trigger → ℕ
-kind_number (ClientIp prefix) = 0
-kind_number (Qname pattern) = 1
-kind_number (ResponseIp prefix) = 2
-kind_number (NsDname pattern) = 3
-kind_number (NsIp prefix) = 4
+kind_number trigger = kind_place (kind_of trigger)
 
 -- Patterns of names of servers, of which several may be hit by several servers: the base of more labels first, exact
 -- before wild, then by the canonical order of bases.

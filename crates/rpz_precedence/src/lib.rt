@@ -8,5 +8,5 @@ mod order;
 pub mod trigger_ref;
 
 pub use hit::Hit;
-pub use order::{before, kind_place};
+pub use order::before;
 pub use trigger_ref::TriggerRef;

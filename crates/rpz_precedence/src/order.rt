@@ -1,7 +1,7 @@
 //! The order of ranks. It takes no memory.
 
 ghost use Rattle.std.specs.Prelude.{◌≡◌};
-ghost use Rattle.rpz_precedence.specs.Rank.{kind_number, place_order, precedes, rank_order, server_order, trigger_order};
+ghost use Rattle.rpz_precedence.specs.Rank.{place_order, precedes, rank_order, server_order, trigger_order};
 ghost use Rattle.rpz_precedence.specs.Seen.{hit_seen, trigger_seen};
 
 use crate::hit::Hit;
@@ -36,22 +36,9 @@ fn compare_ranks(a: &Hit, b: &Hit) -> Ordering
 fn compare_triggers(a: &TriggerRef, b: &TriggerRef) -> Ordering
     ensures { result ≡ trigger_order (trigger_seen a.now) (trigger_seen b.now) }
 {
-    match kind_place(a).cmp(&kind_place(b)) {
+    match a.kind().place().cmp(&b.kind().place()) {
         Ordering::Equal => compare_places(a, b),
         order => order,
-    }
-}
-
-/// The place of the trigger's kind in the order of kinds: client-ip is 0, qname 1, response-ip 2, nsdname 3 and nsip 4.
-pub fn kind_place(trigger: &TriggerRef) -> u8
-    ensures { result ≡ kind_number (trigger_seen trigger.now) }
-{
-    match trigger {
-        TriggerRef::ClientIp(_) => 0,
-        TriggerRef::Qname(_) => 1,
-        TriggerRef::ResponseIp(_) => 2,
-        TriggerRef::NsDname(_) => 3,
-        TriggerRef::NsIp(_) => 4,
     }
 }
 

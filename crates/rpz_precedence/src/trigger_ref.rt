@@ -1,7 +1,11 @@
 //! The trigger of a rule.
 
+ghost use Rattle.std.specs.Prelude.{◌≡◌};
+ghost use Rattle.trigger_codec.specs.Kind.{kind_of};
+
 use ip_prefix::Prefix;
 use qname_index::PatternRef;
+use trigger_codec::Kind;
 
 /// The trigger of a rule, where a pattern is lent by the index that has it.
 #[derive(Drop)]
@@ -16,4 +20,21 @@ pub enum TriggerRef<'a> {
     NsDname(PatternRef<'a>),
     /// The address of a name server is in the prefix.
     NsIp(Prefix),
+}
+
+impl<'a> TriggerRef<'a> {
+    ghost use Rattle.rpz_precedence.specs.Seen.{trigger_seen};
+
+    /// The kind of the trigger.
+    pub fn kind(&self) -> Kind
+        ensures { result ≡ kind_of (trigger_seen self.now) }
+    {
+        match self {
+            TriggerRef::ClientIp(_) => Kind::ClientIp,
+            TriggerRef::Qname(_) => Kind::Qname,
+            TriggerRef::ResponseIp(_) => Kind::ResponseIp,
+            TriggerRef::NsDname(_) => Kind::NsDname,
+            TriggerRef::NsIp(_) => Kind::NsIp,
+        }
+    }
 }

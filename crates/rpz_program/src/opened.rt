@@ -4,8 +4,8 @@ ghost use Rattle.std.specs.Prelude.{◌≡◌, ◌≤◌, ◌<◌, length, OnOk}
 ghost use Rattle.zone_rows.specs.declared.zone.TheConstants.{ZONE_LIMIT};
 ghost use Rattle.rpz_program.specs.Opened.{no_zones, with_network, with_primary, with_open_zone};
 
-use networks::{AllowList, Network};
 use ip_prefix::Addr;
+use networks::{AllowList, Network};
 use policy_override::{ZoneSet, ZoneSets};
 use std::alloc::{AllocError, Global};
 use std::marker::Model;

@@ -9,9 +9,9 @@ ghost use Rattle.rpz_program.specs.Stage.{new_stage, stage_event, stage_line, st
 
 use crate::answering::answer_event;
 use crate::opened::Opened;
-use networks::Network;
 use dns_name::Octets;
 use ip_prefix::{Addr, Transport};
+use networks::Network;
 use policy_override::ZoneSet;
 use rpz_core::{Core, Event};
 use script_codec::{Line, LineFault, ScriptState, UnnumberedError, read_unnumbered};

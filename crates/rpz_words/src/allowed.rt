@@ -10,8 +10,7 @@ ghost use Rattle.rpz_words.specs.Outcome.{Gives, or_said};
 use crate::cutting::comma_parts;
 use crate::usage_cause::{AllowFault, UsageCause};
 use crate::words_error::WordsError;
-use networks::read_network;
-use networks::{AllowList, NETWORK_LIMIT, Network};
+use networks::{AllowList, NETWORK_LIMIT, Network, read_network};
 use std::alloc::{AllocError, Global};
 
 /// The networks that the value of `--allow` writes: 1 to 64 with commas between them, none twice.

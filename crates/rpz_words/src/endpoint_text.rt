@@ -7,9 +7,9 @@ ghost use Rattle.rpz_words.specs.Values.{port_of};
 use crate::cutting::cut;
 use crate::usage_cause::EndpointFault;
 use crate::values::number_to;
-use networks::{AddressText, is_mapped, read_v4, read_v6};
 use edge_io::Endpoint;
 use ip_prefix::Addr;
+use networks::{AddressText, is_mapped, read_v4, read_v6};
 use std::fmt::{self, Display};
 
 /// The most digits of a port.

@@ -101,7 +101,7 @@ which is the same for every number of workers.
 ";
 
 // The version of the program, as CHANGELOG.md has it.
-const VERSION_PAGE: &str = "rpz 0.2.0\n";
+const VERSION_PAGE: &str = "rpz 0.3.0-dev\n";
 
 /// What is shown on request.
 #[derive(Clone, Copy, Debug, PartialEq, Eq)]

@@ -28,10 +28,10 @@ use crate::values::{count_to, number_between, number_to, read_turns};
 use crate::words_error::WordsError;
 use crate::zone_words::read_zones;
 use crate::zones::Zones;
-use networks::AllowList;
 use clap::ArgMatches;
 use clap::error::ErrorKind;
 use edge_io::{ConnectionLimits, Endpoint};
+use networks::AllowList;
 use std::alloc::{AllocError, Global};
 
 /// What the words of a command line ask for, without the program's name: a page where they are those of one, which takes no

@@ -2,8 +2,8 @@
 
 use crate::endpoints::Endpoints;
 use crate::zones::Zones;
-use networks::AllowList;
 use edge_io::{ConnectionLimits, Endpoint, LOAD_QUERY_LIMIT, LOAD_RULE_LIMIT};
+use networks::AllowList;
 
 /// The most workers of a server.
 pub const WORKER_LIMIT: usize = edge_io::WORKER_LIMIT;

@@ -9,29 +9,19 @@ mod connection;
 mod count;
 mod gate;
 mod handling;
-mod idle;
-mod in_hand;
 mod inlet_items;
 mod item;
 pub mod laws;
-mod limits;
 mod list_items;
 mod list_onward;
-mod list_state;
-mod marks;
 mod obtained;
 mod onward;
 mod outcome;
 mod report;
-mod request_items;
 mod request_list;
-mod request_onward;
 mod sources;
-mod tally;
 mod task;
 mod took;
-mod waiting;
-mod wake_count;
 mod worker;
 
 pub use answered::Answered;
@@ -41,18 +31,16 @@ pub use connection::FRAME_LIMIT;
 pub use gate::{GATE_TURNS, Gate, NoGate};
 pub use inlet_items::InletItems;
 pub use item::{Item, Items, Job};
-pub use limits::{
-    IDLE_SECONDS, JOSTLE_MILLISECONDS, QUERY_SECONDS, WAITING_OCTETS, WAITING_QUERIES,
-};
 pub use list_items::ListItems;
 pub use list_onward::{ListOnward, NoOnward, Passed};
 pub use obtained::Obtained;
 pub use onward::Onward;
 pub use outcome::Outcome;
 pub use report::Report;
-pub use request_items::RequestItems;
-pub use request_list::RequestList;
-pub use request_onward::RequestOnward;
+pub use request_list::{
+    IDLE_SECONDS, JOSTLE_MILLISECONDS, QUERY_SECONDS, RequestItems, RequestList, RequestOnward,
+    WAITING_OCTETS, WAITING_QUERIES,
+};
 pub use task::ServeTask;
 pub use took::Took;
 pub use worker::Worker;

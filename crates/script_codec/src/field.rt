@@ -9,11 +9,10 @@ ghost use Rattle.script_codec.specs.Field.{name_field, number_field, zone_field,
 
 use crate::line_fault::{LineFault, UnnumberedError};
 use crate::state::WORKERS;
-use networks::{read_decimal, read_network, read_v4};
-use networks::Network;
 use dns_name::{Name, Octets, TextError};
 use hex::{FromHex, FromHexError};
 use ip_prefix::{Addr, Transport};
+use networks::{Network, read_decimal, read_network, read_v4};
 use std::alloc::Global;
 
 /// The most digits of a number.

@@ -1,8 +1,8 @@
 //! What a line of a script says.
 
-use networks::Network;
 use dns_name::{Name, Octets};
 use ip_prefix::{Addr, Transport};
+use networks::Network;
 use policy_override::Override;
 
 /// What a line of a script says, with its fields as they were read.

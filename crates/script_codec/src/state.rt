@@ -8,10 +8,10 @@ ghost use Rattle.script_codec.specs.State.{opening, state_of, zone_count as zone
 ghost use Rattle.script_codec.specs.Within.{MayAllow, MayHavePrimary, MayOpen};
 
 use crate::line_fault::LineFault;
-use networks::{AllowList, NETWORK_LIMIT, Network};
 use dns_name::Name;
 use edge_io::WORKER_LIMIT;
 use ip_prefix::Addr;
+use networks::{AllowList, NETWORK_LIMIT, Network};
 use policy_override::ZoneSets;
 use zone_rows::ZONE_LIMIT;
 

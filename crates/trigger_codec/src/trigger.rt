@@ -31,6 +31,23 @@ pub enum Kind {
     NsIp,
 }
 
+impl Kind {
+    ghost use Rattle.trigger_codec.specs.Kind.{kind_place};
+
+    /// The place of the kind in the order of precedence, from 0.
+    pub fn place(self) -> u8
+        ensures { result ≡ kind_place self }
+    {
+        match self {
+            Kind::ClientIp => 0,
+            Kind::Qname => 1,
+            Kind::ResponseIp => 2,
+            Kind::NsDname => 3,
+            Kind::NsIp => 4,
+        }
+    }
+}
+
 impl Trigger {
     ghost use Rattle.trigger_codec.specs.Kind.{kind_of};
 

@@ -19,8 +19,7 @@ use crate::settling::does_at;
 use crate::trigger_index::TriggerIndex;
 use dns_name::Name;
 use dns_name::laws::{case_does_not_matter, names_of_equal_octets_are_equal};
-use packed_lists::{KeyList, Keyed, first_run, numbers_of};
-use packed_lists::RowList;
+use packed_lists::{KeyList, Keyed, RowList, first_run, numbers_of};
 use std::alloc::{AllocError, Global};
 
 // Puts the row at `at` behind those before it.

@@ -11,8 +11,8 @@ use crate::group::{Group, lend};
 use crate::patterns::Patterns;
 use crate::prefixes::Prefixes;
 use ip_prefix::{Addr, Prefix};
-use qname_index::{Found, LookupName, PatternRef};
 use packed_lists::{Held, SharedTable};
+use qname_index::{Found, LookupName, PatternRef};
 
 /// The rule that comes first of those whose prefix contains the address.
 pub(crate) fn longest<'a>(

@@ -3,10 +3,10 @@
 ghost use Rattle.std.specs.Prelude.{None};
 
 use crate::item::{Item, Items, Job};
-use crate::limits::{IDLE_SECONDS, JOSTLE_MILLISECONDS, QUERY_SECONDS};
 use crate::list_onward::Passed;
-use crate::list_state::Taken;
-use crate::request_list::SharedList;
+use crate::request_list::limits::{IDLE_SECONDS, JOSTLE_MILLISECONDS, QUERY_SECONDS};
+use crate::request_list::list::SharedList;
+use crate::request_list::list_state::Taken;
 use edge_io::{Deadline, Sink, Source};
 use policy_publish::{Latest, StoreName, Told};
 use std::alloc::Global;

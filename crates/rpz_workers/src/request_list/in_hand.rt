@@ -1,7 +1,7 @@
 //! The queries that askers have in hand.
 
-use crate::marks::Marks;
-use crate::tally::Tally;
+use crate::request_list::marks::Marks;
+use crate::request_list::tally::Tally;
 use edge_io::Deadline;
 use std::alloc::{AllocError, Global};
 

@@ -1,10 +1,10 @@
 //! The queries that wait for an asker, in order.
 
-use crate::in_hand::InHand;
-use crate::limits::{WAITING_OCTETS, WAITING_QUERIES};
 use crate::list_onward::Passed;
-use crate::marks::Marks;
-use crate::tally::Tally;
+use crate::request_list::in_hand::InHand;
+use crate::request_list::limits::{WAITING_OCTETS, WAITING_QUERIES};
+use crate::request_list::marks::Marks;
+use crate::request_list::tally::Tally;
 use policy_publish::StoreName;
 use std::alloc::{AllocError, Global};
 use std::collections::VecDeque;

@@ -1,10 +1,10 @@
 //! The request list: queries that need the upstream, and wait for workers that ask.
 
-use crate::list_state::{ListState, Turn};
-use crate::request_items::RequestItems;
-use crate::request_onward::RequestOnward;
-use crate::waiting::Waiting;
-use crate::wake_count::WakeCount;
+use crate::request_list::list_state::{ListState, Turn};
+use crate::request_list::request_items::RequestItems;
+use crate::request_list::request_onward::RequestOnward;
+use crate::request_list::waiting::Waiting;
+use crate::request_list::wake_count::WakeCount;
 use edge_io::Deadline;
 use policy_publish::{Latest, StoreName};
 use std::alloc::{AllocError, Global};

@@ -1,9 +1,9 @@
 //! What stands under the lock of the request list.
 
-use crate::idle::Idle;
-use crate::in_hand::InHand;
 use crate::list_onward::Passed;
-use crate::waiting::{Waiting, WaitingQueries};
+use crate::request_list::idle::Idle;
+use crate::request_list::in_hand::InHand;
+use crate::request_list::waiting::{Waiting, WaitingQueries};
 use edge_io::Deadline;
 use policy_publish::StoreName;
 use std::alloc::{AllocError, Global};

@@ -3,12 +3,12 @@
 ghost use Rattle.std.specs.Prelude.{None};
 
 use crate::item::Job;
-use crate::limits::QUERY_SECONDS;
 use crate::list_onward::{Passed, job_again};
-use crate::marks::{Marks, marks_of};
 use crate::onward::Onward;
-use crate::request_list::OpenList;
-use crate::waiting::Waiting;
+use crate::request_list::limits::QUERY_SECONDS;
+use crate::request_list::list::OpenList;
+use crate::request_list::marks::{Marks, marks_of};
+use crate::request_list::waiting::Waiting;
 use dns_message::Question;
 use ip_prefix::Addr;
 use policy_publish::{PolicyReader, StoreName};
