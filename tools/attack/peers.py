@@ -19,10 +19,10 @@ ZONE = "rpz.example"
 KEPT = 600  # the TTL of what an upstream answers, so that nothing expires before a case has ended
 
 
-def listener(port):
-    sock = socket.socket()
+def listener(port, host=LOOPBACK):
+    sock = socket.socket(family_of(host))
     sock.setsockopt(socket.SOL_SOCKET, socket.SO_REUSEADDR, 1)
-    sock.bind((LOOPBACK, port))
+    sock.bind((host, port))
     sock.listen(512)
     return sock
 
@@ -39,9 +39,9 @@ def family_of(host):
 class Listener:
     """Takes the connections to a port, and serves each in a thread of its own."""
 
-    def __init__(self, port, serve):
+    def __init__(self, port, serve, host=LOOPBACK):
         self.serve, self.lock, self.open = serve, threading.Lock(), set()
-        self.sock = listener(port)
+        self.sock = listener(port, host)
         threading.Thread(target=self.accept, daemon=True).start()
 
     def accept(self):
@@ -70,19 +70,19 @@ class Listener:
         self.sock.close()
 
 
-def serve_each(port, serve):
+def serve_each(port, serve, host=LOOPBACK):
     """Calls `serve` in a thread of its own for each connection."""
-    return Listener(port, serve)
+    return Listener(port, serve, host)
 
 
 class Primary:
     """A primary of one policy zone. `is_stopped`: it accepts connections and says nothing. `drips`: it sends an octet each second."""
 
-    def __init__(self, port, rules, is_stopped=False):
+    def __init__(self, port, rules, is_stopped=False, host=LOOPBACK):
         self.port, self.serial, self.rules = port, 1, list(rules)
         self.is_stopped, self.drips, self.has_ended = is_stopped, False, False
         self.requests = self.transfers = 0
-        self.listener = serve_each(port, self.serve)
+        self.listener = serve_each(port, self.serve, host)
 
     def serve(self, connection):
         request = wire.read_frame(connection)
@@ -128,12 +128,12 @@ class Upstream:
     """A recursive resolver over TCP, which takes several questions on a connection. Names that begin with `hang` get no answer, those
     with `slow` one after a second, all others after `delay`; those with `large` get one of nearly 60,000 octets."""
 
-    def __init__(self, port, delay=0.0):
+    def __init__(self, port, delay=0.0, host=LOOPBACK):
         self.port, self.delay = port, delay
         self.is_stopped = False
         self.questions = self.connections = 0
         self.later = Later()
-        self.listener = serve_each(port, self.serve)
+        self.listener = serve_each(port, self.serve, host)
 
     def serve(self, connection):
         self.connections += 1
@@ -235,16 +235,18 @@ class Program:
 
 class Server(Program):
     """`rpz serve` with its standard output and error in files, on an address of this host, and on `more_hosts`, at the same port.
-    `primaries`: of each zone its name, the port of its primary, and maybe what stands behind these words."""
+    `primaries`: of each zone its name, the port of its primary, and maybe what stands behind these words. `peers`: where these and the
+    upstream are."""
 
     is_ours = True
 
     def __init__(
-        self, program, port, upstream, primaries, workers, options=(), stdout=None, host=LOOPBACK, turns="forever", more_hosts=(), **started,
+        self, program, port, upstream, primaries, workers, options=(), stdout=None, host=LOOPBACK, turns="forever", more_hosts=(),
+        peers=LOOPBACK, **started,
     ):
-        zones = [f"{zone}@{LOOPBACK}:{at}{''.join(behind)}" for zone, at, *behind in primaries]
+        zones = [f"{zone}@{endpoint(peers, at)}{''.join(behind)}" for zone, at, *behind in primaries]
         listen = ",".join(endpoint(one, port) for one in (host, *more_hosts))
-        words = [program, "serve", *options, listen, f"{LOOPBACK}:{upstream}", str(turns), str(workers), *zones]
+        words = [program, "serve", *options, listen, endpoint(peers, upstream), str(turns), str(workers), *zones]
         self.log, self.errors = (f"{tempfile.gettempdir()}/attack-{os.getpid()}-{port}.{kind}" for kind in ("log", "errors"))
         with open(self.log, "wb") as log, open(self.errors, "wb") as errors:
             super().__init__(words, port, host, log if stdout is None else stdout, errors, **started)
