@@ -3,9 +3,13 @@
 
     python3 tools/package.py [--program FILE] [--out FOLDER]
 
-Writes FOLDER/rpz_VERSION_ARCH.deb (FOLDER is the current one without --out): the program, its manual page, a systemd unit, an example
-zone with the configurations of NSD, Unbound and dnsdist that belong to it, and the documents. The program is crates/rpz/out/rpz, which
-`.ci/run` or `rt run` in crates/rpz proves and builds; its version is what `rpz --version` says. It wants `dpkg-deb`.
+Writes FOLDER/rpz_VERSION_ARCH.deb (FOLDER is the current one without --out) and prints its name: the program, its manual page, a
+systemd unit, an example zone with the configurations of NSD, Unbound and dnsdist that belong to it, tools/dry_run.py, and the
+documents. The program is crates/rpz/out/rpz, which `.ci/run` or `rt run` in crates/rpz proves and builds. It wants `dpkg-deb`.
+
+VERSION is what `rpz --version` says. A version that ends in `-dev` is named after the commit and its time in UTC, as in
+0.3.0~dev+git202612021430.0123abcd: so it is newer than each release and commit before it, and older than 0.3.0. `.changed` follows
+if files differ from the commit. Without git the time is that of the program's file.
 """
 import argparse
 import gzip
@@ -16,12 +20,16 @@ import shutil
 import subprocess
 import sys
 import tempfile
+import time
 
 ROOT = pathlib.Path(__file__).resolve().parent.parent
 DOCUMENTS = ("SECURITY.md", "docs/OPERATING.md", "docs/FORMATS.md", "docs/PROFILE.md", "docs/GLOSSARY.md")
 # Where the files that the documents lead to are installed, seen from the documents; other links are left out.
 INSTALLED = {pathlib.Path(name).name: pathlib.Path(name).name for name in DOCUMENTS}
-INSTALLED |= {"rpz.service": "/lib/systemd/system/rpz.service", "dnsdist.conf": "examples/dnsdist.conf"}
+INSTALLED |= {"rpz.service": "/lib/systemd/system/rpz.service"}
+INSTALLED |= {name: f"examples/{name}" for name in ("dnsdist.conf", "dry_run.py")}
+DRY_RUN = "tools/dry_run.py"
+INSTALLED_DRY_RUN = "/usr/share/doc/rpz/examples/dry_run.py"
 DESCRIPTION = """DNS forwarder that enforces response policy zones
  rpz stands between DNS clients and a recursive resolver, and rewrites or
  withholds answers by the rules of response policy zones (RPZ), which it takes
@@ -41,7 +49,8 @@ if [ "$1" = remove ] && [ -d /run/systemd/system ]; then systemctl disable --now
 
 
 def output(*words):
-    return subprocess.run(words, check=True, capture_output=True, text=True).stdout
+    """What a command prints; git tells times in UTC."""
+    return subprocess.run(words, check=True, capture_output=True, text=True, env=os.environ | {"TZ": "UTC"}).stdout
 
 
 def put(source, target, mode=0o644):
@@ -66,7 +75,30 @@ def led_inside(text):
         place = INSTALLED.get(pathlib.Path(name).name)
         return found.group() if not name else f"[{words}]({place}{mark}{heading})" if place else words
 
-    return re.sub(r"\bdocs/(\w+\.md)", r"\1", re.sub(r"\[([^]]+)\]\(([^)]+)\)", link, text))
+    text = re.sub(r"\[([^]]+)\]\(([^)]+)\)", link, text)
+    return re.sub(r"\bdocs/(\w+\.md)", r"\1", text).replace(DRY_RUN, INSTALLED_DRY_RUN)
+
+
+def commit():
+    """The time of the commit in UTC and its hash, and `.changed` if files differ from it; nothing without git."""
+    git = ["git", "-C", str(ROOT)]
+    try:
+        stamp = output(*git, "log", "-1", "--format=%cd.%h", "--date=format-local:%Y%m%d%H%M").strip()
+        changed = output(*git, "status", "--porcelain", "--untracked-files=no")
+    except (OSError, subprocess.CalledProcessError):
+        return ""
+    return stamp + (".changed" if changed else "")
+
+
+def version_of(program):
+    """The version of the package: that of the program, and for a version under development that of the commit, too."""
+    version = output(program.resolve(), "--version").split()[1]
+    release, dash, dev = version.partition("-")
+    if not dash:
+        return version
+    stamp = commit()
+    made = f"git{stamp}" if stamp else time.strftime("%Y%m%d%H%M", time.gmtime(program.stat().st_mtime))
+    return f"{release}~{dev}+{made}"
 
 
 def glibc_of(program):
@@ -91,6 +123,7 @@ def fill(tree, program):
         put_text(led_inside((ROOT / name).read_text(encoding="utf-8")), documents / pathlib.Path(name).name)
     for example in sorted((ROOT / "packaging/examples").iterdir()):
         put(example, documents / "examples" / example.name)
+    put(ROOT / DRY_RUN, documents / "examples" / "dry_run.py")
 
 
 def control(tree, version, arch, glibc):
@@ -120,7 +153,7 @@ def main():
     words = reader.parse_args()
     if not words.program.exists():
         sys.exit(f"{words.program} isn't there: `.ci/run`, or `rt run` in crates/rpz, proves and builds it")
-    version = output(words.program.resolve(), "--version").split()[1]
+    version = version_of(words.program)
     arch = output("dpkg", "--print-architecture").strip()
     package = words.out / f"rpz_{version}_{arch}.deb"
     with tempfile.TemporaryDirectory(prefix="rpz-package-") as room:
@@ -130,7 +163,7 @@ def main():
         control(tree, version, arch, glibc_of(words.program))
         for folder, _, _ in os.walk(tree):
             os.chmod(folder, 0o755)
-        subprocess.run(["dpkg-deb", "--root-owner-group", "--build", str(tree), str(package)], check=True)
+        subprocess.run(["dpkg-deb", "--root-owner-group", "--build", str(tree), str(package)], check=True, stdout=sys.stderr)
     print(package)
 
 

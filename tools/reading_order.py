@@ -32,9 +32,37 @@ PARTS = (
     ),
 )
 
+# the definitions that matter most: crate, module, names; docs/READING_ORDER.md has them on top, docs/MODEL.md among the others
+MATTERS = (
+    ("trigger_codec", "Decode", ("trigger",)),
+    ("action_codec", "Action", ("cname_action",)),
+    ("policy_snapshot", "Rules", ("rules",)),
+    ("policy_snapshot", "Hits", ("is_hit", "hits")),
+    ("rpz_precedence", "Rank", ("rank_order", "precedes")),
+    ("rpz_precedence", "Best", ("best",)),
+    ("policy_snapshot", "Next", ("needs_answer", "pending", "next")),
+    ("query_session", "Session", ("turn_by", "turn_of")),
+    ("reply_build", "Reply", ("by_action",)),
+    ("rpz_workers", "Answering", ("Answers",)),
+    ("dns_name", "Grammar", ("NameAt",)),
+    ("dns_message", "Grammar", ("MessageAt",)),
+    ("dns_message", "Request", ("incoming_of",)),
+    ("dns_message", "Compressed", ("compressed_within",)),
+    ("axfr_apply", "Reading", ("outcome_of",)),
+    ("zone_rows", "Zone", ("apply_outcome",)),
+    ("policy_snapshot", "Policy", ("policy_after",)),
+    ("upstream_link", "AnswerLife", ("life_in",)),
+    ("upstream_link", "Vouched", ("live",)),
+    ("policy_feed", "Ending", ("EndsPoll",)),
+    ("policy_feed", "Waking", ("TakesWake",)),
+    ("rpz_program", "Script", ("script_transcript",)),
+)
+
 USE = re.compile(r"^(?:ghost )?use Rattle\.([\w.]+?)(?:\.\{([^}]*)\})?(?: as (\w+))?;?$", re.M)
 HEAD = re.compile(r"\s*(?:(?:abbrev|unfoldable) )?pub (?:record |data )?([^\s:({]+)")
 STARTS = re.compile(r"(abbrev pub|unfoldable pub|pub record|pub data|pub \S+ :)|\s+(abbrev|unfoldable) pub")
+DEFINITION = re.compile(r"(?:(?:abbrev|unfoldable) )?pub (?:record |data )?([^\s:({]+)")
+SENTENCE_END = re.compile(r"(?<=\.)\s+(?=[A-Z`])")
 TOKEN = re.compile(r"\w+(?:[-']\w+)*")
 MEMBER = re.compile(r"\b(\w+)\.(\w+)")
 
@@ -82,6 +110,28 @@ class Module:
             if re.search(rf"pub data {re.escape(name)}\b", body):
                 for constructor in re.findall(r"^\s+([a-z_]\w*) :", body, re.M):
                     self.constructors[constructor] = name
+
+
+def comments(crate, module):
+    """The comment of each definition of a file of specs/, by its name."""
+    found, lines = {}, []
+    with open(f"crates/{crate}/specs/{module}.antt", encoding="utf-8") as file:
+        for line in file:
+            text = line.strip()
+            match = DEFINITION.match(text)
+            if text.startswith("--"):
+                lines.append(text[2:].strip())
+            else:
+                if match and lines:
+                    found[match.group(1)] = " ".join(lines)
+                lines = []
+    return found
+
+
+def first_sentence(comment):
+    sentence = SENTENCE_END.split(comment)[0].strip().rstrip(".")
+    plain = sentence[:1].isupper() and not sentence[1:2].isupper() and "`" not in sentence.split()[0]
+    return (sentence[0].lower() + sentence[1:] if plain else sentence).replace("|", "\\|")
 
 
 def read_modules():
@@ -187,6 +237,15 @@ def type_rows(crates, types):
             yield f"| {crate} | {listed(names)} |"
 
 
+def matter_rows():
+    yield "| Definition | File | Says |"
+    yield "|---|---|---|"
+    for crate, module, names in MATTERS:
+        said = comments(crate, module)
+        for name in names:
+            yield f"| `{name}` | {crate}/{module} | {first_sentence(said.get(name, ''))} |"
+
+
 def doubled(modules, definitions, types):
     """The names that stand for two things in the list: definitions and their constructors, and types of src/."""
     places = {}
@@ -215,9 +274,15 @@ def page(found):
     yield (
         "Written by `python3 tools/reading_order.py`, and not by hand; `.ci/run` checks that it is up to date. Clauses cite these "
         "definitions of specs/, directly or through others, and no more of this repository. Each module stands after those that it "
-        "cites. `crates/X/specs/Y.antt` is written `X/Y`. docs/MODEL.md says what each definition is about, and which have a law beside "
+        "cites. `crates/X/specs/Y.antt` is written `X/Y`. docs/MODEL.md says what the more important ones mean, and which have a law beside "
         "them that a reader may believe instead."
     )
+    yield from ("", "## The definitions that matter most", "")
+    yield (
+        "From rules to a reply, then messages, transfers, what is kept of answers, polls, and the transcript of `replay`. "
+        "docs/FIVE_DEFINITIONS.md shows five of them with their text."
+    )
+    yield from ("", *matter_rows())
     known, known_types = set(), set()
     for title, words, functions in PARTS:
         seen, types, below = reach(modules, functions, known)

@@ -52,7 +52,7 @@ is_own_name (Some pattern) rdata = points_to rdata (own_name pattern)
 abbrev pub local_alone : PlainRow → Option Action
 local_alone row = Some (Local (local_row row ∷ []))
 
--- what one CNAME row does
+-- What one CNAME row does (draft-vixie-dnsop-dns-rpz, section 3).
 unfoldable pub cname_action : Option PlainPattern → PlainRow → Option Action
 cname_action own row =
     if points_to row.rdata [] then Some NxDomain

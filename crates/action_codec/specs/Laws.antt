@@ -16,7 +16,7 @@ pub record IsKeptFor (kept row : PlainRow) : Type 0 where
   pub same : data_key kept ≡ data_key row
   pub owner : is_gt (canonical_order kept.owner row.owner) ≡ false
 
--- one of the rows is kept for the row
+-- Of the rows with the data of this one, one is kept.
 pub record HasOneFor (rows : List PlainRow) (row : PlainRow) : Type 0 where
   pub kept : PlainRow
   pub contained : Contains rows kept

@@ -1,4 +1,5 @@
-//! The actions of the rules of a response policy zone (draft-vixie-dnsop-dns-rpz, section 3).
+//! Reads what a rule does out of the rows of its trigger: the actions of response policy zones (draft-vixie-dnsop-dns-rpz,
+//! section 3).
 #![tactic(auto)]
 
 mod action;

@@ -21,6 +21,6 @@ abbrev pub emptied : Option Recent → Option Recent
 emptied None = None
 emptied (Some cache) = Some (recent [] cache.limit)
 
--- this is what a look-up finds
+-- A look-up finds this live entry or none, if the cache tells its entries.
 abbrev pub IsFound : Question → ℕ → Option PlainLearned → Option Recent → Type 0
 IsFound question now entry cache = IfSome cache (λ c. entry ≡ live_entry question now c.entries)

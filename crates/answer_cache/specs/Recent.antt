@@ -12,6 +12,7 @@ pub record Recent : Type 0 where
   pub entries : List PlainLearned
   pub limit : ℕ
 
+-- A cache by its entries, the most recently used first, and its limit.
 abbrev pub recent : List PlainLearned → ℕ → Recent
 recent entries limit = record { entries = entries; limit = limit }
 
@@ -25,7 +26,7 @@ without question [] = []
 without question (entry ∷ entries) =
     if is_about question entry then entries else entry ∷ without question entries
 
--- after a look-up: an entry about the question goes first, live or not
+-- The entries after a look-up: one about the question goes first, live or not.
 abbrev pub after_look_up : Question → List PlainLearned → List PlainLearned
 after_look_up question entries =
     option_map_or (λ entry. entry ∷ without question entries) (find (is_about question) entries)
@@ -35,7 +36,7 @@ abbrev pub if_live : ℕ → Option PlainLearned → Option PlainLearned
 if_live now None = None
 if_live now (Some entry) = if live now entry then Some entry else None
 
--- what a look-up finds: an entry about the question that is live
+-- The entry about a question that a look-up finds, if it is live.
 abbrev pub live_entry : Question → ℕ → List PlainLearned → Option PlainLearned
 live_entry question now entries = if_live now (find (is_about question) entries)
 
@@ -43,7 +44,7 @@ live_entry question now entries = if_live now (find (is_about question) entries)
 abbrev pub put_first : ℕ → PlainLearned → List PlainLearned → List PlainLearned
 put_first limit entry entries = take limit (entry ∷ without entry.question entries)
 
--- after a keep: what has a life of 0 isn't kept
+-- The entries after something was learned. What has a life of 0 isn't kept.
 abbrev pub after_keep : ℕ → PlainLearned → List PlainLearned → List PlainLearned
 after_keep limit entry entries = if life entry == 0 then entries else put_first limit entry entries
 

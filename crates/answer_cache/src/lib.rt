@@ -1,4 +1,4 @@
-//! A cache of what the upstream answered (RFC 2308, section 5).
+//! The cache of answers from the upstream (RFC 2308, section 5), the most recently used first.
 #![tactic(auto)]
 
 mod cache;

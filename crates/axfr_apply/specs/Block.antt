@@ -37,6 +37,7 @@ abbrev pub blocks : List PlainRecord → List Block
 blocks [] = []
 blocks (r ∷ rs) = block_before (soa_held r) (map row_of (until_soa rs)) (blocks rs)
 
+-- The list has no items.
 abbrev pub is_empty : {X : Type 0} → List X → Bool
 is_empty [] = true
 is_empty (x ∷ xs) = false

@@ -64,7 +64,8 @@ abbrev pub message_fault : TransferRequest → Bool → Result Message MessageFa
 message_fault asked is_first (Ok m) = head_fault asked is_first m
 message_fault asked is_first (Err fault) = Some BadMessage
 
--- A record is of class IN. A SOA record belongs to the zone's name, and another one to that name or to one below it.
+-- What is wrong with the class or the owner of a record. Its class is IN; a SOA record belongs to the zone's name, and another
+-- one to that name or to one below it.
 abbrev pub place_fault : Name → Bool → PlainRecord → Option TransferFault
 place_fault origin holds_soa r =
     if not (r.class == IN) then Some WrongClass
@@ -122,7 +123,7 @@ later_soa_fault wanted first others soa =
     then step_soa_fault wanted first.soa.serial others soa.serial
     else close_fault first.soa.serial soa.serial
 
--- how a SOA ends the transfer, behind these blocks
+-- How a SOA record ends the transfer, by the blocks before it.
 abbrev pub soa_end : Wanted → Bool → List Block → Soa → Option End
 soa_end wanted alone [] soa = first_soa_end wanted alone soa.serial
 soa_end wanted alone (first ∷ others) soa = option_map Err (later_soa_fault wanted first others soa)

@@ -1,5 +1,5 @@
-//! What a stream of messages is as a transfer of a zone (RFC 5936, RFC 1995): what was asked for, faults, the heads of messages,
-//! the places of records, and the records so far.
+//! Zone transfers as lists of messages (RFC 5936, RFC 1995): what was requested, what the messages and records come to, and
+//! which fault is the first. It applies no transfer to a zone.
 #![tactic(auto)]
 
 mod fault;

@@ -1,5 +1,5 @@
-//! `bench`: what the benches run. Its first word names one of them, `transfers`, `edits`, `queries`, `workers` or `messages`, and the
-//! modules of these names say what its other words are, and what it reads and writes. It promises nothing.
+//! `bench`: the program that the benches of bench/ run. Its first word names a bench, and the module of that name says what its
+//! other words are, and what it reads and writes. It promises nothing.
 #![tactic(auto)]
 
 mod alike;

@@ -20,7 +20,7 @@ abbrev pub limit_over : Transport → Option Edns → ℕ
 limit_over Udp edns = udp_limit edns
 limit_over Tcp edns = GREATEST_LIMIT
 
--- how many octets the reply to a query has at most
+-- The most octets of the reply to a query (RFC 1035, section 4.2.1; RFC 6891, section 6.2.3).
 abbrev pub reply_limit : Query → ℕ
 reply_limit query = limit_over query.transport query.edns
 

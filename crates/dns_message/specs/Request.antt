@@ -17,8 +17,7 @@ use Rattle.dns_record.specs.Number.{number_at}
 use Rattle.dns_message.specs.Reading.{header_in, message_of, question_at}
 use Rattle.dns_message.specs.Spelling.{question_octets}
 
--- The bytes are long enough for a header, and QR is 0. Anything else gets no reply, so
--- that no two servers answer each other without end.
+-- A message is answered at all: it has a header, and QR is 0.
 abbrev pub speaks_in : List ℕ → Bool
 speaks_in bytes = nat_le 12 (length bytes) && not (header_in bytes).qr
 
@@ -68,9 +67,11 @@ refusal rcode h question edns =
       edns = edns;
     }
 
+-- A refusal with a header and nothing else.
 abbrev pub header_alone : ℕ → Header → Message
 header_alone rcode h = refusal rcode h None None
 
+-- A refusal with the question, and with an OPT record if the request had one.
 abbrev pub with_question : ℕ → Header → Question → Option Edns → Message
 with_question rcode h question edns = refusal rcode h (Some question) edns
 
@@ -87,7 +88,7 @@ abbrev pub query_parts_in : Result Message MessageFault → Option QueryParts
 query_parts_in (Ok m) = query_parts m.question m.edns
 query_parts_in (Err fault) = None
 
--- the request has an OPT record of a version that isn't served
+-- The request has an OPT record of a version of EDNS that isn't served (RFC 6891, section 6.1.3).
 abbrev pub has_later_version : Option Edns → Bool
 has_later_version None = false
 has_later_version (Some edns) = nat_lt EDNS_VERSION edns.version
@@ -135,12 +136,12 @@ question_within most None = None
 question_within most (Some question) =
     if nat_le (12 + length (question_octets (Some question))) most then Some question else None
 
--- What a client gets that may not ask: REFUSED, whatever it sent, and no more octets than it sent.
+-- The reply to a client that may not ask: REFUSED, whatever it sent, and no longer than what it sent.
 unfoldable pub turned_away : List ℕ → Message
 turned_away bytes =
     refusal REFUSED (header_in bytes) (question_within (length bytes) (first_question bytes)) None
 
--- What is done with the bytes of a client that may ask, or may not.
+-- What is done with the bytes of a client that may ask, or may not: no reply, a refusal, or a query.
 unfoldable pub incoming_of : Bool → List ℕ → Addr → Transport → Incoming
 incoming_of may_ask bytes client transport =
     if not (speaks_in bytes) then Silent

@@ -24,6 +24,7 @@ first_flags h = 128 * bit h.qr + 8 * (h.opcode % 16) + 4 * bit h.aa + 2 * bit h.
 abbrev pub second_flags : ℕ → Header → ℕ
 second_flags z h = 128 * bit h.ra + 16 * z + h.rcode % 16
 
+-- How many questions a message has: 0 or 1.
 abbrev pub question_count : Option Question → ℕ
 question_count None = 0
 question_count (Some question) = 1
@@ -55,6 +56,7 @@ start_octets h question answers authorities additionals =
 unfoldable pub records_octets : List PlainRecord → List ℕ
 records_octets records = flat_map record_octets records
 
+-- How many OPT records a message has: 0 or 1.
 abbrev pub opt_count : Option Edns → ℕ
 opt_count None = 0
 opt_count (Some edns) = 1
@@ -76,6 +78,7 @@ parts_octets z h question answer authority additional edns =
     ++ question_octets question ++ records_octets answer ++ records_octets authority
     ++ records_octets additional ++ opt_octets edns
 
+-- A message as it is written, its names in full (RFC 1035, section 4.1), with this value of the bits Z.
 abbrev pub message_octets : ℕ → Message → List ℕ
 message_octets z m = parts_octets z m.header m.question m.answer m.authority m.additional m.edns
 
@@ -83,6 +86,7 @@ message_octets z m = parts_octets z m.header m.question m.answer m.authority m.a
 abbrev pub spelling : Message → List ℕ
 spelling m = message_octets 0 m
 
+-- The fields of a question fit their octets.
 pub record IsQuestion (question : Question) : Type 0 where
   pub is_name : IsName question.name
   pub type_fits : question.qtype < 2 ^ 16
@@ -93,7 +97,7 @@ pub record IsEdns (edns : Edns) : Type 0 where
   pub version_fits : edns.version < 256
   pub extended_fits : edns.extended < 256
 
--- such a message can be read
+-- The fields of a message fit their octets, and its names and records are valid: it can be written and read back.
 pub record IsMessage (m : Message) : Type 0 where
   pub id_fits : m.header.id < 2 ^ 16
   pub opcode_fits : m.header.opcode < 16

@@ -1,5 +1,5 @@
-//! Messages of the domain name system (RFC 1035, section 4), read whole, and written with names in full or
-//! compressed; and the triage of requests.
+//! Reads and writes DNS messages (RFC 1035, section 4), with names in full or compressed, and sorts requests: no reply, a
+//! refusal, or a query.
 #![tactic(auto)]
 
 mod alike_records;

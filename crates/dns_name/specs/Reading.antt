@@ -20,8 +20,8 @@ pointer_at run high (low ∷ rest) =
     let target = 256 * (high - 192) + low in
     if nat_lt target run then Ok (pointer target) else Err Pointer
 
--- The piece that the bytes begin with, or the first fault, in a name of which `used` bytes are read, and
--- whose labels stand one after another from the place `run` on.
+-- The piece that the bytes begin with, or the first fault. Of the name `used` bytes are read, and its labels stand one after
+-- another from the place `run` on.
 abbrev pub piece_at : ℕ → ℕ → List ℕ → Result Piece NameFault
 piece_at run used [] = Err Short
 piece_at run used (n ∷ rest) =

@@ -21,8 +21,9 @@ address_layout rtype =
     if rtype == A then Some (Fixed 4 ∷ [])
     else (if rtype == AAAA then Some (Fixed 16 ∷ []) else None)
 
--- SOA is two names and five numbers of 32 bits; MINFO is two names; MX is a number of 16 bits and a name;
--- SRV is three numbers of 16 bits and a name. The data of any other type and class is any octets: None.
+-- The parts of the data of a type (RFC 1035, section 3.3; RFC 2782; RFC 6672), or None for any octets. SOA is two names and
+-- five numbers of 32 bits; MINFO is two names; MX is a number of 16 bits and a name; SRV is three numbers of 16 bits and a
+-- name.
 abbrev pub layout_of : ℕ → ℕ → Option (List Part)
 layout_of rtype class =
     if is_one_name rtype then Some (NamePart ∷ [])

@@ -4,6 +4,7 @@ use Rattle.dns_name.specs.Labels.{IsName, name_octets, Name}
 use Rattle.dns_record.specs.Number.{number_octets}
 use Rattle.dns_record.specs.Part.{layout_of, HasParts}
 
+-- A resource record (RFC 1035, section 3.2.1), its data with names in full.
 pub record PlainRecord : Type 0 where
   pub owner : Name
   pub rtype : ℕ
@@ -16,6 +17,7 @@ pub record IsData (rtype class : ℕ) (rdata : List ℕ) : Type 0 where
   pub parts : MatchOption (layout_of rtype class) ⊤ (λ layout. HasParts layout rdata)
   pub short : length rdata < 2 ^ 16
 
+-- The fields fit their octets, and the data is such as the type and class have.
 pub record IsRecord (r : PlainRecord) : Type 0 where
   pub is_owner : IsName r.owner
   pub type_fits : r.rtype < 2 ^ 16

@@ -10,6 +10,7 @@ use Rattle.dns_record.specs.Part.{layout_of}
 use Rattle.dns_record.specs.Record.{PlainRecord, IsData}
 use Rattle.dns_record.specs.declared.class.TheConstants.{IN}
 
+-- A record of class IN as a policy zone keeps it: its owner and the names of its data in lower case.
 pub record PlainRow : Type 0 where
   pub owner : Name
   pub rtype : ℕ
@@ -62,7 +63,7 @@ IsLoweredBy (Some parts) rdata low = AreLowered parts rdata low
 abbrev pub IsLoweredData : ℕ → List ℕ → List ℕ → Type 0
 IsLoweredData rtype rdata low = IsLoweredBy (layout_of rtype IN) rdata low
 
--- the record as a row
+-- A record as a row: its owner and the names of its data in lower case.
 abbrev pub row_of : PlainRecord → PlainRow
 row_of r =
     record {
@@ -72,6 +73,7 @@ row_of r =
       rdata = lowered_data r.rtype r.rdata;
     }
 
+-- The fields fit their octets, and owner and data are in lower case.
 pub record IsRow (row : PlainRow) : Type 0 where
   pub is_owner : IsName row.owner
   pub type_fits : row.rtype < 2 ^ 16

@@ -1,7 +1,7 @@
 -- Serial numbers, which wrap (RFC 1982, section 3.2), in 32 bits.
 use Rattle.std.specs.Prelude.{ℕ, ◌-◌, ◌^◌, Bool, ◌&&◌, ◌||◌, nat_lt}
 
--- Their serial is newer than ours. At a distance of 2^31 neither of two is newer.
+-- The second serial is newer than the first (RFC 1982, section 3.2). At a distance of 2^31 neither of two is newer.
 abbrev pub is_newer : ℕ → ℕ → Bool
 is_newer ours theirs =
     (nat_lt ours theirs && nat_lt (theirs - ours) (2 ^ 31))

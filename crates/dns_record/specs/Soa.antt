@@ -16,7 +16,7 @@ soa_octets soa =
     ++ number_octets 4 soa.serial ++ number_octets 4 soa.refresh ++ number_octets 4 soa.retry
     ++ number_octets 4 soa.expire ++ number_octets 4 soa.minimum
 
--- the SOA record of this owner
+-- The record of this owner with this SOA as its data (RFC 1035, section 3.3.13).
 abbrev pub soa_record : Name → Soa → PlainRecord
 soa_record owner soa =
     record { owner = owner; rtype = SOA; class = IN; ttl = soa.ttl; rdata = soa_octets soa }

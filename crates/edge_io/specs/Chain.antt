@@ -1,7 +1,7 @@
 -- Turns that lead from one state to another.
 use Rattle.std.specs.Prelude.{◌≡◌, List, [], ◌∷◌}
 
--- a turn, and the state before it
+-- A turn, and the state before it; a list of these is a run.
 pub record Stage (X T : Type 0) : Type 0 where
   pub turn : T
   pub before : X

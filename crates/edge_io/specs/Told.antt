@@ -16,7 +16,7 @@ abbrev pub more_if_ok : {A E : Type 0} → Option (List A) → Result (Unit {0})
 more_if_ok told (Ok done) x = one_more told x
 more_if_ok told (Err e) x = told
 
--- the next of those that are still to come, where they are known; zeros after the last
+-- The next second of a clock, or the next ID, if those to come are known; zeros after the last.
 abbrev pub ComesNext : Option (List ℕ) → ℕ → Option (List ℕ) → Type 0
 ComesNext None x after = after ≡ None
 ComesNext (Some []) x after = (x ≡ 0) × (after ≡ Some [])

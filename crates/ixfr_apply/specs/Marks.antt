@@ -7,9 +7,10 @@ use Rattle.dns_name.specs.Labels.{Name}
 abbrev pub no_marks : List Name → List Bool
 no_marks origins = map (λ origin. false) origins
 
+-- The zone of this number, of which 1 is the first, is marked: all of it is asked for next.
 abbrev pub mark_at : List Bool → ℕ → Bool
 mark_at marks number = slice_index_or marks (number - 1) false
 
--- the zone of this number is marked, or isn't
+-- The marks with that of the zone of this number set or cleared.
 abbrev pub with_mark : List Bool → ℕ → Bool → List Bool
 with_mark marks number marked = slice_set marks (number - 1) marked

@@ -16,8 +16,8 @@ use Rattle.ixfr_apply.specs.declared.refusal.Refusal.{Refusal}
 use Rattle.ixfr_apply.specs.declared.refusal.Refusal.TheVariants as refusal
 use Rattle.ixfr_apply.specs.Stream.{reading}
 
--- the zone takes a transfer and is this afterwards; or it stays as it is: it is as new as the primary's, of this serial, or the
--- transfer is refused
+-- What a zone does with a stream: it takes a transfer, is current, or refuses it. After a transfer the zone is this; else it
+-- stays as it is.
 pub data Offer : Type 0 where
   takes : Transfer → PlainZone → Offer
   is_current : ℕ → Offer
@@ -34,7 +34,7 @@ offer_by_reading zone (Ok (taken.New transfer)) =
     offer_by_outcome transfer (apply_outcome zone transfer)
 offer_by_reading zone (Err fault) = refuses (refusal.Transfer fault)
 
--- What is asked for: what is newer than what is loaded, of this serial; all of the zone where nothing is, or where it is marked.
+-- What is asked for: what is newer than this serial, or all of a zone that has nothing loaded or is marked.
 abbrev pub wanted_by : Bool → Option ℕ → Wanted
 wanted_by marked None = Whole None
 wanted_by marked (Some serial) = if marked then Whole (Some serial) else Newer serial
@@ -52,12 +52,13 @@ request_of id marked zone =
 abbrev pub offer : ℕ → Bool → PlainZone → List ℕ → Offer
 offer id marked zone stream = offer_by_reading zone (reading (request_of id marked zone) stream).0
 
+-- Only what is newer was asked for.
 abbrev pub asks_newer : Wanted → Bool
 asks_newer (Whole have) = false
 asks_newer (Newer have) = true
 
--- Whether a zone is marked, so that all of it is asked for next: no more once it took a transfer or is current; and where what
--- is newer was refused, it is from then on.
+-- Whether a zone is marked afterwards, so that all of it is asked for next. It isn't once it took a transfer or is current; it
+-- is once what is newer was refused.
 abbrev pub mark_after : Bool → Wanted → Offer → Bool
 mark_after marked wanted (takes transfer next) = false
 mark_after marked wanted (is_current theirs) = false

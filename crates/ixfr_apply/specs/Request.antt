@@ -20,10 +20,10 @@ request_message id origin qtype authority = record {
   edns = None;
 }
 
--- all of the zone is asked for by a question of type AXFR (RFC 5936, section 2.1)
+-- The request for all of a zone: type AXFR (RFC 5936, section 2.1).
 abbrev pub whole_request : ℕ → Name → Message
 whole_request id origin = request_message id origin AXFR []
 
--- what is newer is asked for by a question of type IXFR, with the SOA record of our version as authority (RFC 1995, section 3)
+-- The request for what is newer: type IXFR, with our SOA record as authority (RFC 1995, section 3).
 abbrev pub newer_request : ℕ → Name → Soa → Message
 newer_request id origin soa = request_message id origin IXFR (soa_record origin soa ∷ [])

@@ -1,6 +1,6 @@
-//! Reads zone transfers from the messages of a primary: incremental (IXFR, RFC 1995), whole (AXFR, RFC 5936), or that we are
-//! current; and writes the requests for them. Says what is asked for of a zone, and which zones are marked, so that all of them
-//! is asked for next.
+//! Reads zone transfers from the messages of a primary, incremental (IXFR, RFC 1995) or whole (AXFR, RFC 5936), and writes the
+//! requests for them. Says what to request of a zone, and which zones are marked, so that all of them is requested next. It
+//! applies no transfer to a zone.
 #![tactic(auto)]
 
 pub mod laws;

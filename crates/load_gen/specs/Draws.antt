@@ -1,11 +1,11 @@
 -- The numbers that a load is made from: a linear congruential generator of modulus 2^64.
 use Rattle.std.specs.Prelude.{ℕ, zero, suc, ◌+◌, ◌*◌, ◌/◌, ◌%◌, ◌^◌}
 
--- the state behind a state
+-- The state of the generator after this state.
 abbrev pub next_state : ℕ → ℕ
 next_state x = (x * 6364136223846793005 + 1442695040888963407) % 2 ^ 64
 
--- what is drawn in a state: its highest 31 bits
+-- The number that a state gives: its highest 31 bits.
 abbrev pub drawn_in : ℕ → ℕ
 drawn_in x = x / 2 ^ 33
 

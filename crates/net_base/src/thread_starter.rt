@@ -58,7 +58,7 @@ pub struct JobSender<J: Job> {
 
 // Gives a job to the starter. `false` says that too many wait for longer than `START_MILLISECONDS`, or that it has ended; then the job is
 // dropped.
-fn give<R: Wait, J: Job>(rt: &R, work: &Sender<Work<J>>, job: J) -> bool {
+fn give<R: time::Clock + Wait, J: Job>(rt: &R, work: &Sender<Work<J>>, job: J) -> bool {
     let most = Duration::from_millis(START_MILLISECONDS);
     work.send_timeout(rt, Work::Run(job), most).is_ok()
 }

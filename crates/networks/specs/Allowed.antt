@@ -9,7 +9,7 @@ use Rattle.ip_prefix.specs.Prefix.{PlainPrefix, contains}
 abbrev pub is_in_one : List PlainPrefix → Addr → Bool
 is_in_one networks addr = list_any (λ network. contains network addr) networks
 
--- Whoever is in one of the networks may ask; everyone may, where there is none.
+-- A client may ask if it is in one of the networks, or if there is none.
 abbrev pub is_allowed : List PlainPrefix → Addr → Bool
 is_allowed [] addr = true
 is_allowed (first ∷ others) addr = is_in_one (first ∷ others) addr

@@ -15,7 +15,7 @@ use Rattle.notify_poll.specs.declared.timer.TheConstants.{FIRST_RETRY}
 use Rattle.notify_poll.specs.Notifying.{changed_at, is_from_primary}
 use Rattle.notify_poll.specs.Timers.{after_poll, begun, noted, pause}
 
--- what happens to the zone of a place
+-- What happens to the timer of a zone: a NOTIFY, the beginning or the end of a poll.
 pub data PollEvent : Type 0 where
   -- a NOTIFY of it is accepted at this second
   Notice : (place second : ℕ) → PollEvent

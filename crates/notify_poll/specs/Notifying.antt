@@ -75,8 +75,8 @@ notify_answer h (Some asked) origins timers client =
 abbrev pub is_of_primary : List Timer → Addr → Bool
 is_of_primary timers client = list_any (λ timer. is_primary timer.primary client) timers
 
--- What the bytes are answered that came from this client, which may ask or may not, and the place of the zone that they bring
--- forward. The primary of a zone is heard whether it may ask or not.
+-- The reply to the bytes of a client, and the place of the zone that they bring forward. The client may ask or may not; the
+-- primary of a zone is heard either way.
 unfoldable pub answer_to : Bool → List ℕ → Addr → List Name → List Timer → Answer
 answer_to may_ask bytes client origins timers =
     if not (speaks_in bytes) then (None, None)
@@ -85,6 +85,7 @@ answer_to may_ask bytes client origins timers =
     then notify_answer (header_in bytes) (query_parts_in (message_of bytes)) origins timers client
     else (Some (header_alone NOT_IMPLEMENTED (header_in bytes)), None)))
 
+-- The reply to a NOTIFY within the least limit, or none.
 abbrev pub as_notified : Option Message → Notified
 as_notified None = Silent
 as_notified (Some reply) = Reply (compressed_within LEAST_LIMIT reply)
@@ -94,6 +95,7 @@ abbrev pub with_timer : (Timer → Timer) → List Timer → ℕ → Option Time
 with_timer change timers place None = timers
 with_timer change timers place (Some timer) = slice_set timers place (change timer)
 
+-- The timer at this place is changed, if there is one; the others stay.
 abbrev pub changed_at : (Timer → Timer) → List Timer → ℕ → List Timer
 changed_at change timers place = with_timer change timers place (slice_get timers place)
 

@@ -14,6 +14,7 @@ abbrev pub first_timer : ℕ → Option Addr → Timer
 first_timer second primary =
     record { primary = primary; stage = Waits second; retry = FIRST_RETRY }
 
+-- All zones are due from this second on.
 abbrev pub first_timers : List (Option Addr) → ℕ → List Timer
 first_timers primaries second = map (first_timer second) primaries
 
@@ -22,6 +23,7 @@ abbrev pub is_due_stage : ℕ → TimerStage → Bool
 is_due_stage second (Waits from) = nat_le from second
 is_due_stage second (UnderWay again) = false
 
+-- No poll of the zone is under way, and its second has come.
 abbrev pub is_due : ℕ → Timer → Bool
 is_due second timer = is_due_stage second timer.stage
 
@@ -37,6 +39,7 @@ abbrev pub noted_stage : ℕ → TimerStage → TimerStage
 noted_stage second (Waits from) = Waits second
 noted_stage second (UnderWay again) = UnderWay (Some second)
 
+-- After an accepted NOTIFY: the zone is due at once, or after the poll that is under way (RFC 1996, section 4.4).
 abbrev pub noted : ℕ → Timer → Timer
 noted second timer = with_stage timer (noted_stage second timer.stage)
 
@@ -55,8 +58,8 @@ next_stage from (Waits before) = Waits from
 abbrev pub pause : ℕ → ℕ
 pause seconds = max seconds LEAST_PAUSE
 
--- A poll of the zone ends at this second: the next one is after the SOA's refresh, or, where it failed, after the retry of the last
--- SOA record that was there.
+-- After a poll that ended at this second: the next one is due after the refresh, or, if it failed, the retry of the SOA record
+-- (RFC 1035, section 3.3.13). A failed poll has none, so the retry is that of the last poll that was done.
 abbrev pub after_poll : Polling → ℕ → Timer → Timer
 after_poll (Done refresh retry) second timer =
     record {

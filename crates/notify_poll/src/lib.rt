@@ -1,4 +1,5 @@
-//! When zones are polled: the times of their SOA records (RFC 1035, sections 3.3.13 and 4.3.5), and NOTIFY (RFC 1996).
+//! When each zone is polled: by the timers of its SOA record (RFC 1035, sections 3.3.13 and 4.3.5), and after a NOTIFY (RFC
+//! 1996).
 #![tactic(auto)]
 
 pub mod laws;

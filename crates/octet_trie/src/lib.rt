@@ -1,4 +1,4 @@
-//! Maps from keys of octets, whose versions share their nodes.
+//! A map from keys of octets, each exact or wild, that finds the longest key that matches. Versions of a map share their nodes.
 #![tactic(auto)]
 
 mod build;

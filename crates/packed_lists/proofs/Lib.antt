@@ -1,4 +1,4 @@
-pub mod Blocks
+pub mod SharedBlocks
 pub mod Cutting
 pub mod Runs
 pub mod Sorting

@@ -4,6 +4,7 @@ use Rattle.dns_name.specs.Labels.{IsName, name_octets, Name}
 use Rattle.dns_name.specs.Reading.{name_at}
 use Rattle.packed_names.specs.Places.{Place, compressed_octets, new_places, new_places_in_full}
 
+-- A part of a message as a writer makes it.
 pub data MessagePart : Type 0 where
   -- octets to which no pointer leads, among them names in the data of SRV (RFC 2782) and DNAME (RFC 6672), which are not compressed
   octets : List ℕ → MessagePart
@@ -31,7 +32,7 @@ compressed_parts places at (part ∷ parts) =
     part_octets places part
     ++ compressed_parts (places ++ part_places places at part) (at + length (part_octets places part)) parts
 
--- what is to be written as a name is a name
+-- A part that is a name is a valid name.
 abbrev pub IsValidPart : MessagePart → Type 0
 IsValidPart (octets bytes) = Unit {0}
 IsValidPart (full_name name) = IsName name

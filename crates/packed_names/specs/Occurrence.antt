@@ -10,6 +10,7 @@ pub record IsOccurrence (message : List ℕ) (place : Place) : Type 0 where
   pub inside : place.offset < length message
   pub stands : IsNameAt message place.offset place.labels
 
+-- The message has the name of each place at the offset of that place.
 abbrev pub AreOccurrences : List ℕ → List Place → Type 0
 AreOccurrences message places = AllByRecursion (IsOccurrence message) places
 

@@ -28,8 +28,8 @@ abbrev pub pointer_or : Option ℕ → List ℕ → List ℕ
 pointer_or (Some offset) octets = pointer_octets offset
 pointer_or None octets = octets
 
--- A compressed name, if these places are known: its labels up to the first suffix that has a place, and a pointer to the first
--- such place; or all labels and a zero.
+-- A compressed name (RFC 1035, section 4.1.4): its labels up to the first suffix that has a place, and a pointer to the first
+-- such place. A name of which no suffix has a place is all labels and a zero.
 unfoldable pub compressed_octets : List Place → Name → List ℕ
 compressed_octets places [] = 0 ∷ []
 compressed_octets places (label ∷ others) =
@@ -52,8 +52,7 @@ new_places places at (label ∷ others) =
     unless_found (first_offset places (label ∷ others))
     (reachable_place at (label ∷ others) ++ new_places places (at + length label + 1) others)
 
--- the places that a name in full adds, which is written at an offset: one for each label, except for a suffix that has a
--- place already
+-- The places that a name in full adds at an offset: one for each label, except for a suffix that has one.
 unfoldable pub new_places_in_full : List Place → ℕ → Name → List Place
 new_places_in_full places at [] = []
 new_places_in_full places at (label ∷ others) =

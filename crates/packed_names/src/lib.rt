@@ -1,5 +1,5 @@
-//! Compressed names of one message: a name that is written with a pointer to a prior occurrence of one of its suffixes
-//! (RFC 1035, section 4.1.4).
+//! Compresses the names of one message: a name is written with a pointer to a prior occurrence of its longest suffix (RFC 1035,
+//! section 4.1.4).
 //!
 //! `Places` remembers where the labels of the names written so far begin, as far as a pointer can lead there. The names of a
 //! message are written through it, in order.

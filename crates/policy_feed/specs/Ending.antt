@@ -65,7 +65,7 @@ poll_ends second feeder number gives published =
           feeder.timers (number - 1);
     }
 
--- The poll of the zone of this number, whose transfer is under way no more, ends so at this second, and its line is written.
+-- The poll of this zone ends at this second, with its line. Its transfer is under way no more.
 pub record EndsPoll (second number : ℕ) (by : PollEnd) (before : PlainFeeder) (lines : List ℕ)
     (after : PlainFeeder) : Type 0 where
   pub zone : PlainZone

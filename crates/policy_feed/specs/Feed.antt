@@ -23,8 +23,8 @@ pub record PlainPoll : Type 0 where
   pub asked : TransferRequest
   pub messages : List (List ℕ)
 
--- the networks whose clients may ask, the zones, what is published of them, the timer of each, and the transfer of each that is
--- under way, where one is
+-- What contracts see of a feeder. These are the networks whose clients may ask, the zones, what is published of them, the timer
+-- of each, and the transfer of each that is under way, if one is.
 pub record PlainFeeder : Type 0 where
   pub allowed : List PlainPrefix
   pub zones : FedZones
@@ -32,14 +32,15 @@ pub record PlainFeeder : Type 0 where
   pub timers : List Timer
   pub polls : List (Option PlainPoll)
 
--- The same, with what was asked of the wires and the wakes that they are still to give, where they tell it; how often a connection
--- to a primary has failed; and the IDs that are still to come, where they are known.
+-- A feeder, and what its wires and IDs tell. These are what was asked of the wires and the wakes that they are still to give,
+-- if they tell it; how often a connection to a primary has failed; and the IDs that are still to come, if they are known.
 pub record Feed : Type 0 where
   pub feeder : PlainFeeder
   pub told : Option PlainWires
   pub faults : ℕ
   pub ids : Option (List ℕ)
 
+-- A feed by its parts.
 abbrev pub feed_of : PlainFeeder → Option PlainWires → ℕ → Option (List ℕ) → Feed
 feed_of feeder told faults ids =
     record { feeder = feeder; told = told; faults = faults; ids = ids }
@@ -65,7 +66,7 @@ address_of at = Some at.addr
 abbrev pub no_poll : Endpoint → Option PlainPoll
 no_poll at = None
 
--- zones that are all due from this second on
+-- A feeder at its beginning: all zones are due from this second on.
 abbrev pub first_feeder : List PlainPrefix → List Name → List Endpoint → Published → ℕ →
     PlainFeeder
 first_feeder allowed origins primaries published second =

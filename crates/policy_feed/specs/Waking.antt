@@ -135,8 +135,8 @@ abbrev pub feed_hastened : Bool → ℕ → Feed → Feed
 feed_hastened is_anew second feed =
     record feed { feeder = hastened_when is_anew second feed.feeder }
 
--- A turn at this second: a wake does what it does, and then what is due is ordered, where polls are to be tried anew with each zone of
--- which nothing was loaded yet.
+-- A turn at this second: a wake does what it does, and then all that is due is ordered. If polls are to be tried anew, each
+-- zone of which nothing was loaded yet is due, too.
 pub record TakesWake (second : ℕ) (is_anew : Bool) (before : Feed) (woken : Wake)
     (lines : List ℕ) (what : Option Notice) (after : Feed) : Type 0 where
   pub middle : Feed

@@ -1,4 +1,5 @@
-//! The zones of a server: each is polled when it is due, what is new of it is asked of its primary, read, and published.
+//! Keeps the zones of a server up to date: polls each from its primary when it is due, publishes what is new, and answers
+//! NOTIFYs.
 #![tactic(auto)]
 
 mod ending;

@@ -16,7 +16,7 @@ named_override word =
     else (if bytes_eq word (codes "tcp-only") then Some TcpOnly
     else None))))))
 
--- the rules of a zone under it count
+-- The rules of a zone under this override count: it isn't `disabled`.
 abbrev pub is_ruling : Override → Bool
 is_ruling Given = true
 is_ruling Disabled = false

@@ -19,7 +19,7 @@ overrides_in zones = map (λ (zone : ZoneSet). zone.over) zones
 abbrev pub given_zone : Name → ZoneSet
 given_zone origin = record { origin = origin; over = Given }
 
--- such zones of these origins, in order
+-- Zones of these origins, in order, each under the override `given`.
 abbrev pub given_zones : List Name → List ZoneSet
 given_zones origins = map given_zone origins
 

@@ -1,4 +1,4 @@
-//! What an operator sets over the rules of policy zones.
+//! Policy overrides: what an operator sets in place of the actions of the rules of a policy zone.
 #![tactic(auto)]
 
 mod overrides;

@@ -4,8 +4,8 @@ use mathlib.Core.List.{IsPrefix}
 use Rattle.policy_snapshot.specs.declared.entry.Entry.{Entry}
 use Rattle.policy_snapshot.specs.Stands.{PlainSnapshot}
 
--- the list of what was published, the version that readers take, and which zones are marked, so that all of them is asked for
--- next
+-- The list of what was published, the version that readers take, and which zones are marked. Of a marked zone all is asked for
+-- next.
 pub record Published : Type 0 where
   pub list : List Entry
   pub version : PlainSnapshot

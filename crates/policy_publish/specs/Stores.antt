@@ -5,8 +5,8 @@ use Rattle.logbook.specs.Pages.{Book}
 use Rattle.policy_override.specs.declared.zone_set.ZoneSet.{ZoneSet}
 use Rattle.policy_snapshot.specs.declared.entry.Entry.{Entry}
 
--- the book in which its publications stand, the origins of its zones with the override of each, the networks whose clients may
--- ask, and how many readers it has
+-- What a store of published versions is named by. These are the book in which its publications stand, the origins of its zones
+-- with the override of each, the networks whose clients may ask, and how many readers it has.
 pub record Store : Type 0 where
   pub book : Book
   pub settings : List ZoneSet

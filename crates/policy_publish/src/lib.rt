@@ -1,4 +1,4 @@
-//! A policy that one thread publishes, version by version, and others read without waiting.
+//! Publishes versions of the policy from one thread to readers in other threads, which take the newest without waiting.
 #![tactic(auto)]
 
 mod allowed;

@@ -18,9 +18,9 @@ abbrev pub has_address : PlainFacts → PlainPrefix → Name → Bool
 has_address facts prefix server =
     list_any (holds_within prefix server) (address_records facts server)
 
--- The trigger is hit at a position of the chain, where this name stands: the client is in the prefix, which counts at the name
--- of the query alone; the pattern matches the name; an address of the answer for this name is in the prefix; the pattern
--- matches a name server of the name; an address of a name server of the name is in the prefix.
+-- Whether a trigger is hit at a position of the chain, at this name (draft-vixie-dnsop-dns-rpz, section 4). The client is in
+-- the prefix, which counts at the name of the query only; the pattern matches the name; an address of the answer for this name
+-- is in the prefix; the pattern matches a name server of the name; an address of a name server of the name is in the prefix.
 abbrev pub is_hit : Query → PlainFacts → ℕ → Name → Trigger → Bool
 is_hit query facts position name (ClientIp prefix) = position == 0 && contains prefix query.client
 is_hit query facts position name (Qname pattern) = matches pattern name

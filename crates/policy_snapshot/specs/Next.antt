@@ -95,8 +95,8 @@ abbrev pub or_question : Option Question → Option Question → Option Question
 or_question (Some question) other = Some question
 or_question None other = other
 
--- The question that must be asked at a position, where this name stands, before it is known which rule decides there, by the
--- best hit that is known: that of the query, if its answer isn't known and a rule needs it that could decide; then the first NS
+-- The question that must be asked at this name of the chain before it is known which rule decides there, by the best hit that
+-- is known. It is that of the query, if its answer isn't known and a rule that could decide needs it; then the first NS
 -- question of the name and those above it; then the first question about an address of a server.
 abbrev pub pending : List PlainRule → Query → PlainFacts → Name → Option PlainHit →
     Option Question
@@ -107,8 +107,8 @@ pending all query facts name hit =
     (if_needed (is_needed needs_servers all hit) (first_unknown facts (server_questions name)))
     (if_needed (is_needed needs_addresses all hit) (unknown_address facts name)))
 
--- What comes next: this must be asked; the rule of this hit decides, behind these names of the chain, at this name; no rule is
--- hit at any name of the chain; or the chain is too long.
+-- What comes next: a question, the rule that decides, no rule is hit at any name of the chain, or the chain is too long. A rule
+-- decides at this name, behind these names of the chain.
 pub data Next : Type 0 where
   ask : Question → Next
   decided_by : List Name → Name → PlainHit → Next

@@ -20,6 +20,7 @@ pub record PlainPolicy : Type 0 where
   pub zones : PlainZones
   pub overrides : List Override
 
+-- The zone of a number, of which 1 is the first.
 abbrev pub zone_at : PlainZones → ℕ → Option PlainZone
 zone_at zones number = if number == 0 then None else slice_get zones (number - 1)
 
@@ -64,6 +65,6 @@ AreTaken zones (entry ∷ entries) =
     TakesTransfer (zone_at zones entry.zone) entry.transfer
     × AreTaken (zones_with zones entry) entries
 
--- the same from zones of these origins with nothing loaded: each entry is a transfer that was accepted
+-- Each transfer of the list was accepted, one after another, by zones of these origins that began with nothing loaded.
 abbrev pub AreAccepted : List Name → List Entry → Type 0
 AreAccepted origins entries = AreTaken (map unloaded origins) entries

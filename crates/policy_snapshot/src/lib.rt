@@ -1,4 +1,5 @@
-//! A policy of ordered zones as it stands after a list of accepted transfers, and which of its rules decides a query.
+//! One version of the policy: all policy zones in order with their overrides, and the decision which of their rules applies to
+//! a query.
 #![tactic(auto)]
 
 mod candidates;

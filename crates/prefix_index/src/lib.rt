@@ -1,4 +1,4 @@
-//! Maps from prefixes of addresses, whose versions share their nodes.
+//! Rules by address prefix: a map that finds the longest prefix containing an address. Versions of a map share their nodes.
 #![tactic(auto)]
 
 mod bit_trie;

@@ -7,8 +7,8 @@ use Rattle.std.specs.declared.cmp.Ordering.{Ordering}
 use Rattle.dns_name.specs.Alike.{PlainPattern, matches}
 use Rattle.dns_name.specs.Labels.{name_octets, Name}
 
--- Which of two patterns comes first where both are about a name: exact before wild, then the base of more labels
--- (draft-vixie-dnsop-dns-rpz, section 5). Patterns that tie so, of which at most one is about a name, come in order of their bases as bytes.
+-- Which of two patterns comes first: exact before wild, then the base of more labels (draft-vixie-dnsop-dns-rpz, section 5).
+-- Patterns that tie so, of which at most one is about a name, come in order of their bases as bytes.
 abbrev pub pattern_order : PlainPattern → PlainPattern → Ordering
 pattern_order a b =
     ordering_then (bool_cmp a.wild b.wild)

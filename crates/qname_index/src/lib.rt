@@ -1,4 +1,5 @@
-//! Maps from patterns of names, whose versions share their nodes.
+//! Rules by name pattern: a map that finds the pattern that precedes all others matching a name. Versions of a map share their
+//! nodes.
 #![tactic(auto)]
 
 mod key;

@@ -104,7 +104,7 @@ abbrev pub failure_turn : Query → Turn
 failure_turn query =
     Said (said.Reply (compressed_within (reply_limit query) (reply_of query server_failure)))
 
--- Why a query gets rcode 2 under a policy, by what is known.
+-- Why a query gets SERVFAIL under a policy, by what is known.
 pub data FailsBy (policy : PlainPolicy) (query : Query) (facts : PlainFacts) : Type 0 where
   -- the chain of aliases has more than CHAIN_LIMIT names
   long_chain : next policy query facts ≡ chain_too_long → FailsBy policy query facts

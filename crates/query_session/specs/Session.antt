@@ -41,8 +41,8 @@ within_fact_limit query facts (Said s) = Said s
 within_fact_limit query facts (Ask question) =
     if nat_lt (length facts) FACT_LIMIT then Ask question else verdict_turn query facts fails
 
--- What is done about a message under a policy, by what is known. A refusal has at most the question and the OPT record, and
--- keeps to the least limit.
+-- What is done about a message under a policy, by what is known: it is ignored or refused, asks a question, or gets its reply.
+-- A refusal has at most the question and the OPT record, and keeps to the least limit.
 abbrev pub turn_by : PlainPolicy → Incoming → PlainFacts → Turn
 turn_by policy Silent facts = Said said.Silent
 turn_by policy (Refuse message) facts = Said (said.Reply (compressed_within LEAST_LIMIT message))

@@ -1,4 +1,5 @@
-//! How one query is answered under the policy that held when it came: what is asked of the upstream, and what is replied.
+//! One query from its message to its reply, under the version of the policy that held when it came: what it asks of the
+//! upstream, and what it replies.
 #![tactic(auto)]
 
 pub mod laws;

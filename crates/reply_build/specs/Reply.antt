@@ -93,6 +93,7 @@ denial rcode place = sections rcode place.kept [] (place.soa ∷ [])
 abbrev pub truncation : Sections
 truncation = record { tc = true; rcode = 0; answer = []; authority = []; additional = [] }
 
+-- The SOA record of an answer with what is left of its TTL, if the answer has one.
 abbrev pub soa_list : PlainAnswer → List PlainRecord
 soa_list answer = map (aged answer.age) (option_to_list answer.soa)
 
@@ -101,8 +102,7 @@ soa_list answer = map (aged answer.age) (option_to_list answer.soa)
 abbrev pub answer_sections : PlainAnswer → Sections
 answer_sections answer = sections answer.rcode (aged_answers answer) (soa_list answer) []
 
--- What a query comes to, by what is decided of it and what is known: it needs the answer to a question, or gives a reply
--- of these sections, or nothing is said.
+-- What a query comes to: it needs the answer to a question, or gives a reply of these sections, or nothing is said.
 pub data ReplyOutcome : Type 0 where
   needs : Question → ReplyOutcome
   gives : Sections → ReplyOutcome
@@ -184,7 +184,8 @@ abbrev pub tcp_only_outcome : Query → PlainFacts → ReplyOutcome
 tcp_only_outcome query facts =
     if over_tcp query.transport then main_outcome query facts else gives truncation
 
--- what a rule's action comes to; nothing is said for DROP (section 3.4)
+-- What the action of a rule comes to: a question, the sections of a reply, or nothing for DROP (draft-vixie-dnsop-dns-rpz,
+-- section 3).
 abbrev pub by_action : Query → PlainFacts → HitPlace → Action → ReplyOutcome
 by_action query facts place NxDomain = gives (denial 3 place)
 by_action query facts place NoData = gives (denial 0 place)

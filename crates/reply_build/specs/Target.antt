@@ -30,7 +30,7 @@ abbrev pub target_in : Name → NameOutcome → Option Name
 target_in name (Ok found) = target_by name found.0
 target_in name (Err fault) = None
 
--- The name that an alias leads to: the one that its data is, or with an asterisk the name that is answered for in its
--- place. None where that is longer than a name may be.
+-- The name that an alias leads to (draft-vixie-dnsop-dns-rpz, section 3.6). It is the one that its data is, or with an asterisk
+-- the name that is answered for in its place. None if that is longer than a name may be.
 abbrev pub target_of : Name → List ℕ → Option Name
 target_of name rdata = target_in name (name_at rdata 0)

@@ -7,8 +7,8 @@ use Rattle.action_codec.specs.declared.action.Action.{Action}
 use Rattle.reply_build.specs.declared.verdict.Verdict.{Verdict}
 use Rattle.reply_build.specs.declared.verdict.Verdict.TheVariants.{Pass, Fail, Hit}
 
--- No rule is about it; there is no answer, whatever the upstream has; or this is done by the rule that decides, of the zone with
--- this SOA record, behind these names of the chain of aliases, at this name.
+-- What is decided of a query: no rule is about it, there is no answer, or a rule decides. The rule does this, its zone has this
+-- SOA record, and it decides at this name, behind these names of the chain of aliases.
 pub data PlainVerdict : Type 0 where
   passes : PlainVerdict
   fails : PlainVerdict

@@ -1,4 +1,4 @@
-//! The reply to a query, by what is decided of it and what is known, or the question whose answer it needs
+//! Builds the reply to a query from the decision and what is known, or gives the question whose answer the reply still needs
 //! (draft-vixie-dnsop-dns-rpz, section 3).
 #![tactic(auto)]
 

@@ -26,8 +26,7 @@ use Rattle.rpz_core.specs.Answered.{AreAnswered}
 use Rattle.rpz_core.specs.Sessions.{PendingQuery, facts_with, learned_by}
 use Rattle.rpz_core.specs.World.{World, new_world, policy_of, world_step}
 
--- These events, the last one first, lead from zones of these settings and primaries with nothing loaded, and these networks whose
--- clients may ask, to this world.
+-- These events, the last one first, lead from zones of these settings, with nothing loaded, to this world.
 pub data Reaches (settings : List ZoneSet) (primaries : List (Option Addr))
     (allowed : List PlainPrefix) : List Event → World → Type 0 where
   begins : Reaches settings primaries allowed [] (new_world settings primaries allowed)
@@ -39,8 +38,7 @@ pub data Reaches (settings : List ZoneSet) (primaries : List (Option Addr))
 abbrev pub IsPendingAt : World → ℕ → PendingQuery → Type 0
 IsPendingAt world worker pending = slice_get world.sessions.workers worker ≡ Some (Some pending)
 
--- After these events the last query of this worker is this one, it came under this policy, and these are the facts that were
--- obtained for it, in order.
+-- After these events the last query of this worker came under this policy, and these facts were obtained for it, in order.
 pub data AreObtained (settings : List ZoneSet) (primaries : List (Option Addr))
     (allowed : List PlainPrefix) (worker : ℕ) : List Event → PlainPolicy → Incoming →
     PlainFacts → Type 0 where
@@ -108,8 +106,8 @@ pub record IsAskedAs (world : World) (worker : ℕ) (message : List ℕ) : Type 
   pub message_is : message ≡ question_bytes pending.id pending.question
   pub unanswered : live_entry pending.question world.clock world.sessions.cached ≡ None
 
--- What is said to the last query of a worker is what the policy answers under which it came, by the facts that were obtained for
--- it.
+-- The last query of a worker is answered as its policy says, by the facts that were obtained for it. The policy is that under
+-- which the query came.
 pub record IsAnsweredAs (settings : List ZoneSet) (primaries : List (Option Addr))
     (allowed : List PlainPrefix) (events : List Event) (world : World) (worker : ℕ)
     (said : Said) : Type 0 where

@@ -25,8 +25,8 @@ use Rattle.answer_cache.specs.Recent.{after_keep}
 use Rattle.rpz_core.specs.declared.sessions.TheConstants.{CACHE_LIMIT, WORKERS}
 use Rattle.rpz_core.specs.Resolving.{Resolved, resolve}
 
--- A query that waits for an answer: the policy that it came under, the query, what is known, the question that was asked, and
--- the ID of the message that asked it.
+-- A query that waits for an answer. It has the policy that it came under, the query, what is known, the question that was
+-- asked, and the ID of the message that asked it.
 pub record PendingQuery : Type 0 where
   pub policy : PlainPolicy
   pub incoming : Incoming

@@ -25,9 +25,9 @@ use Rattle.notify_poll.specs.Timers.{after_poll, due_zone, first_timers}
 use Rattle.rpz_core.specs.Offer.{offer_output, polling_of}
 use Rattle.rpz_core.specs.Sessions.{SessionsState, no_sessions, take_query, take_answer, take_failure}
 
--- the origins of the policy's zones with the override of each, the networks whose clients may ask, the accepted transfers in
--- order, which zones are marked, so that all of them is asked for next, the timer of each zone, the workers with their pending
--- queries, what is cached, and the clock in seconds
+-- The state that events change. It has the origins of the zones with the override of each, the networks whose clients may ask,
+-- the accepted transfers in order, which zones are marked, so that all of them is asked for next, the timer of each zone, the
+-- workers with their pending queries, what is cached, and the clock in seconds.
 pub record World : Type 0 where
   pub settings : List ZoneSet
   pub allowed : List PlainPrefix

@@ -1,5 +1,5 @@
-//! The core: a policy and workers with their pending queries, as a machine that takes events one by one. It knows nothing of
-//! scripts, threads or sockets.
+//! The machine behind `rpz replay`: a policy, workers with their pending queries, a cache and a clock, which takes one event
+//! and gives one output. It knows nothing of scripts, threads or sockets.
 #![tactic(auto)]
 
 mod event;

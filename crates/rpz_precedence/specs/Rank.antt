@@ -12,8 +12,8 @@ use Rattle.trigger_codec.specs.Kind.{kind_of, kind_place}
 use Rattle.trigger_codec.specs.declared.trigger.Trigger.{Trigger}
 use Rattle.trigger_codec.specs.declared.trigger.Trigger.TheVariants.{ClientIp, Qname, ResponseIp, NsDname, NsIp}
 
--- Where a rule is hit: at which position of the chain of aliases (0 is the name of the query), in which zone of the policy
--- (1 is the first), and with which trigger.
+-- Where a rule is hit: the position in the chain of aliases, the zone, and the trigger. Position 0 is the name of the query,
+-- and zone 1 the first of the policy.
 pub record PlainRank : Type 0 where
   pub position : ℕ
   pub zone : ℕ
@@ -42,13 +42,14 @@ place_order t u = Equal
 abbrev pub trigger_order : Trigger → Trigger → Ordering
 trigger_order t u = ordering_then (nat_cmp (kind_number t) (kind_number u)) (place_order t u)
 
--- The smaller position, then the earlier zone, then the kind of trigger, then the place among those of this kind.
+-- The order of ranks (draft-vixie-dnsop-dns-rpz, section 5): the smaller position, the earlier zone, the kind of trigger, the
+-- place within the kind.
 abbrev pub rank_order : PlainRank → PlainRank → Ordering
 rank_order a b =
     ordering_then (nat_cmp a.position b.position)
     (ordering_then (nat_cmp a.zone b.zone) (trigger_order a.trigger b.trigger))
 
--- the rule of the first rank goes before that of the second
+-- A rule at the first rank decides over one at the second.
 abbrev pub precedes : PlainRank → PlainRank → Bool
 precedes a b = is_lt (rank_order a b)
 

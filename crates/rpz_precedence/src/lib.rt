@@ -1,5 +1,5 @@
-//! Which rule decides where several are hit (draft-vixie-dnsop-dns-rpz, section 5): the order of ranks, and the hit that
-//! no other hit precedes.
+//! The order of precedence of rules (draft-vixie-dnsop-dns-rpz, section 5): of the rules that match, the one that decides is
+//! the one that no other precedes.
 #![tactic(auto)]
 
 pub mod hit;

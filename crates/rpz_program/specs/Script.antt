@@ -31,12 +31,13 @@ use Rattle.script_loop.specs.Abstraction.{outcome_along}
 use Rattle.script_loop.specs.Fold as fold
 use Rattle.rpz_program.specs.Opened.{OpenZones, no_zones, with_network, with_primary, with_open_zone}
 
--- The zones that were opened so far, with their primaries and who may ask; and from the first line on that is no zone line, primary
--- line or allow line, the world of the core.
+-- The zones that were opened so far, and from the first event on the world of the core. Zones are opened, with their primaries
+-- and who may ask, as long as all lines are zone lines, primary lines and allow lines.
 pub data ScriptWorld : Type 0 where
   opened : OpenZones → ScriptWorld
   answering : World → ScriptWorld
 
+-- Where a script begins: no zones are opened.
 abbrev pub start : ScriptWorld
 start = opened no_zones
 
@@ -154,6 +155,7 @@ text_outcome world (Err why) = Err why
 text_outcome world (Ok None) = Ok (world, [])
 text_outcome world (Ok (Some line)) = world_after_line world line
 
+-- What a line does to this world and what it writes, or why it is refused, by its bytes.
 abbrev pub step : ScriptWorld → List ℕ → Result (ScriptWorld × List ℕ) LineFault
 step world text = text_outcome world (unnumbered_line text (state_in world))
 
@@ -161,6 +163,7 @@ step world text = text_outcome world (unnumbered_line text (state_in world))
 abbrev pub too_many : LineFault
 too_many = why.Lines
 
+-- And of a line over the limit of octets.
 abbrev pub too_long : LineFault
 too_long = why.TooLong
 

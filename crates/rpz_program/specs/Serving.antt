@@ -116,7 +116,7 @@ abbrev pub StopsIn : (List (Stage ServerState RunTurn) → List ℕ → ServerSt
 StopsIn runs turns gathering before after =
     (after ≡ before) ⊎ StopsRun runs turns gathering before after
 
--- a server that began so is done
+-- A server that began so is done: its run was whole, and all its lines were written.
 abbrev pub ServesWhole : ServerStart → Option ℕ → Gathering → Option (List ℕ) → Option (List ℕ) →
     Option PlainWires → Type 0
 ServesWhole start turns gathering before after told =

@@ -35,7 +35,7 @@ text_of SocketFault = Some (codes "rpz: socket fault")
 text_of StartFault = Some (codes "rpz: start fault")
 text_of OutOfMemory = Some (codes "rpz: out of memory")
 
--- the words were refused
+-- The words of the command line were refused.
 abbrev pub IsUsage : Status → Type 0
 IsUsage Done = ⊥
 IsUsage (Usage cause) = ⊤

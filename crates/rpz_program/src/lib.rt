@@ -1,5 +1,5 @@
-//! The commands of `rpz`, which answers queries by response policy zones (draft-vixie-dnsop-dns-rpz), over any source,
-//! sink and memory.
+//! The commands of `rpz`, which answers queries by response policy zones (draft-vixie-dnsop-dns-rpz): `replay`, `serve` and
+//! `load`, over any streams, network, threads and memory.
 #![tactic(auto)]
 
 mod answerers;

@@ -39,7 +39,7 @@ pub record IsLoadable (settings : LoadSettings) : Type 0 where
   pub some_workers : 1 ≤ settings.workers
   pub few_workers : settings.workers ≤ LOAD_WORKER_LIMIT
 
--- the same of all that words may ask for
+-- All numbers and lists that a command line asks for are within their bounds.
 abbrev pub IsWithinLimits : Command → Type 0
 IsWithinLimits Replay = Unit {0}
 IsWithinLimits (Serve settings) = IsServable settings

@@ -1,4 +1,4 @@
-//! What the words of a command line ask for.
+//! Reads the words of a command line: a command with its settings, a page of help, or the cause of a usage error.
 #![tactic(auto)]
 
 mod allowed;

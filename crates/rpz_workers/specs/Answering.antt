@@ -21,9 +21,9 @@ use Rattle.rpz_workers.specs.declared.item.Job.{Job}
 use Rattle.rpz_workers.specs.declared.obtained.Obtained.{Obtained}
 use Rattle.rpz_workers.specs.Obtaining.{Inquiry, Obtains, limit_of}
 
--- what contracts see of a worker: the list of transfers that it saw last and the longest that it was told, the entries of its cache
--- and how many there may be, where it tells them, the IDs that are still to come, where they are known, how often its link has
--- failed, and what it obtained for its last query, in order
+-- What contracts see of a worker. These are the list of transfers that it saw last and the longest that it was told, the
+-- entries of its cache and how many there may be, if it tells them, the IDs that are still to come, if they are known, how
+-- often its link has failed, and what it obtained for its last query, in order.
 pub record PlainWorker (L : Type 0) : Type 0 where
   pub known : Known
   pub cached : Option Recent
@@ -51,9 +51,9 @@ abbrev pub incoming_for : Store → Job → Incoming
 incoming_for store job =
     incoming_of (is_allowed store.allowed job.peer.addr) job.message job.peer.addr job.transport
 
--- The message is answered by the policy after the list of transfers that is then seen, which begins with the one that was seen
--- before and with each that the worker was told, and by the facts that the query obtained, one after another, each for the question
--- that comes next; after the last nothing is asked, and this is said.
+-- The message is answered by the policy after the list of transfers that is then seen, and by the facts that the query
+-- obtained. The list begins with the one that was seen before and with each that the worker was told. The facts are obtained
+-- one after another, each for the question that comes next; after the last nothing is asked, and this is said.
 pub record IsAnswer {L : Type 0} (store : Store)
     (gave : List ℕ → List ℕ → ℕ → Type 0) (passes_on : Bool) (job : Job) (now : ℕ) (said : Said)
     (old new : PlainWorker L) : Type 0 where

@@ -26,6 +26,7 @@ pub record ConnectionState (L : Type 0) : Type 0 where
   pub left : Option (List ℕ)
   pub held : Option (List ℕ)
 
+-- The state of a connection by its parts.
 abbrev pub connection_state : {L : Type 0} → PlainWorker L → Option (List ℕ) →
     Option (List PlainPassed) → Option (List ℕ) → Option (List ℕ) → ConnectionState L
 connection_state worker moments passed left held =
@@ -114,6 +115,7 @@ pub record FaultCounts : Type 0 where
   pub sink_before : ℕ
   pub sink_after : ℕ
 
+-- Counts of faults, by their parts.
 abbrev pub fault_counts : ℕ → ℕ → ℕ → ℕ → FaultCounts
 fault_counts source_before source_after sink_before sink_after =
     record {

@@ -35,6 +35,7 @@ pub record WorkerState (L S K : Type 0) : Type 0 where
   pub closings : Option (Closings S K)
   pub send_faults : ℕ
 
+-- The state of a worker by its parts.
 abbrev pub worker_state : {L S K : Type 0} → PlainWorker L → Option (List ℕ) →
     Option (List PlainPassed) → Option (List PlainReply) → Option (Closings S K) → ℕ →
     WorkerState L S K
@@ -55,6 +56,7 @@ pub record StreamViews (S K : Type 0) : Type 0 where
   pub held : K → Option (List ℕ)
   pub sink_faults : K → ℕ
 
+-- Views of streams by their parts.
 abbrev pub stream_views : {S K : Type 0} → (S → Option (List ℕ)) → (S → ℕ) → (K → Option (List ℕ)) →
     (K → ℕ) → StreamViews S K
 stream_views left source_faults held sink_faults =

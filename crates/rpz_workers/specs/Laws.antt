@@ -29,14 +29,15 @@ pub record IsHit {L : Type 0} (now : ℕ) (asked : Question) (entry : PlainLearn
   pub is_found : HasLiveEntry now asked entry stage.before.cached
   pub serves : Serves asked now entry
 
--- if this stage asks a question like this one, this entry of the cache answers it
+-- If this stage asks a question of the same key, this entry of the cache answers it.
 abbrev pub HitsFor : {L : Type 0} → PlainPolicy → Incoming → ℕ → Question → PlainLearned →
     Stage Inquiry (Obtained L) → Type 0
 HitsFor policy incoming now question entry stage =
     (asked : Question) → turn_by policy incoming stage.before.facts ≡ turn.Ask asked →
     key_of asked ≡ key_of question → IsHit now asked entry stage
 
--- A message is told what it alone says, and nothing was obtained for it: the cache, the IDs and the link are as they were.
+-- A message gets the reply that depends on its bytes only, and nothing was obtained for it. The cache, the IDs and the link are
+-- as they were.
 pub record IsTurnedAway {L : Type 0} (message : List ℕ) (said : Said)
     (old new : PlainWorker L) : Type 0 where
   pub said_is : said ≡ said_outside message

@@ -19,8 +19,8 @@ use Rattle.reply_build.specs.declared.turn.Turn.TheVariants as turn
 use Rattle.rpz_workers.specs.declared.obtained.Obtained.{Obtained}
 use Rattle.rpz_workers.specs.declared.obtained.Obtained.TheVariants.{Learned, Failed}
 
--- what contracts see between two questions of a query: what is known, the entries of the cache and how many there may be, where it
--- tells them, the IDs that are still to come, where they are known, and how often the link has failed
+-- What contracts see between two questions of a query. These are what is known, the entries of the cache and how many there may
+-- be, if it tells them, the IDs that are still to come, if they are known, and how often the link has failed.
 pub record Inquiry : Type 0 where
   pub facts : PlainFacts
   pub cached : Option Recent

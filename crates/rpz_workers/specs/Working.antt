@@ -15,6 +15,7 @@ pub record RunState (L N S K : Type 0) : Type 0 where
   pub coming : Option (List (Item N S K))
   pub state : WorkerState L S K
 
+-- The state of a run by its parts.
 abbrev pub run_state : {L N S K : Type 0} → Option (List (Item N S K)) → WorkerState L S K →
     RunState L N S K
 run_state coming state = record { coming = coming; state = state }

@@ -1,4 +1,5 @@
-//! Workers: each takes items, and answers queries by the policy that is published, over a link to the upstream.
+//! The workers of a server: they answer messages by the published policy and the cache, and pass those that need the upstream
+//! on to workers that ask it.
 #![tactic(auto)]
 
 mod answered;

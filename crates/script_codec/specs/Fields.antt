@@ -9,6 +9,7 @@ use Rattle.dns_name.specs.Reading.{◌>>=◌}
 abbrev pub is_space : ℕ → Bool
 is_space b = b == 32
 
+-- The fields of a line, between single spaces.
 abbrev pub fields_of : List ℕ → List (List ℕ)
 fields_of text = slice_split is_space text
 

@@ -14,9 +14,10 @@ use Rattle.policy_override.specs.ZoneSet.{has_zone_name, origins_in}
 use Rattle.dns_name.specs.Reading.{◌>>=◌}
 use Rattle.script_codec.specs.Outcome.{refuse_if}
 
--- All lines so far were zone lines, which opened zones of these origins, zone 1 first, primary lines, by which each of these zones
--- has a primary or none, and allow lines, which named these networks; or there were others, and there are so many zones, and the
--- list says of each worker, worker 0 first, whether it has a pending query.
+-- What a line is read by: the zones that were opened, or how many there are and which workers wait. While all lines were zone
+-- lines, primary lines and allow lines: the origins of the zones, zone 1 first, the primary of each or none, and the networks
+-- that were named. After any other line: the number of zones, and for each worker, worker 0 first, whether it has a pending
+-- query.
 pub data PlainState : Type 0 where
   opening : List Name → List (Option Addr) → List PlainPrefix → PlainState
   running : ℕ → List Bool → PlainState

@@ -1,4 +1,4 @@
-//! The lines of a script, and the lines of the transcript of its replay.
+//! Reads the lines of a script of `rpz replay`, and writes the lines of its transcript.
 #![tactic(auto)]
 
 mod field;

@@ -31,6 +31,7 @@ module _ {M W : Type 0} (too_many too_long : W) (step : M → List ℕ → Resul
       else (if nat_lt LINE_BYTES (length line) then Err too_long
       else counting_on old.0 (step old.1 line))
 
+  -- what lines output, and the state after them or the first that is refused
   abbrev pub run_of : ℕ × M → List (List ℕ) → Run M W
   run_of old [] = ([], Ok old)
   run_of old (line ∷ lines) = run_on old.0 (line_outcome old line) (λ next. run_of next lines)

@@ -18,7 +18,7 @@ Steps gives (Ok u) new reply = gives ≡ Ok (new, reply)
 Steps gives (Err (Refused why)) new reply = gives ≡ Err why
 Steps gives (Err NoMemory) new reply = ⊤
 
--- the list begins with the first
+-- The second list begins with the first.
 abbrev pub IsPrefix : List ℕ → List ℕ → Type 0
 IsPrefix first all = (rest : List ℕ) × (all ≡ first ++ rest)
 
@@ -31,8 +31,8 @@ pub record Moves (left_before left_after out_before out_after : Option (List ℕ
   pub to_sink : out_after ≡ appended out_before written
   pub have : P read written
 
--- No more of the source was read than the chunk in which the line ends: what was read is, but for a chunk at its end,
--- too short to have the line feed of this line.
+-- No more of the source was read than the chunk in which the line ends. What was read is, but for a chunk at its end, too short
+-- to have the line feed of this line.
 pub record ReadsNoFurther (line : ℕ) (left_before left_after : Option (List ℕ)) : Type 0 where
   pub first : List ℕ
   pub chunk : List ℕ

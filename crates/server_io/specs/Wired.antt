@@ -52,18 +52,23 @@ new_wires wakes =
 abbrev pub with_turns : ℕ → PlainWires → PlainWires
 with_turns turns wires = record wires { turns = Some turns }
 
+-- The same after these limits were set on connections of clients.
 abbrev pub with_admitted : ConnectionLimits → PlainWires → PlainWires
 with_admitted limits wires = record wires { admitted = Some limits }
 
+-- The same after these endpoints were bound.
 abbrev pub with_bound : List Endpoint → PlainWires → PlainWires
 with_bound all wires = record wires { bound = wires.bound ++ all }
 
+-- The same after an inlet for the datagrams of this listener was made.
 abbrev pub with_inlet : ℕ → PlainWires → PlainWires
 with_inlet listener wires = record wires { inlets = wires.inlets ++ listener ∷ [] }
 
+-- The same after a link to this upstream was made.
 abbrev pub with_linked : Endpoint → PlainWires → PlainWires
 with_linked at wires = record wires { linked = wires.linked ++ at ∷ [] }
 
+-- The same after this transfer was ordered.
 abbrev pub with_ordered : PlainOrder → PlainWires → PlainWires
 with_ordered order wires = record wires { ordered = wires.ordered ++ order ∷ [] }
 
@@ -120,7 +125,7 @@ IsOrderFault WriteFault = ⊤
 IsOrderFault FetchFault = ⊤
 IsOrderFault why = ⊥
 
--- such an end is given only where this holds
+-- A wake says that a connection to a primary failed only if this holds.
 abbrev pub BlamesOrder : Result Wake WireError → Type 0 → Type 0
 BlamesOrder (Ok (wake.Over order why)) blame = IsOrderFault why → blame
 BlamesOrder result blame = ⊤

@@ -1,5 +1,5 @@
-//! What a server has outside it, as traits: the arrivals that its threads take, replies, and the network itself with what comes
-//! of transfers that are ordered.
+//! Traits for what only a server needs from outside: the arrivals that its threads take, replies to clients, and the network
+//! with its transfers and other events.
 //!
 //! Each but the inlets counts its faults. For those in memory contracts also know what was sent, bound and ordered, and what is
 //! still to come, so that they can say what a server did. Over sockets only the counts are known.

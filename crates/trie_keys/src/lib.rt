@@ -1,5 +1,4 @@
-//! What tries have in common: keys that are strings of symbols with their laws (in specs/), what a trie keeps at a key, and a
-//! count of steps.
+//! What the tries share: keys as strings of symbols with their laws, what a trie stores at a key, and a count of steps.
 #![tactic(auto)]
 
 mod mark;

@@ -1,5 +1,5 @@
-//! Triggers of a policy zone, which the owners of its rules name (draft-vixie-dnsop-dns-rpz, section 4),
-//! and the one canonical owner of a trigger.
+//! Reads the trigger of a rule from the owner of its row (draft-vixie-dnsop-dns-rpz, section 4), and writes the one canonical
+//! owner of a trigger.
 #![tactic(auto)]
 
 mod address;

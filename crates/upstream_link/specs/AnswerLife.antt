@@ -19,13 +19,15 @@ minimum_by (Err fault) = 0
 abbrev pub soa_limit : PlainRecord → ℕ
 soa_limit r = min (min r.ttl (minimum_by (soa_in r.ttl r.rdata))) LIFE_LIMIT
 
+-- For how many seconds an answer of these parts may be kept (RFC 2308, section 5).
 abbrev pub life_by : ℕ → List PlainRecord → Option PlainRecord → ℕ
 life_by rcode answers (Some soa) = least_ttl (soa_limit soa) answers
 life_by rcode answers None =
     if rcode == 3 || length answers == 0 then 0 else least_ttl LIFE_LIMIT answers
 
--- For how many seconds an answer may be kept: the least of the TTLs of its answers and, where there is a SOA, of the SOA's TTL
--- and its MINIMUM, and a day at most. Without a SOA it isn't kept where the name doesn't exist, or where it has no answers.
+-- For how many seconds an answer may be kept (RFC 2308, section 5). The least of the TTLs of its answers and, if there is a
+-- SOA, of the SOA's TTL and its MINIMUM, and a day at most. Without a SOA it isn't kept if the name doesn't exist, or if it has
+-- no answers.
 abbrev pub life_in : PlainAnswer → ℕ
 life_in answer = life_by answer.rcode answer.answers answer.soa
 

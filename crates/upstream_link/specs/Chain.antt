@@ -66,8 +66,8 @@ chain_from (suc left) records names last =
 abbrev pub asks_alias : ℕ → Bool
 asks_alias qtype = qtype == CNAME || qtype == ANY
 
--- The names of the chain that the answer to a question shows, from the name of the question on; None where there are more
--- than CHAIN_LIMIT.
+-- The names of the chain of aliases that an answer shows, from the name of the question on (RFC 1034, section 3.6.2). None if
+-- there are more than CHAIN_LIMIT.
 abbrev pub chain : Question → Fact → Option (List Name)
 chain question (Broken why) = Some (question.name ∷ [])
 chain question (Answer answer) =

@@ -63,6 +63,6 @@ fact_by octets id question (Ok m) =
     if answers_to id question m then fact_in m else Broken (Unusable octets)
 fact_by octets id question (Err fault) = Broken (Unusable octets)
 
--- What the bytes say that came for a question in a message of this ID.
+-- What the bytes say that came for a question in a message of this ID: an answer, or that it can't be used.
 unfoldable pub fact_from : List ℕ → ℕ → Question → Fact
 fact_from octets id question = fact_by octets id question (message_of octets)

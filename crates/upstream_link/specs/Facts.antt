@@ -14,6 +14,7 @@ use Rattle.upstream_link.specs.Fact.{same_question}
 use Rattle.upstream_link.specs.Kept.{IsAnswer}
 use Rattle.upstream_link.specs.Question.{question_of, main_question}
 
+-- What is known for a query: questions, each with its answer or the fault of it.
 abbrev pub PlainFacts : Type 0
 PlainFacts = List (Question × Fact)
 
@@ -21,6 +22,7 @@ PlainFacts = List (Question × Fact)
 abbrev pub fact_about : PlainFacts → Question → Option Fact
 fact_about facts question = option_map (λ e. e.1) (find (λ e. same_question e.0 question) facts)
 
+-- The question was answered, or is known to have no usable answer.
 abbrev pub is_known : PlainFacts → Question → Bool
 is_known facts question = is_some (fact_about facts question)
 
@@ -67,6 +69,7 @@ abbrev pub answer_octets : Fact → ℕ
 answer_octets (Answer answer) = length (flat_map lasting_octets answer.answers)
 answer_octets (Broken why) = 0
 
+-- Each fact is what a response may be kept as.
 abbrev pub AreKept : PlainFacts → Type 0
 AreKept facts = AllByRecursion (λ e. IsKept e.1) facts
 

@@ -13,6 +13,7 @@ pub record PlainAnswer : Type 0 where
   pub soa : Option PlainRecord
   pub age : ℕ
 
+-- An answer by its rcode, its records, its SOA record and its age.
 abbrev pub plain_answer : ℕ → List PlainRecord → Option PlainRecord → ℕ → PlainAnswer
 plain_answer rcode answers soa age =
     record { rcode = rcode; answers = answers; soa = soa; age = age }

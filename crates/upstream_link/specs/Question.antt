@@ -31,6 +31,6 @@ question_message id question = record {
   edns = None;
 }
 
--- its bytes
+-- The octets of the message that asks a question.
 abbrev pub question_bytes : ℕ → Question → List ℕ
 question_bytes id question = spelling (question_message id question)

@@ -17,7 +17,7 @@ longest_first [] = []
 longest_first (label ∷ []) = []
 longest_first (label ∷ next ∷ labels) = (label ∷ next ∷ labels) ∷ longest_first (next ∷ labels)
 
--- the same, from two labels upward
+-- A name and the names above it that have at least two labels, the shortest first.
 abbrev pub ancestors : Name → List Name
 ancestors name = reverse (longest_first name)
 

@@ -13,23 +13,24 @@ pub record PlainLearned : Type 0 where
   pub bytes : List ℕ
   pub moment : ℕ
 
+-- What was learned, by its question, ID, bytes and second.
 abbrev pub plain_learned : Question → ℕ → List ℕ → ℕ → PlainLearned
 plain_learned question id bytes moment =
     record { question = question; id = id; bytes = bytes; moment = moment }
 
--- what the bytes say
+-- What the bytes of a learned entry say.
 abbrev pub entry_fact : PlainLearned → Fact
 entry_fact entry = fact_from entry.bytes entry.id entry.question
 
--- for how many seconds that may be kept
+-- For how many seconds a learned entry may be kept.
 abbrev pub life : PlainLearned → ℕ
 life entry = life_of (entry_fact entry)
 
--- It has come by now, and its life isn't over.
+-- A learned entry may be used at this second: it has come, and its life isn't over.
 abbrev pub live : ℕ → PlainLearned → Bool
 live now entry = nat_le entry.moment now && nat_lt (now - entry.moment) (life entry)
 
--- what it says now, at its age
+-- What a learned entry says at a second, at its age.
 abbrev pub fact_at : ℕ → PlainLearned → Fact
 fact_at now entry = with_age (now - entry.moment) (entry_fact entry)
 
@@ -44,8 +45,8 @@ pub record IsGiven (gave : List ℕ → List ℕ → ℕ → Type 0) (entry : Pl
   pub given : gave (question_bytes entry.id entry.question) entry.bytes entry.moment
   pub said : fact ≡ entry_fact entry
 
--- A link of the kind gave some bytes for the question: these say the fact, at its age, and its life isn't over, unless they
--- have come in this second.
+-- A link gave bytes for the question that say this fact, at its age, and its life isn't over, unless they came in this second.
+-- By the law bytes_say_that_something_came such a fact is never that nothing came.
 pub record Vouched (gave : List ℕ → List ℕ → ℕ → Type 0) (question : Question) (fact : Fact)
     (now : ℕ) : Type 0 where
   pub id : ℕ

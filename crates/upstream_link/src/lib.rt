@@ -1,4 +1,5 @@
-//! Questions to the upstream, and the facts that are learned from its answers.
+//! Questions to the upstream, and the facts that its answers give: records, chains of aliases, name servers, and for how long
+//! they may be kept.
 #![tactic(auto)]
 
 mod addresses;

@@ -13,7 +13,7 @@ use Rattle.trigger_codec.specs.declared.by_kind.ByKind.{ByKind}
 abbrev pub PlainGroups : Type 0
 PlainGroups = ByKind (List (PlainPrefix × List PlainRow)) (List (PlainPattern × List PlainRow))
 
--- actions
+-- The rules of each kind of trigger with their actions, in order of precedence.
 abbrev pub PlainRules : Type 0
 PlainRules = ByKind (List (PlainPrefix × Action)) (List (PlainPattern × Action))
 

@@ -1,4 +1,8 @@
-//! A policy zone with its rules, found by trigger.
+//! A policy zone with its rules: takes transfers of its rows, and finds its rules by trigger.
+//!
+//! It has three layers. Rows are stored and edited in `indexed`, `editing`, `stepping` and `finding`. The index of triggers is
+//! `trigger_index`, over `tries`, `patterns`, `prefixes` and `places`; `looking` and `lending` find a rule and lend it. The
+//! index of a whole transfer is made at once in `gathering`, `index_entries` and `place_entries`.
 #![tactic(auto)]
 
 mod acting_entries;

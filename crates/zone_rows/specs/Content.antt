@@ -8,6 +8,7 @@ use Rattle.zone_rows.specs.declared.zone.PlainZone.{PlainZone}
 abbrev pub unloaded : Name → PlainZone
 unloaded origin = record { origin = origin; content = None }
 
+-- The serial of what a zone holds, if anything is loaded.
 abbrev pub content_serial : Option Content → Option ℕ
 content_serial None = None
 content_serial (Some content) = Some content.soa.serial

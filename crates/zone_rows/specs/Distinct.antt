@@ -31,8 +31,7 @@ pub record Precedes (rows : List PlainRow) (row other : PlainRow) : Type 0 where
 abbrev pub HasDistinctRows : PlainZone → Type 0
 HasDistinctRows zone = IfSome zone.content (λ content. AreDistinct content.rows)
 
--- what makes the rows of the zone distinct after a transfer: nothing where it is whole, that they are distinct before where it
--- has steps
+-- What makes a zone's rows distinct after a transfer: nothing if it is whole, distinct rows before if it has steps.
 abbrev pub BeginsDistinct : PlainZone → Transfer → Type 0
 BeginsDistinct zone (Whole soa rows) = Unit {0}
 BeginsDistinct zone (Steps steps) = HasDistinctRows zone

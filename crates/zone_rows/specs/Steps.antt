@@ -11,8 +11,8 @@ use Rattle.zone_rows.specs.declared.steps.Step.{Step}
 use Rattle.zone_rows.specs.declared.zone.Content.{Content}
 use Rattle.zone_rows.specs.Repeats.{has_row}
 
--- A step: the SOA of the version that it begins with, the rows that it takes out, the SOA of the version that it makes, and the
--- rows that it puts in.
+-- A step of an incremental transfer (RFC 1995, section 4). It has the SOA of the version that it begins with, the rows that it
+-- takes out, the SOA of the version that it makes, and the rows that it puts in.
 abbrev pub PlainStep : Type 0
 PlainStep = Step
 

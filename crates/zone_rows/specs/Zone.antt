@@ -41,7 +41,7 @@ apply_outcome_within bound zone (Steps steps) = do
 abbrev pub apply_outcome : PlainZone → Transfer → Result PlainZone ApplyFault
 apply_outcome zone transfer = apply_outcome_within ROW_LIMIT zone transfer
 
--- What a function returned is this, unless memory ran out.
+-- A function failed with this fault, or memory ran out.
 abbrev pub Fails : {X : Type 0} → ApplyError → Result X ApplyFault → Type 0
 Fails errors.OutOfMemory outcome = Unit {0}
 Fails (errors.Fault f) outcome = outcome ≡ Err f

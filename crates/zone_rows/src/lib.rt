@@ -1,4 +1,4 @@
-//! Lists of rows, whole transfers of zones, and what a zone is after a transfer.
+//! A policy zone as a list of rows, and what a transfer makes of it.
 #![tactic(auto)]
 
 mod draft;

@@ -1,5 +1,5 @@
 use Rattle.std.proofs.Common.{◌≡◌, ◌+◌, ◌-◌, ◌*◌, ◌/◌, ◌%◌, Some, length, slice_get, slice_range, ap, sym, arith, ◌∙◌}
-use Rattle.packed_lists.proofs.Blocks.{length_all, range_full, range_rest}
+use Rattle.packed_lists.proofs.SharedBlocks.{length_all, range_full, range_rest}
 use Rattle.packed_lists.proofs.octets.SharedOctets.get.Goals as goal
 
 pub slice_bounds-result-end-else-block-len : goal.slice_bounds-result-end-else-block-len

@@ -1,5 +1,5 @@
 use Rattle.std.proofs.Common.{◌≡◌, ◌+◌, ◌*◌, length, ap, sym, arith, ◌∙◌}
-use Rattle.packed_lists.proofs.Blocks.{length_all}
+use Rattle.packed_lists.proofs.SharedBlocks.{length_all}
 use Rattle.packed_lists.proofs.octets.SharedOctets.len.Goals as goal
 
 pub returns-clause-len : goal.returns-clause-len

@@ -1,6 +1,6 @@
 use Rattle.std.proofs.Common.{◌≡◌, ◌+◌, ◌*◌, ◌++◌, [], length, ap, sym, arith, ◌∙◌, append_assoc, length-append}
 use Rattle.std.specs.List.{flat_map}
-use Rattle.packed_lists.proofs.Blocks.{length_all}
+use Rattle.packed_lists.proofs.SharedBlocks.{length_all}
 use Rattle.packed_lists.proofs.octets.SharedOctets.push.Goals as goal
 
 pub returns-clause-ok : goal.returns-clause-ok

@@ -1,6 +1,6 @@
 use Rattle.std.proofs.Common.{◌≡◌, ◌+◌, ◌*◌, ◌++◌, [], ◌∷◌, length, ap, sym, arith, ◌∙◌, length-append}
 use Rattle.std.specs.List.{flat_map}
-use Rattle.packed_lists.proofs.Blocks.{block_came, length_all}
+use Rattle.packed_lists.proofs.SharedBlocks.{block_came, length_all}
 use Rattle.packed_lists.proofs.octets.SharedOctets.push_to_new_block.Goals as goal
 
 pub returns-clause-ok : goal.returns-clause-ok

@@ -1,5 +1,5 @@
 use Rattle.std.proofs.Common.{◌≡◌, ◌+◌, ◌-◌, ◌*◌, ◌/◌, ◌%◌, ◌<◌, Some, length, slice_get, ap, sym, arith, ◌∙◌}
-use Rattle.packed_lists.proofs.Blocks.{length_all, got, get_full, get_rest, block_is_full}
+use Rattle.packed_lists.proofs.SharedBlocks.{length_all, got, get_full, get_rest, block_is_full}
 use Rattle.packed_lists.proofs.shared_list.SharedList.get.Goals as goal
 
 pub index-requires-else-block-len : goal.index-requires-else-block-len

@@ -1,7 +1,7 @@
 use Rattle.std.proofs.Common.{◌≡◌, ◌+◌, ◌-◌, ◌*◌, ◌/◌, ◌%◌, ◌<◌, Some, length, map, slice_get, ap, sym, arith, ◌∙◌}
 use Rattle.std.proofs.lemmas.Option.{slice_get-map}
 use Rattle.std.specs.Option.{option_map}
-use Rattle.packed_lists.proofs.Blocks.{as_many, length_all, got, get_full, get_rest, block_is_full}
+use Rattle.packed_lists.proofs.SharedBlocks.{as_many, length_all, got, get_full, get_rest, block_is_full}
 use Rattle.packed_lists.proofs.table.SharedTable.get.Goals as goal
 
 -- src/lib.rt:70:14

@@ -1,5 +1,5 @@
 use Rattle.std.proofs.Common.{◌≡◌, ◌+◌, ◌*◌, length, map, ap, sym, arith, ◌∙◌}
-use Rattle.packed_lists.proofs.Blocks.{as_many, length_all}
+use Rattle.packed_lists.proofs.SharedBlocks.{as_many, length_all}
 use Rattle.packed_lists.proofs.table.SharedTable.len.Goals as goal
 
 -- src/lib.rt:61:9

@@ -4,7 +4,7 @@ use Rattle.std.proofs.lemmas.List.{map-set, length-set}
 use Rattle.std.proofs.lemmas.Option.{slice_get-map}
 use Rattle.std.specs.List.{flat_map, AllByRecursion}
 use Rattle.std.specs.Option.{option_map}
-use Rattle.packed_lists.proofs.Blocks.{as_many, length_all, got, block_is_full, set_full, full_set, set_rest}
+use Rattle.packed_lists.proofs.SharedBlocks.{as_many, length_all, got, block_is_full, set_full, full_set, set_rest}
 use Rattle.packed_lists.proofs.table.SharedTable.set.Goals as goal
 
 pub share_but-requires : goal.share_but-requires
