@@ -6,8 +6,8 @@ fn laws_do_nothing() {
     networks::laws::another_version_is_never_in();
     networks::laws::a_network_has_no_bit_behind_its_length();
     networks::laws::a_network_is_found_by_its_value();
-    networks::laws::a_text_is_read_by_its_cases();
-    networks::laws::what_is_written_is_read_back();
+    networks::text_laws::a_text_is_read_by_its_cases();
+    networks::text_laws::what_is_written_is_read_back();
     dns_record::laws::a_number_is_read_where_it_stands();
     dns_record::laws::a_record_is_read_where_it_stands();
     dns_record::laws::a_record_is_read_by_its_grammar();

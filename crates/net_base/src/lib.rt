@@ -25,7 +25,7 @@ mod wire_state;
 
 pub use address::{address_of, peer_of};
 pub use frame_gauge::FrameGauge;
-pub use notices::{Notice, NoticeReceiver, NoticeSender, Noticed, notices};
+pub use notices::{Notice, NoticeReceiver, NoticeSender, Noticed, notice_queues};
 pub use random_ids::RandomIds;
 pub use read_buffer::ReadBuffer;
 pub use shortage::is_shortage;
@@ -37,7 +37,7 @@ pub use standard_streams::take_free_numbers;
 pub use system_clock::SystemClock;
 pub use tcp_sink::TcpSink;
 pub use tcp_source::TcpSource;
-pub use thread_starter::{Job, JobSender, KeptJob, ThreadStarter, thread_starter};
+pub use thread_starter::{Job, JobSender, KeptJob, ThreadStarter, start_starter};
 pub use time_limit::{TimeLimit, moment_after, time_until};
 pub use wake_signal::WakeSignal;
 pub use wire_state::WireState;

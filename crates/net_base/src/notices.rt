@@ -44,7 +44,7 @@ pub enum Noticed {
 }
 
 /// Two queues for NOTIFYs.
-pub fn notices(
+pub fn notice_queues(
     alloc: Global,
     state: Arc<WireState>,
 ) -> Result<(NoticeSender, NoticeReceiver), AllocError> {

@@ -95,7 +95,7 @@ impl<J: Job> ThreadStarter<J> {
 }
 
 /// Starts the thread that starts others.
-pub fn thread_starter<
+pub fn start_starter<
     R: time::Clock + Wait + Threads + Copy + Drop + Send + 'static,
     J: Job + Send + 'static,
 >(rt: R, alloc: Global) -> Result<ThreadStarter<J>, AllocError> {

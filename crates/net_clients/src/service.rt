@@ -15,7 +15,7 @@ use crossbeam_channel::{Receiver, Sender, bounded};
 use edge_io::{ConnectionLimits, Endpoint};
 use ip_prefix::Transport;
 use mio::{Events, Waker};
-use net_base::{Notice, NoticeReceiver, NoticeSender, Noticed, WireState, notices};
+use net_base::{Notice, NoticeReceiver, NoticeSender, Noticed, WireState, notice_queues};
 use server_io::{Peer, SendError, Wake, WireError};
 use std::alloc::{AllocError, Global};
 use std::net::{Net, TcpListener, TcpStream, UdpSocket};
@@ -49,7 +49,7 @@ impl<R: time::Clock + Wait + Drop> Rooms<R> {
         let events = Events::with_capacity(alloc, EVENTS)?;
         let scratch = vec![in alloc; 0; RECEIVE_BYTES]?;
         let queue = bounded(alloc, CONNECTION_QUEUE)?;
-        let notices = notices(alloc, Arc::try_clone(wires)?)?;
+        let notices = notice_queues(alloc, Arc::try_clone(wires)?)?;
         let another = notices.0.another()?;
         Ok(Rooms {
             events,

@@ -5,7 +5,7 @@ use crate::upstream_asker::UpstreamAsker;
 use crate::upstream_pool::UpstreamPool;
 use crate::upstream_reader::UpstreamReader;
 use edge_io::Endpoint;
-use net_base::{ThreadStarter, thread_starter};
+use net_base::{ThreadStarter, start_starter};
 use server_io::WireError;
 use std::alloc::{AllocError, Global};
 use std::net::{Net, TcpListener, TcpStream};
@@ -28,7 +28,7 @@ impl<R: time::Clock + Wait + Threads + Copy + Drop + Send + 'static> Upstreams<R
         Upstreams {
             alloc,
             pools: Vec::new(alloc),
-            starter: thread_starter(rt, alloc).ok(),
+            starter: start_starter(rt, alloc).ok(),
         }
     }
 

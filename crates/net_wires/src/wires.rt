@@ -10,7 +10,7 @@ use crate::waking::next_wake;
 use crate::wire_job::WireJob;
 use edge_io::{ConnectionLimits, Endpoint};
 use ip_prefix::Transport;
-use net_base::{ThreadStarter, WireState, take_free_numbers, thread_starter};
+use net_base::{ThreadStarter, WireState, start_starter, take_free_numbers};
 use net_clients::{
     ClientSink, ClientSource, ConnectionInlet, DatagramInlet, ServerReplies, Service,
 };
@@ -76,7 +76,7 @@ impl<
             turns: None,
             admitted: None,
             shared: WireState::new(alloc).ok(),
-            starter: thread_starter(rt, alloc).ok(),
+            starter: start_starter(rt, alloc).ok(),
             service: None,
             refused: None,
             orders: Orders::new(alloc),

@@ -22,7 +22,8 @@ use Rattle.trigger_codec.specs.Bases.{IsPattern, IsTrigger}
 use Rattle.trigger_codec.specs.declared.trigger.Trigger.{Trigger}
 use Rattle.trigger_codec.specs.declared.trigger.Trigger.TheVariants.{ClientIp, Qname, ResponseIp, NsDname, NsIp}
 use Rattle.action_codec.specs.declared.action.Action.{Action}
-use Rattle.summary_index.specs.Knowing.{Knows, none_fits}
+use Rattle.summary_index.specs.Knowing.{Knows}
+use Rattle.summary_index.proofs.Fitting.{none_fits}
 use Rattle.summary_index.specs.Summary.{PlainSummary, Standing}
 use Rattle.zone_index.specs.Addresses.{holds_within, is_held}
 use Rattle.zone_index.specs.Indexed.{HasRows}

@@ -9,7 +9,7 @@ ghost use Rattle.rpz_words.specs.Limits.{IsWithinLimits};
 ghost use Rattle.rpz_words.specs.Words.{command_of};
 ghost use Rattle.rpz_words.specs.declared.command.Command.{Command};
 
-use networks::laws::{a_text_is_read_by_its_cases, what_is_written_is_read_back};
+use networks::text_laws::{a_text_is_read_by_its_cases, what_is_written_is_read_back};
 
 /// What words ask for is within its limits: a server takes an arrival or more, has 1 to 16 endpoints of which no two are equal, 1 to 16
 /// workers that answer datagrams at each and 1 to 512 that ask the upstream, a cache of 16 to 1,048,576 answers, at most 64 networks

@@ -75,8 +75,8 @@ Options, anywhere behind `serve`:
                     NOTIFYs of primaries
 
 Examples:
-  rpz serve 192.0.2.53:53 127.0.0.1:5353 forever 4 rpz.example@127.0.0.1:5301
-  rpz serve '192.0.2.53:53,[2001:db8::53]:53' '[::1]:5353' forever 4 \\
+  rpz serve 192.0.2.53:53 127.0.0.1:5335 forever 4 rpz.example@127.0.0.1:5301
+  rpz serve '192.0.2.53:53,[2001:db8::53]:53' '[::1]:5335' forever 4 \\
       --allow 192.0.2.0/24,2001:db8::/32,127.0.0.1/32 'rpz.example@[::1]:5301'
 ";
 

@@ -7,3 +7,4 @@ pub mod MergedZones
 pub mod Patterns
 pub mod Listing
 pub mod WithoutZone
+pub mod Fitting
