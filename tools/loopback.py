@@ -6,8 +6,10 @@
 
 Each case starts PROGRAM (`rpz`) with a small primary and a small upstream (tools/attack/peers.py), on ports of its own from N on (24000),
 and looks at what goes there and back: datagrams, connections, limits of time, endpoints, NOTIFYs, transfers, and questions to the
-upstream. Prints a line for each case that fails, and at the end `N passed, M failed`; the status is 1 if one failed. It takes some 15
-seconds. Nothing of it needs a proof: no contract says what a socket carries. What holds under floods is tried by tools/attack.
+upstream. A case that fails is tried once more by itself, since its limits of time are those of a machine with little else to do.
+Prints a line for each case that fails then, too, and at the end `N passed, M failed`; the status is 1 if one failed. It takes some 15
+seconds. Nothing of it needs a proof: no contract says what a socket carries. What holds under floods is tried by tools/attack. On a host
+without version 6 of IP its cases pass by, and a line says so.
 """
 import argparse
 import contextlib
@@ -36,6 +38,13 @@ class Failed(Exception):
     pass
 
 
+def has_version_6():
+    with contextlib.suppress(OSError), socket.socket(socket.AF_INET6) as sock:
+        sock.bind(("::1", 0))
+        return True
+    return False
+
+
 def expect(holds, said):
     if not holds:
         raise Failed(said)
@@ -43,6 +52,14 @@ def expect(holds, said):
 
 def case(run):
     CASES.append(run)
+    return run
+
+
+def of_version_6(run):
+    """A case that needs version 6 of IP."""
+    if has_version_6():
+        return case(run)
+    print(f"loopback: {run.__name__} isn't tried: no version 6 of IP here")
     return run
 
 
@@ -167,7 +184,7 @@ def no_client_holds_a_worker(program, port):
             sock.sendall(wire.frame(long)[:4_200] if number % 2 else wire.frame(long))
         begun = time.monotonic()
         expect(ask_over_tcp(port, BLOCKED, 3) == NXDOMAIN and ask(port, BLOCKED, 3) == NXDOMAIN, "another client isn't answered")
-        expect(time.monotonic() - begun < 1, "another client waits")
+        expect(time.monotonic() - begun < 2, "another client waits")
 
 
 @case
@@ -234,7 +251,7 @@ def a_signal_ends_what_waits(program, port):
 # ---- endpoints
 
 
-@case
+@of_version_6
 def each_reply_leaves_from_its_endpoint(program, port):
     with Scene(program, port, more_hosts=(OTHER, V6)) as it:
         for host in (LOOPBACK, OTHER, V6):
@@ -259,7 +276,7 @@ def all_endpoints_are_bound_or_none(program, port):
             first.bind((LOOPBACK, port))
 
 
-@case
+@of_version_6
 def both_versions_of_ip_are_served(program, port):
     """With the primary and the upstream on version 6. Of version 4 one client alone may ask; the primary's NOTIFY is heard all the same."""
     with contextlib.ExitStack() as ends:
@@ -279,7 +296,7 @@ def both_versions_of_ip_are_served(program, port):
         server.wait_for("next.example", seconds=3)
 
 
-@case
+@of_version_6
 def an_endpoint_of_version_6_hears_nothing_of_version_4(program, port):
     with Scene(program, port, host="::", wait=False) as it:
         it.server.host = V6
@@ -423,6 +440,20 @@ def answers_come_in_any_order(program, port):
 
 
 @case
+def questions_wait_for_no_other(program, port):
+    """What a rule decides waits for no question, of its connection neither; and two askers ask beside each other."""
+    with Scene(program, port, options=("--askers", "2")) as it, it.connect() as sock, datagrams() as beside:
+        begun = time.monotonic()
+        for number, name in ((1, "slow.one.example"), (2, "slow.two.example"), (3, BLOCKED)):
+            sock.sendall(wire.frame(query(number, name)))
+        beside.sendto(query(4), (LOOPBACK, port))
+        expect(wire.rcode_of(beside.recv(512)) == NXDOMAIN and replies(sock, 1) == [(3, NXDOMAIN)], "what a rule decides")
+        expect(time.monotonic() - begun < 0.7, "what a rule decides waits")
+        expect(sorted(replies(sock, 2)) == [(1, 0), (2, 0)], "the answers of the upstream")
+        expect(time.monotonic() - begun < 1.8, "one question waits for the other")
+
+
+@case
 def a_question_goes_round_a_late_answer(program, port):
     """It is asked on another connection, once one is late on the first."""
     def serve(connection, number):
@@ -453,16 +484,26 @@ def a_silent_upstream_costs_the_time_once(program, port):
 
 @case
 def a_late_answer_ends_what_is_remembered(program, port):
-    """An answer that comes when nobody waits any more says that the upstream is well: the next question is asked."""
-    def serve(connection, _):
-        for count, message in enumerate(questions(connection)):
-            if count == 0:
-                time.sleep(5.3)
-            connection.sendall(answer_to(message))
+    """An answer that comes when nobody waits any more says that the upstream is well: the question is asked again. Another question
+    keeps the connection open meanwhile."""
+    seen = []
 
-    with Scene(program, port, upstream=echo(serve)) as it:
-        expect(ask(port, "late.example", 7) == SERVFAIL, "the first reply")
-        time.sleep(0.6)
+    def serve(connection, _):
+        for message in questions(connection):
+            name = wire.question_name(message)
+            seen.append(name)
+            if len(seen) == 1:
+                time.sleep(5.12)
+            if name != "hang.example":
+                connection.sendall(answer_to(message))
+
+    with Scene(program, port, upstream=echo(serve)), datagrams() as late, datagrams() as other:
+        late.settimeout(7)
+        late.sendto(query(1, "late.example"), (LOOPBACK, port))
+        time.sleep(0.3)
+        other.sendto(query(2, "hang.example"), (LOOPBACK, port))
+        expect(wire.rcode_of(late.recv(512)) == SERVFAIL, "the first reply")
+        time.sleep(0.8)
         expect(ask(port, "late.example", 2) == 0, "the second one")
 
 
@@ -525,7 +566,8 @@ def main():
     wanted = [(run, options.port + PORTS * place) for place, run in enumerate(CASES) if not options.cases or run.__name__ in options.cases]
     with ThreadPoolExecutor(options.jobs) as pool:
         found = list(pool.map(lambda it: outcome(it[0], options.program, it[1]), wanted))
-    failed = [(run.__name__, why) for (run, _), why in zip(wanted, found, strict=True) if why]
+    again = [it for it, why in zip(wanted, found, strict=True) if why]
+    failed = [(run.__name__, why) for run, port in again if (why := outcome(run, options.program, port))]
     for name, why in failed:
         print(f"loopback: {name}: {why}")
     print(f"{len(wanted) - len(failed)} passed, {len(failed)} failed")

@@ -13,6 +13,7 @@ Ends with `N passed, M failed`; the status is 1 if something failed. What proves
 import concurrent.futures
 import os
 import pathlib
+import shlex
 import shutil
 import signal
 import socket
@@ -53,6 +54,17 @@ def listener_of(port):
     return None
 
 
+def copied(process, folder):
+    """A script that runs the program of a process as it runs: through the loader of the kit, which its words name."""
+    words = pathlib.Path(f"/proc/{process}/cmdline").read_text(encoding="utf-8").split("\0")
+    place = words.index("serve") - 1
+    shutil.copy(words[place], f"{folder}/rpz.unproved")
+    script = pathlib.Path(f"{folder}/rpz")
+    script.write_text("#!/bin/sh\nexec " + shlex.join([*words[:place], f"{folder}/rpz.unproved"]) + ' "$@"\n', encoding="utf-8")
+    script.chmod(0o755)
+    return str(script)
+
+
 def built(folder):
     """The program, built without its proofs: `rt try` starts it as a server, and keeps no file, so it is copied while it runs."""
     words = ["rt", "try", "--seconds", str(BUILD_SECONDS), "--", "serve", f"127.0.0.1:{PORT}", "127.0.0.1:9", "1", "1", "rpz.example@127.0.0.1:9"]
@@ -65,7 +77,7 @@ def built(folder):
             print("  still building", flush=True)
             shown = time.monotonic()
         time.sleep(0.2)
-    program = shutil.copy(f"/proc/{listener_of(PORT)}/exe", f"{folder}/rpz")
+    program = copied(listener_of(PORT), folder)
     with socket.socket(socket.AF_INET, socket.SOCK_DGRAM) as sock:
         sock.sendto(bytes(12), ("127.0.0.1", PORT))  # the one arrival that ends it
     try:
@@ -88,7 +100,7 @@ def tried(program):
     with concurrent.futures.ThreadPoolExecutor(os.cpu_count()) as pool:
         for case, is_right in zip(cases, pool.map(lambda case: replayed(program, case), cases), strict=True):
             passed, failed = passed + is_right, failed + (not is_right)
-            if not is_right:
+            if not is_right and failed <= 10:
                 print(f"scenario {case.name}: python3 tools/scenarios.py --run PROGRAM {case.name} shows the difference")
     print(f"{len(cases)} scenarios", flush=True)
     return passed, failed

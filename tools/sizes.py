@@ -12,7 +12,7 @@ import pathlib
 import re
 
 ROOT = pathlib.Path(__file__).resolve().parent.parent
-OF_TESTS = ("net_tests", "library_tests", "run_tests", "worker_tests")
+OF_TESTS = ("library_tests", "run_tests", "worker_tests", "alloc_tests")
 
 
 def lines_of(files):

@@ -2,7 +2,7 @@
 //! random IDs of `edge_io` over the system's, NOTIFYs on their way to the thread that has the wires, and what starts threads.
 //!
 //! Every wait has a limit (`limits`, `TimeLimit`). What may be touched: each file by itself, and `limits`. No contract says what a socket
-//! gives or takes: a clause here counts faults or bounds an index. If something broke, the tests of net_tests and tools/attack tell.
+//! gives or takes: a clause here counts faults or bounds an index. If something broke, tools/loopback.py and tools/attack tell.
 #![tactic(auto)]
 
 mod address;

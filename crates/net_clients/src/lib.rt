@@ -5,8 +5,7 @@
 //! waits for a client.
 //!
 //! What may be touched: each file by itself. `service_state` and `shared_connection` are what threads share, each under locks that are
-//! held for a look. No contract says what a client gets: if something broke, the tests of net_tests (clients, connections, datagrams,
-//! listeners) and tools/attack tell.
+//! held for a look. No contract says what a client gets: if something broke, tools/loopback.py and tools/attack tell.
 #![tactic(auto)]
 
 mod bound_sockets;

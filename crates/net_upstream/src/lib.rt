@@ -5,7 +5,7 @@
 //! a thread of its own.
 //!
 //! What may be touched: each file by itself. A link counts its faults, which contracts of the crates above rest on; all else only tests
-//! show: net_tests (upstreams) and tools/attack (upstreams).
+//! show: tools/loopback.py and tools/attack (upstreams).
 #![tactic(auto)]
 
 mod answer_place;

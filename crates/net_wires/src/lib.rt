@@ -2,8 +2,8 @@
 //! from primary servers, each in a thread of its own.
 //!
 //! `NetWires` is all that a program makes. It counts its faults, which the contract of a run rests on, and tells nothing of what the
-//! network gives or takes. What may be touched: `transfer`, `orders` and `order_line` by themselves. If something broke, net_tests
-//! (primaries, notifies, ends) and tools/attack (primaries) tell.
+//! network gives or takes. What may be touched: `transfer`, `orders` and `order_line` by themselves. If something broke,
+//! tools/loopback.py and tools/attack (primaries) tell.
 #![tactic(auto)]
 
 pub mod limits;

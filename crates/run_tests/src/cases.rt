@@ -24,8 +24,7 @@ pub struct Moment {
 }
 
 /// A run: its words, what comes at each wait, and what the upstream gives; the numbers of the bind, of the order and of the start that
-/// fail; then how the run ends, what it writes, the replies, the ports of the primaries of which transfers were ordered, and what NOTIFYs
-/// were answered.
+/// fail; then how the run ends, what it writes, the replies, the transfers that were ordered, and what NOTIFYs were answered.
 pub struct Case {
     pub name: &'static str,
     pub words: &'static str,
@@ -37,9 +36,29 @@ pub struct Case {
     pub status: Status,
     pub written: &'static [u8],
     pub replies: &'static [&'static [u8]],
-    pub ordered: &'static [u16],
+    pub ordered: &'static [Asked],
     pub answered: &'static [&'static [u8]],
 }
+
+/// The port of a primary of which a transfer was ordered, and the request.
+pub type Asked = (u16, &'static [u8]);
+
+// Requests of the ID 0: for all of `rpz.example` and of `two.example` (RFC 5936, section 2.1), and for what is newer than the serial 1, with
+// our SOA as authority (RFC 1995, section 3).
+const ALL: Asked = (
+    5301,
+    b"\0\0\0\0\0\x01\0\0\0\0\0\0\x03rpz\x07example\0\0\xfc\0\x01",
+);
+
+const ALL_OF_TWO: Asked = (
+    5302,
+    b"\0\0\0\0\0\x01\0\0\0\0\0\0\x03two\x07example\0\0\xfc\0\x01",
+);
+
+const NEWER: Asked = (
+    5301,
+    b"\0\0\0\0\0\x01\0\0\0\x01\0\0\x03rpz\x07example\0\0\xfb\0\x01\x03rpz\x07example\0\0\x06\0\x01\0\0\0<\0\x16\0\0\0\0\0\x01\0\0\x0e\x10\0\0\x02X\0\x01Q\x80\0\0\0<",
+);
 
 const ONE_WORKER: &str =
     "serve --askers 2 127.0.0.1:5300 127.0.0.1:53 2 1 rpz.example@127.0.0.1:5301";
@@ -47,24 +66,24 @@ const ONE_WORKER: &str =
 const HELD_BACK: &str =
     "serve --hold 0 --askers 2 127.0.0.1:5300 127.0.0.1:53 2 1 rpz.example@127.0.0.1:5301";
 
-/// The transfer of `rpz.example` in one message of the ID 0 behind its length: the serial 1, and the row `bad.example` CNAME `.`.
-pub const TRANSFER: &[u8] = b"\0\x9b\0\0\x84\0\0\x01\0\x03\0\0\0\0\x03rpz\x07example\0\0\xfc\0\x01\
+// The transfer of `rpz.example` in one message of the ID 0 behind its length: the serial 1, and the row `bad.example` CNAME `.`.
+const TRANSFER: &[u8] = b"\0\x9b\0\0\x84\0\0\x01\0\x03\0\0\0\0\x03rpz\x07example\0\0\xfc\0\x01\
     \x03rpz\x07example\0\0\x06\0\x01\0\0\0<\0\x16\0\0\0\0\0\x01\0\0\x0e\x10\0\0\x02X\0\x01Q\x80\0\0\0<\
     \x03bad\x07example\x03rpz\x07example\0\0\x05\0\x01\0\0\0<\0\x01\0\
     \x03rpz\x07example\0\0\x06\0\x01\0\0\0<\0\x16\0\0\0\0\0\x01\0\0\x0e\x10\0\0\x02X\0\x01Q\x80\0\0\0<";
 
-/// The answer of the ID 0 that the serial 1 is the newest.
-pub const CURRENT: &[u8] = b"\0\x4a\0\0\x84\0\0\x01\0\x01\0\0\0\0\x03rpz\x07example\0\0\xfb\0\x01\
+// The answer of the ID 0 that the serial 1 is the newest.
+const CURRENT: &[u8] = b"\0\x4a\0\0\x84\0\0\x01\0\x01\0\0\0\0\x03rpz\x07example\0\0\xfb\0\x01\
     \x03rpz\x07example\0\0\x06\0\x01\0\0\0<\0\x16\0\0\0\0\0\x01\0\0\x0e\x10\0\0\x02X\0\x01Q\x80\0\0\0<";
 
 // Eleven bytes, one fewer than a header has.
 const SHORT: &[u8] = b"\x12\x34\x01\0\0\x01\0\0\0\0\0";
 
-/// The query of the ID 4660 for the address of `BAD.example`.
-pub const DENIED: &[u8] = b"\x12\x34\x01\0\0\x01\0\0\0\0\0\0\x03BAD\x07example\0\0\x01\0\x01";
+// The query of the ID 4660 for the address of `BAD.example`.
+const DENIED: &[u8] = b"\x12\x34\x01\0\0\x01\0\0\0\0\0\0\x03BAD\x07example\0\0\x01\0\x01";
 
-/// Its reply: rcode 3, and the SOA of the policy zone in the additional section, whose owner is `rpz` and a pointer to the byte 16.
-pub const DENIAL: &[u8] = b"\x12\x34\x81\x83\0\x01\0\0\0\0\0\x01\x03BAD\x07example\0\0\x01\0\x01\
+// Its reply: rcode 3, and the SOA of the policy zone in the additional section, whose owner is `rpz` and a pointer to the byte 16.
+const DENIAL: &[u8] = b"\x12\x34\x81\x83\0\x01\0\0\0\0\0\x01\x03BAD\x07example\0\0\x01\0\x01\
     \x03rpz\xc0\x10\0\x06\0\x01\0\0\0<\0\x16\0\0\0\0\0\x01\0\0\x0e\x10\0\0\x02X\0\x01Q\x80\0\0\0<";
 
 // What the upstream gives for it, in a message of the ID 0, and the reply that is: 192.0.2.9. There the owner is `bad`, since case counts,
@@ -81,10 +100,10 @@ const SECOND: &[u8] = b"\0\x9a\0\0\x84\0\0\x01\0\x03\0\0\0\0\x03rpz\x07example\0
     \x02ok\x07example\x03rpz\x07example\0\0\x05\0\x01\0\0\0<\0\x01\0\
     \x03rpz\x07example\0\0\x06\0\x01\0\0\0<\0\x16\0\0\0\0\0\x02\0\0\x0e\x10\0\0\x02X\0\x01Q\x80\0\0\0<";
 
-/// A NOTIFY of the ID 7 for the SOA of `rpz.example` (RFC 1996, section 3.7); its reply, and that to a stranger.
-pub const NOTIFY: &[u8] = b"\0\x07\x24\0\0\x01\0\0\0\0\0\0\x03rpz\x07example\0\0\x06\0\x01";
+// A NOTIFY of the ID 7 for the SOA of `rpz.example` (RFC 1996, section 3.7); its reply, and that to a stranger.
+const NOTIFY: &[u8] = b"\0\x07\x24\0\0\x01\0\0\0\0\0\0\x03rpz\x07example\0\0\x06\0\x01";
 
-pub const NOTIFIED: &[u8] = b"\0\x07\xa0\x80\0\x01\0\0\0\0\0\0\x03rpz\x07example\0\0\x06\0\x01";
+const NOTIFIED: &[u8] = b"\0\x07\xa0\x80\0\x01\0\0\0\0\0\0\x03rpz\x07example\0\0\x06\0\x01";
 
 const REFUSED: &[u8] = b"\0\x07\xa0\x85\0\x01\0\0\0\0\0\0\x03rpz\x07example\0\0\x06\0\x01";
 
@@ -114,7 +133,7 @@ pub static CASES: [Case; 18] = [
         status: Status::Done,
         written: SERVED,
         replies: &[DENIAL],
-        ordered: &[5301],
+        ordered: &[ALL],
         answered: &[],
     },
     Case {
@@ -132,7 +151,7 @@ pub static CASES: [Case; 18] = [
         status: Status::Done,
         written: b"refused 1 FetchFault\nserved 2 reply 1 silent 1 memory 0 failed 0\n",
         replies: &[PASSED],
-        ordered: &[5301],
+        ordered: &[ALL],
         answered: &[],
     },
     Case {
@@ -157,7 +176,7 @@ pub static CASES: [Case; 18] = [
         status: Status::Done,
         written: b"refused 1 FetchFault\nserved 2 reply 1 silent 1 memory 0 failed 0\n",
         replies: &[PASSED],
-        ordered: &[5301],
+        ordered: &[ALL],
         answered: &[],
     },
     Case {
@@ -182,7 +201,7 @@ pub static CASES: [Case; 18] = [
         status: Status::Done,
         written: b"refused 1 WriteFault\nserved 2 reply 1 silent 1 memory 0 failed 0\n",
         replies: &[PASSED],
-        ordered: &[5301],
+        ordered: &[ALL],
         answered: &[],
     },
     Case {
@@ -207,7 +226,7 @@ pub static CASES: [Case; 18] = [
         status: Status::Done,
         written: b"refused 1 ReadFault\nserved 2 reply 1 silent 1 memory 0 failed 0\n",
         replies: &[PASSED],
-        ordered: &[5301],
+        ordered: &[ALL],
         answered: &[],
     },
     Case {
@@ -232,7 +251,7 @@ pub static CASES: [Case; 18] = [
         status: Status::Done,
         written: b"refused 1 Cut\nserved 2 reply 1 silent 1 memory 0 failed 0\n",
         replies: &[PASSED],
-        ordered: &[5301],
+        ordered: &[ALL],
         answered: &[],
     },
     Case {
@@ -257,7 +276,7 @@ pub static CASES: [Case; 18] = [
         status: Status::Done,
         written: b"refused 1 EndedEarly\nserved 2 reply 1 silent 1 memory 0 failed 0\n",
         replies: &[PASSED],
-        ordered: &[5301],
+        ordered: &[ALL],
         answered: &[],
     },
     Case {
@@ -292,7 +311,7 @@ pub static CASES: [Case; 18] = [
         status: Status::Done,
         written: SERVED,
         replies: &[DENIAL],
-        ordered: &[5301],
+        ordered: &[ALL],
         answered: &[],
     },
     Case {
@@ -327,7 +346,7 @@ pub static CASES: [Case; 18] = [
         status: Status::Done,
         written: b"taken 1 1 1\ncurrent 1 1\nserved 2 reply 1 silent 2 memory 0 failed 0\n",
         replies: &[],
-        ordered: &[5301, 5301],
+        ordered: &[ALL, NEWER],
         answered: &[NOTIFIED],
     },
     Case {
@@ -357,7 +376,7 @@ pub static CASES: [Case; 18] = [
         status: Status::Done,
         written: b"taken 1 1 1\nserved 2 reply 2 silent 1 memory 0 failed 0\n",
         replies: &[DENIAL],
-        ordered: &[5301],
+        ordered: &[ALL],
         answered: &[REFUSED],
     },
     Case {
@@ -392,7 +411,7 @@ pub static CASES: [Case; 18] = [
         status: Status::Done,
         written: b"taken 1 1 1\ntaken 1 2 1\nserved 2 reply 2 silent 1 memory 0 failed 0\n",
         replies: &[PASSED],
-        ordered: &[5301, 5301],
+        ordered: &[ALL, NEWER],
         answered: &[NOTIFIED],
     },
     Case {
@@ -417,7 +436,7 @@ pub static CASES: [Case; 18] = [
         status: Status::Done,
         written: b"taken 1 1 1\nserved 64 reply 0 silent 64 memory 0 failed 0\n",
         replies: &[],
-        ordered: &[5301],
+        ordered: &[ALL],
         answered: &[],
     },
     Case {
@@ -442,7 +461,7 @@ pub static CASES: [Case; 18] = [
         status: Status::Done,
         written: b"taken 1 1 1\nserved forever reply 0 silent 3 memory 0 failed 0\n",
         replies: &[],
-        ordered: &[5301],
+        ordered: &[ALL],
         answered: &[],
     },
     Case {
@@ -472,7 +491,7 @@ pub static CASES: [Case; 18] = [
         status: Status::Done,
         written: b"refused 2 WrongQuestion\ntaken 1 1 1\nserved 1 reply 0 silent 1 memory 0 failed 0\n",
         replies: &[],
-        ordered: &[5301, 5302],
+        ordered: &[ALL, ALL_OF_TWO],
         answered: &[],
     },
     Case {
@@ -515,7 +534,7 @@ pub static CASES: [Case; 18] = [
         status: Status::SocketFault,
         written: b"taken 1 1 1\n",
         replies: &[DENIAL],
-        ordered: &[5301],
+        ordered: &[ALL],
         answered: &[],
     },
     Case {
@@ -540,7 +559,7 @@ pub static CASES: [Case; 18] = [
         status: Status::StartFault,
         written: b"taken 1 1 1\n",
         replies: &[],
-        ordered: &[5301],
+        ordered: &[ALL],
         answered: &[],
     },
     Case {
@@ -570,7 +589,7 @@ pub static CASES: [Case; 18] = [
         status: Status::Done,
         written: SERVED,
         replies: &[DENIAL],
-        ordered: &[5301],
+        ordered: &[ALL],
         answered: &[],
     },
 ];

@@ -1,5 +1,6 @@
-//! Tests of whole runs, and nothing else: servers over wires in memory and over the loopback, and scripts whose reads and writes fail.
-//! They show what no proof can: that calls succeed where memory suffices, that threads meet, and what goes over the sockets.
+//! Tests of whole runs, and nothing else: servers over wires in memory of which calls fail, and scripts whose reads and writes fail. They
+//! show what neither a proof nor a scenario can: that calls succeed if memory suffices, and that threads meet. What goes over sockets
+//! tools/loopback.py tries.
 #![tactic(auto)]
 
 #[cfg(test)]
@@ -9,10 +10,6 @@ mod asserts;
 #[cfg(test)]
 mod cases;
 #[cfg(test)]
-mod gate;
-#[cfg(test)]
-mod loopback;
-#[cfg(test)]
 mod outside;
 #[cfg(test)]
 mod reading;
@@ -20,7 +17,3 @@ mod reading;
 mod replays;
 #[cfg(test)]
 mod runs;
-#[cfg(test)]
-mod sockets;
-#[cfg(test)]
-mod versions;

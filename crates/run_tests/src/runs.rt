@@ -1,10 +1,10 @@
 //! Whole runs of a server over wires in memory, with workers in threads.
 
-use crate::cases::{CASES, Case, Moment, NEVER, SERVED, Woken};
-use crate::outside::{Flag, Posts, Upstream};
+use crate::cases::{Asked, CASES, Case, Moment, NEVER, SERVED, Woken};
+use crate::outside::Posts;
 use crossbeam_channel::{Receiver, Sender, unbounded};
 use dns_name::Octets;
-use edge_io::{Bytes, ListClock, ListIds, ListSink, ListSource, TaskSpawner};
+use edge_io::{Bytes, ListClock, ListIds, ListLink, ListSink, ListSource, TaskSpawner};
 use ip_prefix::{Addr, Transport};
 use rpz_program::run::run;
 use rpz_program::status::Status;
@@ -15,18 +15,17 @@ use std::collections::VecDeque;
 use std::hash::RandomState;
 use std::process::Abort;
 use std::random::RandomSource;
-use std::sync::atomic::AtomicBool;
-use std::sync::{Arc, Wait};
+use std::sync::Wait;
 use std::thread::Threads;
 use std::time::Clock;
 
-/// The wires of a run.
-pub type Memory<R> = ListWires<ListSource, ListSink, Upstream<R>, Posts<R>, R>;
+// The wires of a run.
+type Memory<R> = ListWires<ListSource, ListSink, ListLink, Posts<R>, R>;
 
 type Stage = WireStage<ListSource, ListSink>;
 
-/// The words that a line has.
-pub fn words_of<R: Abort>(rt: &R, alloc: Global, line: &str) -> Vec<String> {
+// The words that a line has.
+fn words_of<R: Abort>(rt: &R, alloc: Global, line: &str) -> Vec<String> {
     let mut words = Vec::new(alloc);
     for word in line.split(' ') {
         words
@@ -36,13 +35,8 @@ pub fn words_of<R: Abort>(rt: &R, alloc: Global, line: &str) -> Vec<String> {
     words
 }
 
-/// A flag that isn't set.
-pub fn flag<R: Abort>(rt: &R, alloc: Global) -> Flag {
-    Arc::new(alloc, AtomicBool::new(false)).expect(rt, "no error")
-}
-
-/// A datagram of 192.0.2.7.
-pub fn datagram(alloc: Global, bytes: &[u8]) -> Result<Arrival<ListSource, ListSink>, AllocError> {
+// A datagram of 192.0.2.7.
+fn datagram(alloc: Global, bytes: &[u8]) -> Result<Arrival<ListSource, ListSink>, AllocError> {
     Ok(Arrival::Datagram {
         peer: Peer {
             addr: Addr::V4(0xc000_0207),
@@ -50,22 +44,6 @@ pub fn datagram(alloc: Global, bytes: &[u8]) -> Result<Arrival<ListSource, ListS
             listener: 0,
         },
         bytes: Octets::from_slice(alloc, bytes)?,
-    })
-}
-
-/// A connection of 192.0.2.8, on which these bytes come.
-pub fn connection(
-    alloc: Global,
-    bytes: &[u8],
-) -> Result<Arrival<ListSource, ListSink>, AllocError> {
-    Ok(Arrival::Connection {
-        source: ListSource::new(bytes.to_vec(alloc)?, 8_192, Vec::new(alloc)),
-        sink: ListSink::new(Vec::new(alloc), 8_192, Vec::new(alloc)),
-        client: Peer {
-            addr: Addr::V4(0xc000_0208),
-            port: 53_000,
-            listener: 0,
-        },
     })
 }
 
@@ -113,8 +91,8 @@ fn stage_of(alloc: Global, moment: &Moment) -> Result<Stage, AllocError> {
     Ok(stage)
 }
 
-/// What comes at each wait.
-pub fn stages(alloc: Global, moments: &[Moment]) -> Result<VecDeque<Stage>, AllocError> {
+// What comes at each wait.
+fn stages(alloc: Global, moments: &[Moment]) -> Result<VecDeque<Stage>, AllocError> {
     let mut all = VecDeque::new(alloc);
     for moment in moments {
         all.push_back(stage_of(alloc, moment)?)?;
@@ -122,20 +100,15 @@ pub fn stages(alloc: Global, moments: &[Moment]) -> Result<VecDeque<Stage>, Allo
     Ok(all)
 }
 
-/// A place for the replies of one worker.
-pub fn posts<R: Abort + Wait + Copy + Drop>(
-    rt: R,
-    alloc: Global,
-    sender: &Sender<Octets>,
-    replied: &Flag,
-) -> Posts<R> {
-    Posts {
-        rt,
-        alloc,
-        sender: sender.clone().expect(&rt, "no error"),
-        replied: Arc::try_clone(replied).expect(&rt, "no error"),
-        faults: 0,
+// A link that gives these messages, and fails behind the last.
+fn link<R: Abort>(rt: &R, alloc: Global, given: &[&[u8]]) -> ListLink {
+    let mut messages = Vec::new(alloc);
+    for message in given {
+        messages
+            .push(Octets::from_slice(alloc, message).expect(rt, "no error"))
+            .expect(rt, "no error");
     }
+    ListLink::new(messages, Vec::new(alloc))
 }
 
 // Links and places for replies, for 40 workers. All links give the same.
@@ -145,20 +118,18 @@ fn wires<R: Abort + Threads + Wait + Clock + Copy + Drop + Send + Sync + 'static
     case: &Case,
     sender: &Sender<Octets>,
 ) -> Memory<R> {
-    let unused = flag(&rt, alloc);
     let (mut links, mut backs) = (VecDeque::new(alloc), VecDeque::new(alloc));
     for _ in 0..40 {
         links
-            .push_back(Upstream {
-                rt,
-                messages: case.upstream,
-                given: 0,
-                meeting: None,
-                faults: 0,
-            })
+            .push_back(link(&rt, alloc, case.upstream))
             .expect(&rt, "no error");
         backs
-            .push_back(posts(rt, alloc, sender, &unused))
+            .push_back(Posts {
+                rt,
+                alloc,
+                sender: sender.clone().expect(&rt, "no error"),
+                faults: 0,
+            })
             .expect(&rt, "no error");
     }
     let wires = ListWires::new(
@@ -174,8 +145,8 @@ fn wires<R: Abort + Threads + Wait + Clock + Copy + Drop + Send + Sync + 'static
     wires
 }
 
-/// Runs a line of words over wires, with workers in threads: how it ends, and what it writes, one byte a call.
-pub fn run_line<
+// Runs a line of words over wires, with workers in threads: how it ends, and what it writes, one byte a call.
+fn run_line<
     R: Abort + Threads + Wait + Clock + RandomSource + Copy + Drop + Send + Sync + 'static,
     W: Wires,
 >(
@@ -218,7 +189,7 @@ pub fn run_line<
 }
 
 // The replies are those that are expected, in order.
-pub fn assert_replies<R: Wait + Abort>(
+fn assert_replies<R: Wait + Abort>(
     rt: &R,
     replies: &Receiver<Octets>,
     expected: &[&[u8]],
@@ -234,11 +205,12 @@ pub fn assert_replies<R: Wait + Abort>(
     assert!(rt; replies.try_recv(rt).is_err(), "{name}");
 }
 
-// Transfers were ordered of the primaries at these ports.
-fn assert_ordered<R: Abort>(rt: &R, ordered: &[SentOrder], expected: &[u16], name: &str) {
+// Transfers were ordered of the primaries at these ports, by these requests.
+fn assert_ordered<R: Abort>(rt: &R, ordered: &[SentOrder], expected: &[Asked], name: &str) {
     assert!(rt; ordered.len() == expected.len(), "{name}");
-    for (order, port) in ordered.iter().zip(expected.iter()) {
+    for (order, (port, request)) in ordered.iter().zip(expected.iter()) {
         assert!(rt; order.primary.port == *port, "{name}");
+        assert!(rt; order.request.as_slice() == *request, "{name}");
     }
 }
 
