@@ -31,6 +31,7 @@ LINK = re.compile(r"\[[^\]\n]*\]\(([^)\s]+)\)")
 PATH = re.compile(r"(?<![\w/.\"-])((?:crates|docs|tools|bench|scenarios|packaging)/[\w./*-]*[\w*])")
 SOURCE = re.compile(r"(?<![\w/])((?:\w+/)*\w+\.rt)\b")
 MODULE = re.compile(r"(?<![\w/.-])([a-z][a-z_]+)/([A-Z]\w+)\b(?!\.\w)")
+OF_THE_KIT = ("docs/ANSWERS.md", "docs/NOT_COVERED.md", "docs/REFUSED.md")  # pages of the kit, which documents send readers to
 QUOTED = re.compile(r"^```antt (\S+)\n(.*?)^```$", re.M | re.S)
 PLACEHOLDER = re.compile(r"/(?!README)[A-Z_]+(?:\.(?:antt|edit|py|rt))?(?=/|$)|\.\.|/out\b")
 
@@ -107,7 +108,7 @@ def line_at(text, place):
 
 
 def is_there(path):
-    return bool(PLACEHOLDER.search(path)) or any(ROOT.glob(path))
+    return path in OF_THE_KIT or bool(PLACEHOLDER.search(path)) or any(ROOT.glob(path))
 
 
 def slug(heading):

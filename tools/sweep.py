@@ -1,18 +1,17 @@
 #!/usr/bin/env python3
 """Each allocation of a call refused in turn: the call gives what it gives with memory, or says that it has none, and loses nothing.
 
-    python3 tools/sweep.py [--run K] BENCH [NAME ..]
+    python3 tools/sweep.py [--run K] PROGRAM [NAME ..]
 
-BENCH is the built program bench, whose word `calls` does one public call of a library twice on the same value, and prints what came of
-each. It is run once without a refusal, for what is right, and then once for each call for memory, which alone is refused
+PROGRAM is the built program alloc_tests, which does one public call of a library twice on the same value, and prints what came of each. It is run once without a refusal, for what is right, and then once for each call for memory, which alone is refused
 (bench/count_allocations.c), until none is refused any more. With --run it is K calls one behind another, as where a list that can't
-have its room at once is filled all the same, one by one. Names are those that `calls` prints, or the beginnings of some; without names
+have its room at once is filled all the same, one by one. Names are those that it prints, or the beginnings of some; without names
 all are tried. Wanted: cc.
 
 A line may be what is right, or `out of memory`; where it is that, the line of the second call is what the first was to be, since the
-value is as it was (with --run it may be refused, too), or, where a third line says that the first call ends the value, what the second
-one was to be. A program that gets no memory for the input of the call ends with an error, which is counted apart. What else may come
-where a worker sends or serves, at a poll and at whole runs, the functions say whose names begin with `came_of_`.
+value is as it was (with --run it may be refused, too). A program that gets no memory for the input of the call ends with an error, which
+is counted apart. What else may come where a worker sends or serves, and at a whole run of a server, the functions say whose names begin
+with `came_of_`.
 
 Prints a line for each name: how many calls for memory were refused, and in how many runs the first call or the second got none
 (`first`, `second`), both (`both`) or neither (`same`), and how many ended before (`before`). `NO MEMORY` says that no refusal met the
@@ -32,7 +31,6 @@ from concurrent.futures import ThreadPoolExecutor
 ROOT = pathlib.Path(__file__).resolve().parent.parent
 REFUSED = "out of memory"
 CHANGES = "changes"
-ENDS = "ends"
 
 Run = collections.namedtuple("Run", "status lines errors refused")
 
@@ -41,7 +39,7 @@ class Sweep:
     """Runs of one call, of which each is refused so many calls for memory one behind another."""
 
     def __init__(self, program, library, folder, name, length):
-        self.words = [program, "calls", name]
+        self.words = [program, name]
         self.library, self.folder, self.length = library, folder, length
 
     def run(self, number):
@@ -110,16 +108,6 @@ def came_of_stream(defined, line):
     return None if rest else "bare" if end == "End" else "cut"
 
 
-def came_of_cut(words):
-    """Of a call which, out of memory, has written the first octets of what it was to write, from none to all, as a line says behind
-    these words."""
-    def came_of_one(defined, line):
-        octets = octets_of(line)
-        begins = octets is not None and octets == octets_of(defined)[:len(octets)]
-        return "" if begins and line == f"{words} wrote {octets} " else None
-    return came_of_one
-
-
 def server_of(line):
     """The status of a server, the text that it wrote, and the replies that it sent; None where a line doesn't say all of it."""
     parts = re.fullmatch(r"(\w+) (wrote \[[\d, ]*\]) (\d+) ((?:sent \[[\d, ]*\] )*)", line)
@@ -150,9 +138,7 @@ def came_of_server(defined, line):
 OTHERS = {
     "answers_under_refusal": came_of_sent,
     "rpz_workers::Worker::serve_stream": came_of_stream,
-    "policy_feed::poll_zone": came_of_cut(REFUSED),
     "rpz_program::run::serve": came_of_server,
-    "rpz_program::run": came_of_cut("OutOfMemory"),
 }
 
 
@@ -169,7 +155,7 @@ def came_of(name, defined, line):
 
 def defined_answers(name, run):
     """The lines of a run without a refusal: the first and the second answer, and what is said of the value, if anything is."""
-    if run.status != 0 or len(run.lines) not in (2, 3) or run.lines[2:] not in ([], [CHANGES], [ENDS]):
+    if run.status != 0 or len(run.lines) not in (2, 3) or run.lines[2:] not in ([], [CHANGES]):
         sys.exit(f"{name}: no answer without a refusal: status {run.status} {run.lines} {run.errors}")
     first, second = run.lines[:2]
     if any(line.startswith(REFUSED) for line in (first, second)):
@@ -193,8 +179,8 @@ def judged(name, answers, length, run):
     if word == "same":
         word = came_of(name, second, two)
         return word if word in ("same", None) else f"second {word}".strip()
-    # refused: the second call is then the first one that the value sees, unless the value has ended
-    other = came_of(name, second if answers[2:] == [ENDS] else first, two)
+    # refused: the second call is then the first one that the value sees
+    other = came_of(name, first, two)
     if other == "same":
         return f"first {word}".strip()
     return "both" if length > 1 and other is not None else None
@@ -256,7 +242,7 @@ def sweep(program, library, folder, name, length):
 
 def names_of(program, wanted):
     """The names that the program prints, or those of them that begin so."""
-    done = subprocess.run([program, "calls"], stdin=subprocess.DEVNULL, capture_output=True, text=True, check=True)
+    done = subprocess.run([program], stdin=subprocess.DEVNULL, capture_output=True, text=True, check=True)
     names = done.stdout.split()
     for word in wanted:
         if not any(name.startswith(word) for name in names):
@@ -270,7 +256,7 @@ def read_words(words):
     if words[:1] == ["--run"] and len(words) > 1 and words[1].isdigit() and int(words[1]) > 0:
         length, words = int(words[1]), words[2:]
     if not words or words[0].startswith("-"):
-        sys.exit("usage: python3 tools/sweep.py [--run K] BENCH [NAME ..]")
+        sys.exit("usage: python3 tools/sweep.py [--run K] PROGRAM [NAME ..]")
     return length, words[0], words[1:]
 
 

@@ -3,7 +3,7 @@
 
     python3 tools/sweep_scripts.py [--run K] [--most N] [--jobs N] RPZ [SUBJECT ..]
 
-RPZ is the built program. Each scenario of these subjects, or of all, whose script has at most N octets (2,000), is replayed once without a
+RPZ is the built program. A small run of `load` (its subject is `load`), and each scenario of these subjects, or of all, whose script has at most N octets (2,000), is replayed once without a
 refusal, and then once for each call for memory, which alone is refused (bench/count_allocations.c), until none is refused any more;
 with --run it is K calls one behind another. Each such run must write the whole transcript and end with its status, or a beginning
 of it and end with the status for out of memory, 9; or, where the words of the command line or the text of the status get no memory,
@@ -25,6 +25,8 @@ import scenarios
 import sweep
 
 OUT_OF_MEMORY, EARLY = 9, 1
+# a run of another command, of one worker, so that its calls come in one order
+LOAD = scenarios.Case("load/one-worker", ["load", "7", "12", "4", "1"], 0, b"", "", "0")
 # so many runs go on beside one another
 AHEAD = 64
 
@@ -74,7 +76,10 @@ class Sweep:
 def cases_of(options):
     """The scenarios of `replay` by subject, but for those with large scripts."""
     subjects = collections.defaultdict(list)
-    for case in scenarios.all_cases(options.subjects):
+    names = [name for name in options.subjects if name != "load"]
+    if not options.subjects or "load" in options.subjects:
+        subjects["load"].append(LOAD)
+    for case in scenarios.all_cases(names) if names or not options.subjects else ():
         if case.words == ["replay"] and len(case.script) <= options.most:
             subjects[case.name.split("/")[0]].append(case)
     return subjects

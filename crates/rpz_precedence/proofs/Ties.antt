@@ -14,7 +14,7 @@ use Rattle.trigger_codec.specs.Bases.{IsPattern, IsTrigger}
 use Rattle.trigger_codec.specs.declared.trigger.Trigger.{Trigger}
 use Rattle.trigger_codec.specs.declared.trigger.Trigger.TheVariants.{ClientIp, Qname, ResponseIp, NsDname, NsIp}
 use Rattle.rpz_precedence.specs.Rank.{PlainRank, kind_number, server_order, place_order, trigger_order, rank_order}
-use Rattle.dns_name.proofs.Orders.{then_first, then_second, same_number, same_bool, same_bytes}
+use Rattle.dns_name.proofs.Orders.{then_first, then_second, same_number, same_bool, same_bytes, alike_from_equal}
 
 -- ---- prefixes
 
