@@ -6,8 +6,8 @@
                                       comment; ends with status 1 if it isn't, or if there are any
 
 docs/model_head.md is the head of the file. Listed are the definitions of specs/ that the contracts of `run` and of a worker rest on
-(tools/reading_order.py finds these) and that a clause of a public function or two other crates cite; relations and records that one
-other crate or a law cites; and those of MATTERS in tools/reading_order.py. A law is a public function of a file laws.rt.
+(tools/reading_order.py finds these) and that a clause of a public function cites; those of the head's table of
+laws; and those of MATTERS in tools/reading_order.py. A law is a public function of a file laws.rt.
 """
 
 import argparse
@@ -18,7 +18,7 @@ import re
 import sys
 
 import reading_order
-from reading_order import MATTERS, ROOT, SENTENCE_END, Module, cited, comments, first_sentence, reach
+from reading_order import MATTERS, ROOT, Module, cited, comments, first_sentence, reach
 
 TARGET = ROOT / "docs" / "MODEL.md"
 FUNCTION = re.compile(r"^ *pub fn (\w+)", re.M)
@@ -31,17 +31,9 @@ def crates():
     return [line.split(":")[0] for line in lines if line]
 
 
-def head(crate):
-    """The first sentence of what a crate's lib.rt says of it."""
-    with open(f"crates/{crate}/src/lib.rt", encoding="utf-8") as file:
-        lines = [line[3:].strip() for line in file if line.startswith("//!")]
-    text = " ".join(lines[: lines.index("")] if "" in lines else lines)
-    return SENTENCE_END.split(text)[0]
-
-
 def cited_by_public_functions(modules):
-    """What clauses of public functions cite, and what clauses of laws cite; and the names of the laws of each crate."""
-    ordinary, of_laws, laws = set(), set(), {}
+    """What clauses of public functions but laws cite; and the names of the laws of each crate."""
+    ordinary, laws = set(), {}
     for path in sorted(glob.glob("crates/*/src/**/*.rt", recursive=True)):
         with open(path, encoding="utf-8") as file:
             text = file.read()
@@ -49,22 +41,12 @@ def cited_by_public_functions(modules):
         uses = Module(re.sub(r"^ +ghost use", "ghost use", text, flags=re.M), definitions=False)
         for function in FUNCTION.finditer(text):
             end = SIGNATURE_END.search(text, function.start())
-            found, _ = cited(uses, None, text[function.start() : end.end() if end else len(text)])
-            (of_laws if is_laws else ordinary).update(found)
             if is_laws:
                 laws.setdefault(path.split("/")[1], []).append(function.group(1))
-    return resolved(modules, ordinary), resolved(modules, of_laws), laws
-
-
-def cited_by_crates(modules, known):
-    """What definitions of two other crates cite, and the relations and records that those of one other crate cite."""
-    places = {}
-    for key, name in known:
-        found, _ = cited(modules[key], key, modules[key].texts[name])
-        for other, item in resolved(modules, found):
-            if other[0] != key[0]:
-                places.setdefault((other, item), set()).add(key[0])
-    return {(key, name) for (key, name), by in places.items() if len(by) > 1 or name[0].isupper()}
+            else:
+                found, _ = cited(uses, None, text[function.start() : end.end() if end else len(text)])
+                ordinary.update(found)
+    return resolved(modules, ordinary), laws
 
 
 def resolved(modules, found):
@@ -73,16 +55,17 @@ def resolved(modules, found):
     return {(key, name) for key, name in found if name in modules[key].texts}
 
 
-def listed(modules):
+def listed(modules, head_text):
     """The definitions that the file lists, and the laws of each crate."""
     known = set()
     for _, _, functions in reading_order.PARTS:
         seen, _, _ = reach(modules, functions, known)
         known |= seen
-    ordinary, of_laws, laws = cited_by_public_functions(modules)
-    relations = {(key, name) for key, name in of_laws if name[0].isupper()}
+    ordinary, laws = cited_by_public_functions(modules)
+    named = set(re.findall(r"`([A-Z]\w+)`", head_text.partition("\n## Laws ")[2]))
+    relations = {(key, name) for key in modules for name in modules[key].texts if name in named}
     matters = {((crate, module), name) for crate, module, names in MATTERS for name in names}
-    return (known & (ordinary | cited_by_crates(modules, known))) | relations | matters, laws
+    return (known & ordinary) | relations | matters, laws
 
 
 def rows(modules, definitions, crate, uncommented):
@@ -97,14 +80,17 @@ def rows(modules, definitions, crate, uncommented):
 
 def page(uncommented):
     modules = reading_order.read_modules()
-    definitions, laws = listed(modules)
     with open("docs/model_head.md", encoding="utf-8") as file:
-        yield file.read().rstrip("\n")
+        head_text = file.read().rstrip("\n")
+    yield head_text
+    definitions, laws = listed(modules, head_text)
     for crate in crates():
         table = list(rows(modules, definitions, crate, uncommented))
-        if not table:
+        if not table and crate not in laws:
             continue
-        yield from ("", f"## {crate}", "", head(crate), "", "|Definition|File|Says|", "|---|---|---|", *table)
+        yield from ("", f"## {crate}")
+        if table:
+            yield from ("", "|Definition|File|Says|", "|---|---|---|", *table)
         if crate in laws:
             yield from ("", f"Laws: {reading_order.listed(laws[crate])}.")
 

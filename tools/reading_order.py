@@ -26,8 +26,7 @@ PARTS = (
     ("The clauses of `run`", "`crates/rpz_program/src/run.rt`: a whole run of the program.", (("rpz_program", "run", "run"),)),
     (
         "The clauses of a worker",
-        "`crates/rpz_workers/src/handling.rt` and `worker.rt`: what a worker of a server does with its items (`work`, `take`), and how it "
-        "answers a message (`answer`). Only what isn't listed above.",
+        "`crates/rpz_workers/src/handling.rt` (`work`, `take`) and `worker.rt` (`answer`). Only what isn't listed above.",
         (("rpz_workers", "handling", "work"), ("rpz_workers", "handling", "take"), ("rpz_workers", "worker", "answer")),
     ),
 )
@@ -221,29 +220,29 @@ def listed(names):
 
 
 def module_rows(modules, seen, below, rank):
-    yield "| Module | Definitions |"
+    yield "|Module|Definitions|"
     yield "|---|---|"
     for key in in_order({key for key, _ in seen}, below, rank):
         names = [name for name in modules[key].texts if (key, name) in seen]
-        yield f"| {key[0]}/{key[1]} | {listed(names)} |"
+        yield f"|{key[0]}/{key[1]}|{listed(names)}|"
 
 
 def type_rows(crates, types):
-    yield "| Crate | Types |"
+    yield "|Crate|Types|"
     yield "|---|---|"
     for crate in crates:
         names = sorted({name.split(".")[-1] for owner, name in types if owner == crate and not name.endswith("TheConstants")})
         if names:
-            yield f"| {crate} | {listed(names)} |"
+            yield f"|{crate}|{listed(names)}|"
 
 
 def matter_rows():
-    yield "| Definition | File | Says |"
+    yield "|Definition|File|Says|"
     yield "|---|---|---|"
     for crate, module, names in MATTERS:
         said = comments(crate, module)
         for name in names:
-            yield f"| `{name}` | {crate}/{module} | {first_sentence(said.get(name, ''))} |"
+            yield f"|`{name}`|{crate}/{module}|{first_sentence(said.get(name, ''))}|"
 
 
 def doubled(modules, definitions, types):
@@ -272,15 +271,15 @@ def page(found):
     yield "# What the contracts rest on, in reading order"
     yield ""
     yield (
-        "Written by `python3 tools/reading_order.py`, and not by hand; `.ci/run` checks that it is up to date. Clauses cite these "
-        "definitions of specs/, directly or through others, and no more of this repository. Each module stands after those that it "
-        "cites. `crates/X/specs/Y.antt` is written `X/Y`. docs/MODEL.md says what the more important ones mean, and which have a law beside "
-        "them that a reader may believe instead."
+        "Written by `python3 tools/reading_order.py`; `.ci/run` checks that it is up to date. Clauses cite these definitions of "
+        "specs/, directly or through others, and no more of this repository. Each module stands after those that it cites. `X/Y` is "
+        "`crates/X/specs/Y.antt`. docs/MODEL.md says what the more important ones mean, and which have a law that a reader may believe "
+        "instead."
     )
     yield from ("", "## The definitions that matter most", "")
     yield (
-        "From rules to a reply, then messages, transfers, what is kept of answers, polls, and the transcript of `replay`. "
-        "docs/FIVE_DEFINITIONS.md shows five of them with their text."
+        "From rules to a reply, then messages, transfers, the cache, polls, and the transcript of `replay`. docs/FIVE_DEFINITIONS.md "
+        "shows five of them with their text."
     )
     yield from ("", *matter_rows())
     known, known_types = set(), set()
@@ -289,7 +288,7 @@ def page(found):
         yield from ("", f"## {title}", "", words, "", f"{len(seen)} definitions:", "")
         yield from module_rows(modules, seen, below, rank)
         if types - known_types:
-            yield from ("", "And these types of src/, which clauses see as they are written there:", "")
+            yield from ("", "And these types of src/:", "")
             yield from type_rows(crates, types - known_types)
         known |= seen
         known_types |= types

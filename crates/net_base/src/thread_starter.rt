@@ -8,13 +8,10 @@ use std::thread::{JoinHandle, Threads};
 use std::time::Duration;
 use std::{thread, time};
 
-/// What a thread of its own runs to its end.
-pub trait Job: Drop {
-    /// What is kept of a job whose thread is joined.
-    type Kept: KeptJob + Drop;
-
+/// What a thread of its own runs to its end. A `K` is kept of a job whose thread is joined.
+pub trait Job<K> {
     /// What is kept of it; `None` for a job whose thread nobody ends or joins.
-    fn kept(&self) -> Result<Option<Self::Kept>, AllocError>;
+    fn kept(&self) -> Result<Option<K>, AllocError>;
 
     /// Runs it to its end.
     fn run(self);
@@ -37,7 +34,7 @@ pub trait KeptJob {
 
 // A job for a new thread, or that no more come.
 #[derive(Drop)]
-enum Work<J: Job> {
+enum Work<J: Drop> {
     Run(J),
     End,
 }
@@ -45,25 +42,25 @@ enum Work<J: Job> {
 /// A thread that starts the others. It is there from the start on, since the prover covers no thread that is started in a method of a
 /// trait.
 #[derive(Drop)]
-pub struct ThreadStarter<J: Job> {
+pub struct ThreadStarter<J: Drop> {
     work: Sender<Work<J>>,
     thread: JoinHandle<()>,
 }
 
 /// Where jobs are given to a starter.
 #[derive(Drop)]
-pub struct JobSender<J: Job> {
+pub struct JobSender<J: Drop> {
     work: Sender<Work<J>>,
 }
 
 // Gives a job to the starter. `false` says that too many wait for longer than `START_MILLISECONDS`, or that it has ended; then the job is
 // dropped.
-fn give<R: time::Clock + Wait, J: Job>(rt: &R, work: &Sender<Work<J>>, job: J) -> bool {
+fn give<R: time::Clock + Wait, J: Drop>(rt: &R, work: &Sender<Work<J>>, job: J) -> bool {
     let most = Duration::from_millis(START_MILLISECONDS);
     work.send_timeout(rt, Work::Run(job), most).is_ok()
 }
 
-impl<J: Job> JobSender<J> {
+impl<J: Drop> JobSender<J> {
     /// Starts a thread for a job, soon. `false` says that too many wait for longer than `START_MILLISECONDS`, or that the starter has
     /// ended; then the job is dropped.
     pub fn start<R: time::Clock + Wait>(&self, rt: &R, job: J) -> bool {
@@ -71,7 +68,7 @@ impl<J: Job> JobSender<J> {
     }
 }
 
-impl<J: Job> ThreadStarter<J> {
+impl<J: Drop> ThreadStarter<J> {
     /// Starts a thread for a job, soon. `false` says that too many wait for longer than `START_MILLISECONDS`, or that it has ended; then
     /// the job is dropped.
     pub fn start<R: time::Clock + Wait>(&self, rt: &R, job: J) -> bool {
@@ -96,11 +93,12 @@ impl<J: Job> ThreadStarter<J> {
 
 /// Starts the thread that starts others.
 pub fn start_starter<
+    K: KeptJob + Send + Drop + 'static,
     R: time::Clock + Wait + Threads + Copy + Drop + Send + 'static,
-    J: Job + Send + 'static,
+    J: Job<K> + Drop + Send + 'static,
 >(rt: R, alloc: Global) -> Result<ThreadStarter<J>, AllocError> {
     let (work, receiver) = bounded(alloc, THREAD_QUEUE)?;
-    match thread::spawn(&rt, move || start_threads(rt, alloc, receiver)) {
+    match thread::spawn(&rt, move || start_threads::<K, R, J>(rt, alloc, receiver)) {
         Ok(thread) => Ok(ThreadStarter { work, thread }),
         Err(_) => Err(AllocError),
     }
@@ -124,10 +122,11 @@ impl<K: KeptJob + Drop> Running<K> {
 // Starts a thread for each job, until no more come. After each, and where none comes for `JOIN_SECONDS`, it gives up those that have
 // ended.
 fn start_threads<
+    K: KeptJob + Send + Drop + 'static,
     R: time::Clock + Wait + Threads + Copy + Drop + Send + 'static,
-    J: Job + Send + 'static,
+    J: Job<K> + Drop + Send + 'static,
 >(rt: R, alloc: Global, work: Receiver<Work<J>>) {
-    let mut running: Vec<Running<J::Kept>> = Vec::new(alloc);
+    let mut running: Vec<Running<K>> = Vec::new(alloc);
     for _ in 0..u64::MAX {
         match work.recv_timeout(&rt, Duration::from_secs(JOIN_SECONDS)) {
             Ok(Work::Run(job)) => start_job(&rt, &mut running, job),
@@ -140,9 +139,9 @@ fn start_threads<
 }
 
 // Starts the thread of a job.
-fn start_job<R: Threads, J: Job + Send + 'static>(
+fn start_job<K: KeptJob + Send + Drop + 'static, R: Threads, J: Job<K> + Send + Drop + 'static>(
     rt: &R,
-    running: &mut Vec<Running<J::Kept>>,
+    running: &mut Vec<Running<K>>,
     job: J,
 ) {
     let Ok(kept) = job.kept() else {

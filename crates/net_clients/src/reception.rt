@@ -423,9 +423,7 @@ impl KeptJob for ServedConnections {
     }
 }
 
-impl<R: time::Clock + Wait + Copy + Drop> Job for Reception<R> {
-    type Kept = ServedConnections;
-
+impl<R: time::Clock + Wait + Copy + Drop> Job<ServedConnections> for Reception<R> {
     fn kept(&self) -> Result<Option<ServedConnections>, AllocError> {
         Ok(Some(ServedConnections {
             service: Arc::try_clone(&self.service)?,

@@ -121,9 +121,7 @@ impl<R: time::Clock + Wait + Copy + Drop> KeptJob for ReadConnection<R> {
     }
 }
 
-impl<R: time::Clock + Wait + Copy + Drop> Job for UpstreamReader<R> {
-    type Kept = ReadConnection<R>;
-
+impl<R: time::Clock + Wait + Copy + Drop> Job<ReadConnection<R>> for UpstreamReader<R> {
     fn kept(&self) -> Result<Option<ReadConnection<R>>, AllocError> {
         Ok(Some(ReadConnection {
             rt: self.rt,

@@ -3,7 +3,7 @@
 use crate::tcp_link::TcpLink;
 use crate::upstream_asker::UpstreamAsker;
 use crate::upstream_pool::UpstreamPool;
-use crate::upstream_reader::UpstreamReader;
+use crate::upstream_reader::{ReadConnection, UpstreamReader};
 use edge_io::Endpoint;
 use net_base::{ThreadStarter, start_starter};
 use server_io::WireError;
@@ -28,10 +28,12 @@ impl<R: time::Clock + Wait + Threads + Copy + Drop + Send + 'static> Upstreams<R
         Upstreams {
             alloc,
             pools: Vec::new(alloc),
-            starter: start_starter(rt, alloc).ok(),
+            starter: start_starter::<ReadConnection<R>, R, UpstreamReader<R>>(rt, alloc).ok(),
         }
     }
+}
 
+impl<R: time::Clock + Wait + Threads + Copy + Drop> Upstreams<R> {
     /// Closes all connections, and joins the threads that read them. Nothing is asked any more, and no link can be had.
     pub fn stop(&mut self, rt: &R) {
         for pool in self.pools.iter() {

@@ -19,10 +19,9 @@ pub(crate) enum WireJob<
     Transfer(Transfer<R>),
 }
 
-impl<R: Net<Listener = TcpListener, Stream = TcpStream> + time::Clock + Wait + Copy + Drop> Job
-    for WireJob<R> {
-    type Kept = ServedConnections;
-
+impl<R: Net<Listener = TcpListener, Stream = TcpStream> + time::Clock + Wait + Copy + Drop> Job<
+    ServedConnections,
+> for WireJob<R> {
     fn kept(&self) -> Result<Option<ServedConnections>, AllocError> {
         match self {
             WireJob::Serve(reception) => reception.kept(),

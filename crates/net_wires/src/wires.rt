@@ -12,7 +12,8 @@ use edge_io::{ConnectionLimits, Endpoint};
 use ip_prefix::Transport;
 use net_base::{ThreadStarter, WireState, start_starter, take_free_numbers};
 use net_clients::{
-    ClientSink, ClientSource, ConnectionInlet, DatagramInlet, ServerReplies, Service,
+    ClientSink, ClientSource, ConnectionInlet, DatagramInlet, ServedConnections, ServerReplies,
+    Service,
 };
 use net_upstream::{TcpLink, Upstreams};
 use server_io::{Order, Peer, SendError, Wake, WireError, Wires};
@@ -76,7 +77,7 @@ impl<
             turns: None,
             admitted: None,
             shared: WireState::new(alloc).ok(),
-            starter: start_starter(rt, alloc).ok(),
+            starter: start_starter::<ServedConnections, R, WireJob<R>>(rt, alloc).ok(),
             service: None,
             refused: None,
             orders: Orders::new(alloc),
@@ -90,14 +91,21 @@ impl<
     pub fn refused(&self) -> Option<Endpoint> {
         self.refused
     }
+}
 
-    // Opens these endpoints, and has a thread started for the connections of clients.
-    fn open(&mut self, all: &[Endpoint]) -> Result<Service<R>, WireError> {
+impl<
+    R: Net<Listener = TcpListener, Stream = TcpStream> + time::Clock + Wait + Copy + Drop,
+> NetWires<R> {
+    // Opens these endpoints, and has a thread started for the connections of clients. `refused` becomes the one that couldn't be opened.
+    fn open(
+        &self,
+        all: &[Endpoint],
+        refused: &mut Option<Endpoint>,
+    ) -> Result<Service<R>, WireError> {
         let (Some(shared), Some(starter)) = (&self.shared, &self.starter) else {
             return Err(WireError::Failed);
         };
-        let opened = Service::open(self.rt, self.alloc, all, &mut self.refused, shared);
-        let (service, reception) = opened?;
+        let (service, reception) = Service::open(self.rt, self.alloc, all, refused, shared)?;
         self.prepare(&service);
         match starter.start(&self.rt, WireJob::Serve(reception)) {
             true => Ok(service),
@@ -179,8 +187,10 @@ impl<
     }
 
     fn bind(&mut self, all: &[Endpoint]) -> Result<(), WireError> {
-        self.refused = None;
-        match self.open(all) {
+        let mut refused = None;
+        let opened = self.open(all, &mut refused);
+        self.refused = refused;
+        match opened {
             Ok(service) => {
                 if let Some(before) = self.service.replace(service) {
                     before.stop();
